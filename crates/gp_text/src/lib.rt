@@ -1,0 +1,24 @@
+// Texts of bytes as lines of words, and the two kinds of word that every format shares: names and
+// canonical decimals. A text is split at its newlines, and each line at its spaces; a line without
+// words, or whose first word begins with `#`, is passed over but counted, so that a line's number is
+// its number in the text, from 1. A byte outside 0x20..0x7E, a line of over 4,096 bytes and a text
+// without a newline at its end are refused. Contracts see a `Row`, a `Name` and a `Word` as a list.
+#![tactic(auto)]
+
+mod line;
+mod lines;
+mod name;
+mod numbers;
+mod parts;
+mod row;
+mod spelling;
+#[cfg(test)]
+mod tests;
+
+pub use line::{Line, Word};
+pub use lines::{LONGEST_LINE, TextFault, read_lines};
+pub use name::{LONGEST_NAME, Name};
+pub use numbers::{one_spelling, print_i64, print_u64, read_i64, read_u32, read_u64};
+pub use parts::cut;
+pub use row::Row;
+pub use spelling::{plain_words, reads_again};

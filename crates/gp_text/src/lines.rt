@@ -1,0 +1,97 @@
+ghost use Rattle.std.specs.Prelude.{◌≡◌, ◌≢◌, ◌-◌, ◌^◌, ◌<◌, ◌++◌, length, OnOk};
+ghost use Rattle.std.specs.List.{list_any};
+ghost use Rattle.gp_text.specs.Lines.{check_of, is_passed_over, is_strange, kept_lines, lines_of};
+
+use crate::line::{Line, Word, split_words};
+use crate::parts::cut;
+use crate::row::Row;
+use std::alloc::{AllocError, Global};
+use thiserror::Error;
+
+/// The most bytes that a line has.
+pub const LONGEST_LINE: usize = 4096;
+
+/// Why a text is refused, with the number of the line; the earliest line is told.
+#[derive(Debug, Clone, Copy, PartialEq, Eq, Error)]
+pub enum TextFault {
+    /// The first line with a byte outside 0x20..0x7E.
+    #[error("line {0} has a byte outside the printable ASCII characters")]
+    NotAscii(u32),
+    /// The first line of over 4,096 bytes.
+    #[error("line {0} is longer than 4,096 bytes")]
+    LongLine(u32),
+    /// The text is not empty and does not end with a newline.
+    #[error("the text does not end with a newline")]
+    NoLastNewline,
+    #[error("out of memory")]
+    Memory,
+}
+
+impl From<AllocError> for TextFault {
+    ghost use Rattle.std.specs.Prelude.{◌≡◌};
+    ghost use Rattle.gp_text.specs.declared.lines.TextFault.TheVariants.{Memory};
+
+    ghost from_gives = { λ _ e. e ≡ Memory };
+
+    fn from(_error: AllocError) -> TextFault {
+        TextFault::Memory
+    }
+}
+
+/// Reads a text as its lines of words. Lines that are passed over are counted.
+pub fn read_lines(alloc: Global, bytes: &[u8]) -> Result<Row<Line>, TextFault>
+    requires { length bytes.now < 2 ^ 32 - 1 }
+    ensures { result ≢ Err TextFault.Memory → result ≡ lines_of bytes.now }
+{
+    let mut lines = Row::new(alloc);
+    let mut rest = bytes;
+    let mut number = 1u32;
+    while let Some((line, after)) = cut(rest, b'\n') {
+        check(number, line)?;
+        let words = split_words(alloc, line)?;
+        keep(&mut lines, number, words)?;
+        rest = after;
+        number += 1;
+    }
+    check(number, rest)?;
+    if !rest.is_empty() {
+        return Err(TextFault::NoLastNewline);
+    }
+    Ok(lines)
+}
+
+fn check(number: u32, line: &[u8]) -> Result<(), TextFault>
+    ensures { result ≡ check_of number line.now }
+{
+    if has_strange(line) {
+        return Err(TextFault::NotAscii(number));
+    }
+    if line.len() > LONGEST_LINE {
+        return Err(TextFault::LongLine(number));
+    }
+    Ok(())
+}
+
+fn has_strange(line: &[u8]) -> bool
+    ensures { result ≡ list_any is_strange line.now }
+{
+    line.iter().any(|byte| *byte < b' ' || *byte > b'~')
+}
+
+fn keep(lines: &mut Row<Line>, number: u32, words: Row<Word>) -> Result<(), AllocError>
+    ensures { OnOk result (lines.new ≡ lines.old ++ kept_lines number words) }
+{
+    if is_passed_over(words.as_slice()) {
+        return Ok(());
+    }
+    lines.push(Line { number, words })
+}
+
+fn is_passed_over(words: &[Word]) -> bool
+    ensures { result ≡ is_passed_over words.now }
+{
+    match words {
+        [] => true,
+        [first, ..] => first.as_bytes().first() == Some(&b'#'),
+    }
+}

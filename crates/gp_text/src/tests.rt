@@ -1,0 +1,167 @@
+use crate::{
+    Line, Name, TextFault, print_i64, print_u64, read_i64, read_lines, read_u32, read_u64,
+};
+use std::alloc::{AllocError, Global};
+use std::test::Fail;
+
+// A text of one line of this many letters, with its newline.
+fn line_of(alloc: Global, letters: usize) -> Result<Vec<u8>, AllocError> {
+    let mut text = Vec::new(alloc);
+    for _ in 0..letters {
+        text.push(b'a')?;
+    }
+    text.push(b'\n')?;
+    Ok(text)
+}
+
+// Each line as its number and its words, one space before each word.
+fn shown(alloc: Global, lines: &[Line]) -> Result<Vec<u8>, AllocError> {
+    let mut text = Vec::new(alloc);
+    for line in lines {
+        print_u64(&mut text, u64::from(line.number))?;
+        for word in line.words.as_slice() {
+            text.push(b' ')?;
+            text.extend_from_slice(word.as_bytes())?;
+        }
+        text.push(b'\n')?;
+    }
+    Ok(text)
+}
+
+#[test]
+fn texts_are_read(rt: HostRuntime) -> Result<(), Fail> {
+    let rows: [(&[u8], &[u8]); 5] = [
+        (b"", b""),
+        (b"\n", b""),
+        (b"exit\n", b"1 exit\n"),
+        (
+            b"# a b\n\n  read  x   -1 \n   \n #\nexit\n",
+            b"3 read x -1\n6 exit\n",
+        ),
+        (b"!~ #\n", b"1 !~ #\n"),
+    ];
+    for (text, told) in rows {
+        assert!(rt; text.len() < 100);
+        let lines = read_lines(rt.alloc(), text)?;
+        assert_eq!(rt; shown(rt.alloc(), lines.as_slice())?.as_slice(), told);
+    }
+    Ok(())
+}
+
+#[test]
+fn faults_are_told(rt: HostRuntime) -> Result<(), Fail> {
+    let mut long = line_of(rt.alloc(), 4097)?;
+    let whole = line_of(rt.alloc(), 4096)?;
+    let mut strange_and_long = line_of(rt.alloc(), 4096)?;
+    strange_and_long.extend_from_slice(b"a\t")?;
+    strange_and_long.extend_from_slice(long.as_slice())?;
+    long.extend_from_slice(b"\x7f\n")?;
+    let rows: [(&[u8], Option<TextFault>); 12] = [
+        (b"a\n\x1f\n", Some(TextFault::NotAscii(2))),
+        (b"\x7f\n", Some(TextFault::NotAscii(1))),
+        (b"\x80\n", Some(TextFault::NotAscii(1))),
+        (b"a\n\na\tb\n\x80\n", Some(TextFault::NotAscii(3))),
+        (b"# \t\n", Some(TextFault::NotAscii(1))),
+        (b"a\r\n", Some(TextFault::NotAscii(1))),
+        (b"a\nb", Some(TextFault::NoLastNewline)),
+        (b" ", Some(TextFault::NoLastNewline)),
+        (b"a\nb\t", Some(TextFault::NotAscii(2))),
+        (long.as_slice(), Some(TextFault::LongLine(1))),
+        (whole.as_slice(), None),
+        (strange_and_long.as_slice(), Some(TextFault::NotAscii(2))),
+    ];
+    for (text, fault) in rows {
+        assert!(rt; text.len() < 10_000);
+        assert_eq!(rt; read_lines(rt.alloc(), text).err(), fault);
+    }
+    Ok(())
+}
+
+#[test]
+fn numbers_are_read(rt: HostRuntime) {
+    let rows: [(&[u8], Option<u64>, Option<i64>, Option<u32>); 20] = [
+        (b"0", Some(0), Some(0), Some(0)),
+        (b"00", None, None, None),
+        (b"01", None, None, None),
+        (b"-0", None, None, None),
+        (b"-1", None, Some(-1), None),
+        (b"-01", None, None, None),
+        (b"--1", None, None, None),
+        (b"-", None, None, None),
+        (b"+1", None, None, None),
+        (b"", None, None, None),
+        (b"1 ", None, None, None),
+        (b"1a", None, None, None),
+        (
+            b"4294967295",
+            Some(4294967295),
+            Some(4294967295),
+            Some(4294967295),
+        ),
+        (b"4294967296", Some(4294967296), Some(4294967296), None),
+        (
+            b"9223372036854775807",
+            Some(9223372036854775807),
+            Some(9223372036854775807),
+            None,
+        ),
+        (
+            b"9223372036854775808",
+            Some(9223372036854775808),
+            None,
+            None,
+        ),
+        (
+            b"-9223372036854775808",
+            None,
+            Some(-9223372036854775808),
+            None,
+        ),
+        (b"-9223372036854775809", None, None, None),
+        (
+            b"18446744073709551615",
+            Some(18446744073709551615),
+            None,
+            None,
+        ),
+        (b"18446744073709551616", None, None, None),
+    ];
+    for (text, unsigned, signed, small) in rows {
+        assert_eq!(rt; read_u64(text), unsigned);
+        assert_eq!(rt; read_i64(text), signed);
+        assert_eq!(rt; read_u32(text), small);
+    }
+}
+
+#[test]
+fn numbers_are_printed(rt: HostRuntime) -> Result<(), Fail> {
+    let mut printed = Vec::new(rt.alloc());
+    print_u64(&mut printed, 0)?;
+    print_u64(&mut printed, 18446744073709551615)?;
+    print_i64(&mut printed, -9223372036854775808)?;
+    print_i64(&mut printed, 70)?;
+    let told = b"018446744073709551615-922337203685477580870";
+    assert_eq!(rt; printed.as_slice(), told.as_slice());
+    Ok(())
+}
+
+#[test]
+fn names_are_told(rt: HostRuntime) {
+    let rows: [(&[u8], bool); 9] = [
+        (b"", false),
+        (b"a", true),
+        (b"lock_9", true),
+        (b"_", true),
+        (b"Lock", false),
+        (b"a-b", false),
+        (b"a b", false),
+        (b"aaaaaaaabbbbbbbbccccccccdddddddd", true),
+        (b"aaaaaaaabbbbbbbbccccccccdddddddde", false),
+    ];
+    for (bytes, is_name) in rows {
+        assert_eq!(rt; Name::of(bytes).is_some(), is_name);
+    }
+    assert!(rt; Name::of(b"ab") < Name::of(b"abc"));
+    assert!(rt; Name::of(b"ab_") < Name::of(b"aba"));
+    assert!(rt; Name::of(b"a9") < Name::of(b"aa"));
+}

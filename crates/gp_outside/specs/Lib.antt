@@ -1,0 +1,7 @@
+pub mod DirFolders
+pub mod Faults
+pub mod Folders
+pub mod MemoryFolders
+pub mod MemorySinks
+pub mod Sinks
+pub mod StdSinks

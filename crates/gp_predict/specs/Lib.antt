@@ -1,0 +1,15 @@
+pub mod Answer
+pub mod Faults
+pub mod Feasible
+pub mod Manifest
+pub mod Number
+pub mod Results
+pub mod Rule
+pub mod Run
+pub mod Schedule
+pub mod Stage
+pub mod Step
+pub mod StepFault
+pub mod Table
+pub mod Window
+pub mod Words

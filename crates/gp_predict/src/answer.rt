@@ -1,0 +1,51 @@
+ghost use Rattle.std.specs.Prelude.{◌≡◌, [], ◌∷◌, IfOk, string_bytes};
+ghost use Rattle.gp_predict.specs.Answer.{feasible, refused, stuck, words_refused};
+
+use crate::rule::Rule;
+use gp_text::Row;
+use std::alloc::{AllocError, Global};
+
+/// A status, and the text that goes with it: its lines, each with its newline.
+#[derive(Debug, Drop)]
+pub struct Answer {
+    pub status: u8,
+    pub lines: Row<Row<u8>>,
+}
+
+/// The answer of a text of one line, which is given with its newline.
+fn one_line(alloc: Global, status: u8, line: String) -> Result<Answer, AllocError>
+    ensures { IfOk result (λ answer. (answer.status ≡ status) × (answer.lines ≡ string_bytes line ∷ [])) }
+{
+    let mut lines = Row::new(alloc);
+    lines.push(Row::from_vec(line.into_bytes()))?;
+    Ok(Answer { status, lines })
+}
+
+/// The refusal of the words.
+pub fn words_refused(alloc: Global) -> Result<Answer, AllocError>
+    ensures { IfOk result (λ answer. answer ≡ words_refused) }
+{
+    one_line(alloc, 2, String::from_str(alloc, "words\n")?)
+}
+
+/// The refusal of an input file, or of the recording as a whole.
+pub fn refused(alloc: Global, file: &str) -> Result<Answer, AllocError>
+    ensures { IfOk result (λ answer. answer ≡ refused file.now) }
+{
+    one_line(alloc, 3, format!(in alloc; "refused {file}\n")?)
+}
+
+/// The answer to a schedule of so many events that can happen.
+pub fn feasible(alloc: Global, count: usize) -> Result<Answer, AllocError>
+    ensures { IfOk result (λ answer. answer ≡ feasible count) }
+{
+    one_line(alloc, 0, format!(in alloc; "feasible {count}\n")?)
+}
+
+/// The answer to a schedule whose event at this place is the first that may not happen, by this rule.
+pub fn stuck(alloc: Global, place: u64, rule: Rule) -> Result<Answer, AllocError>
+    ensures { IfOk result (λ answer. answer ≡ stuck place rule) }
+{
+    let number = rule.number();
+    one_line(alloc, 1, format!(in alloc; "stuck {place} {number}\n")?)
+}

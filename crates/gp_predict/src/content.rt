@@ -1,0 +1,46 @@
+ghost use Rattle.std.specs.Prelude.{ℕ, ◌≡◌, ◌≤◌, List, Some, Ok, Err, IfOk, IfErr, length, string_bytes};
+ghost use Rattle.gp_outside.specs.Faults.{Rose};
+ghost use Rattle.gp_outside.specs.Folders.{File};
+ghost use Rattle.gp_predict.specs.Answer.{content_of, path_of};
+ghost use Rattle.gp_predict.specs.Stage.{Gives, IsRefusal};
+
+use crate::answer::refused;
+use crate::stop::Stop;
+use gp_outside::{Folder, ReadFault};
+use gp_text::Row;
+use std::alloc::{AllocError, Global};
+
+/// The bytes of the file of this name in the folder, where it is there and has at most `limit` bytes.
+pub fn content_of<F: Folder>(
+    alloc: Global,
+    folder: &mut F,
+    directory: &str,
+    limit: u64,
+    file: &str,
+) -> Result<Row<u8>, Stop>
+    ensures later { F.faults folder.old ≤ F.faults folder.new }
+    ensures kept { F.files folder.new ≡ F.files folder.old }
+    ensures told { (files : List File) → F.files folder.old ≡ Some files
+        → Gives result (content_of files directory.now limit file.now) }
+    ensures fits { IfOk result (λ bytes. length bytes ≤ limit) }
+    ensures refused { IfErr result IsRefusal }
+    ensures fault { result ≡ Err Stop.ReadFault → Rose (F.faults folder.old) (F.faults folder.new) }
+{
+    let path = path_of(alloc, directory, file)?;
+    let mut bytes = Vec::new(alloc);
+    match folder.read(path.as_str(), limit, &mut bytes) {
+        Ok(()) => Ok(Row::from_vec(bytes)),
+        Err(ReadFault::Absent | ReadFault::TooLong) => Err(Stop::Refused(refused(alloc, file)?)),
+        Err(ReadFault::Failed) => Err(Stop::ReadFault),
+        Err(ReadFault::Memory) => Err(Stop::Memory),
+    }
+}
+
+fn path_of(alloc: Global, directory: &str, file: &str) -> Result<String, AllocError>
+    ensures { IfOk result (λ path. string_bytes path ≡ path_of directory.now file.now) }
+{
+    let mut path = String::from_str(alloc, directory)?;
+    path.push_str("/")?;
+    path.push_str(file)?;
+    Ok(path)
+}

@@ -1,0 +1,37 @@
+// The program: it hands the words, real files, standard output and a gate that holds nobody to `run`,
+// and ends with the status. Nothing that matters is done here.
+#![tactic(auto)]
+
+use gp_outside::{DirFolder, FreeGate, StdSink};
+use gp_predict::run;
+use std::env;
+use std::io::{self, ErrorKind};
+use std::process::ExitCode;
+
+#[cfg(test)]
+mod tests;
+
+/// The status for want of memory, where there is none for the words.
+const NO_MEMORY: u8 = 6;
+
+fn main(rt: HostRuntime) -> ExitCode {
+    match words(&rt) {
+        Ok(words) => answer(rt, words.as_slice()),
+        // A word that is no text is none of the words that `run` knows, and so refused like them.
+        Err(error) if error.kind() == ErrorKind::InvalidData => answer(rt, &[]),
+        Err(_) => ExitCode::from(NO_MEMORY),
+    }
+}
+
+/// The words after the program's name.
+fn words(rt: &HostRuntime) -> io::Result<Vec<String>> {
+    let words = env::args(rt)?.skip(1).collect(rt.alloc())?;
+    Ok(words)
+}
+
+fn answer(rt: HostRuntime, words: &[String]) -> ExitCode {
+    let mut folder = DirFolder::new(rt);
+    let mut sink = StdSink::new(rt);
+    let outcome = run(&rt, words, &mut folder, &mut sink, &FreeGate);
+    ExitCode::from(outcome.status)
+}

@@ -1,0 +1,10 @@
+pub mod Lit
+pub mod LitLaws
+pub mod Clause
+pub mod Edge
+pub mod Kind
+pub mod Problem
+pub mod Valuation
+pub mod Follows
+pub mod Walk
+pub mod Closure

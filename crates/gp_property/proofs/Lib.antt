@@ -1,0 +1,17 @@
+pub mod Fronts
+pub mod Halves
+pub mod Texts
+pub mod Bytes
+pub mod TermAgain
+pub mod ShapeAgain
+pub mod AtomAgain
+pub mod PatternAgain
+pub mod LinesAgain
+pub mod ShortWords
+pub mod PropertyAgain
+pub mod TermRead
+pub mod ShapeRead
+pub mod AtomRead
+pub mod PatternRead
+pub mod LinesRead
+pub mod Valid

@@ -1,0 +1,7 @@
+use Rattle.gp_property.proofs.Texts.{one_step}
+use Rattle.gp_property.proofs.printing.put_steps.Goals as goal
+
+pub loop-step-preserved : goal.loop-step-preserved
+loop-step-preserved c =
+    rw c.in_ok-put_step.ensures
+    (one_step c.loop-step.text.items _ c.args.steps.now c.step-item.result c.loop-step.step-index c.loop-step-test.true c.step-item.is c.loop-step.invariant)

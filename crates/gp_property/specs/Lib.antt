@@ -1,0 +1,9 @@
+pub mod Fault
+pub mod Term
+pub mod Shape
+pub mod Atom
+pub mod Pattern
+pub mod Checks
+pub mod Reading
+pub mod Words
+pub mod Grammar

@@ -1,0 +1,230 @@
+use Rattle.std.proofs.Common.{◌≡◌, ◌≢◌, ℕ, ◌+◌, ◌^◌, ◌<◌, ◌≤◌, ◌⊎◌, inl, inr, suc, zero, List, [], ◌∷◌, length, set, Option, Some, None, sym, ap, subst, ◌∙◌, arith, ℤ, pos, ◌+ℤ◌, ◌-ℤ◌, ◌≤ℤ◌, ◌<ℤ◌}
+use Rattle.std.specs.Int.{int_min}
+use Rattle.std.proofs.lemmas.Int.{ints, clamps, by_lt_z}
+use Rattle.std.proofs.lemmas.Bool.{cases_eq}
+use Rattle.std.proofs.lemmas.List.{length-set}
+use Rattle.std.proofs.lemmas.List.Elements.{All-from_get_or}
+use Rattle.gp_difference.specs.Places.{place_at}
+use Rattle.gp_difference.specs.Anew.{below_count, IsNextBelow, IsHigherBelow, AreSpaced, IsLevelled, AreSqueezed, KeepsLike, AreAnew}
+use Rattle.gp_difference.proofs.QueueLemmas.{lt_z_true, lt_z_false}
+use Rattle.gp_difference.proofs.RunLemmas.{read_set}
+
+-- one more place looked at
+pub next_below_more : (places : List ℤ) (value : ℤ) (i : ℕ) (best next : Option ℤ) → i < length places →
+    IsNextBelow places value i best → IsHigherBelow (place_at places i) value best next → IsNextBelow places value (i + 1) next
+next_below_more places value i None None i_in was (above, e) = λ v lt. elim (cases_eq v i) [
+  | inl q ↦ subst (λ w. value ≤ℤ place_at places w) (sym q) above
+  | inr n ↦ let far : v ≢ i = n in was v (omega arith)
+]
+next_below_more places value i (Some other) None i_in was (above, e) = cc
+next_below_more places value i None (Some next) i_in was (inl h) = cc
+next_below_more places value i None (Some next) i_in was (inr h) = (
+  omega (arith, ints, h.0, h.1),
+  (i, i_in, sym h.0),
+  λ v lt. elim (cases_eq v i) [
+    | inl q ↦ inl (omega (arith, ints, ap (place_at places) q, h.0))
+    | inr n ↦ let far : v ≢ i = n in inr (was v (omega arith))
+  ],
+)
+next_below_more places value i (Some other) (Some next) i_in was (inl h) =
+    let same : other ≡ next = cc in (
+      omega (arith, ints, was.0, same),
+      (was.1.0, was.1.1, was.1.2 ∙ same),
+      λ v lt. elim (cases_eq v i) [
+        | inl q ↦ elim h.1 [
+          | inl a ↦ inr (omega (arith, ints, ap (place_at places) q, a))
+          | inr a ↦ inl (omega (arith, ints, ap (place_at places) q, a))
+        ]
+        | inr n ↦ let far : v ≢ i = n in elim (was.2 v (omega arith)) [
+          | inl a ↦ inl (omega (arith, ints, a, same))
+          | inr a ↦ inr a
+        ]
+      ],
+    )
+next_below_more places value i (Some other) (Some next) i_in was (inr h) =
+    let up : other ≤ℤ place_at places i = h.2 in (
+      omega (arith, ints, h.0, h.1),
+      (i, i_in, sym h.0),
+      λ v lt. elim (cases_eq v i) [
+        | inl q ↦ inl (omega (arith, ints, ap (place_at places) q, h.0))
+        | inr n ↦ let far : v ≢ i = n in elim (was.2 v (omega arith)) [
+          | inl a ↦ inl (omega (arith, ints, a, up, h.0))
+          | inr a ↦ inr a
+        ]
+      ],
+    )
+
+below_count_le : (places : List ℤ) (value : ℤ) → below_count places value ≤ length places
+below_count_le [] value = omega arith
+below_count_le (p ∷ ps) value =
+    let rest : below_count ps value ≤ length ps = below_count_le ps value in
+    by_lt_z p value (λ lt. rw (lt_z_true p value lt) (omega (arith, rest))) (λ ge. rw (lt_z_false p value ge) (omega (arith, rest)))
+
+below_count_mono : (places : List ℤ) (next value : ℤ) → next <ℤ value → below_count places next ≤ below_count places value
+below_count_mono [] next value lt = omega arith
+below_count_mono (p ∷ ps) next value lt =
+    let rest : below_count ps next ≤ below_count ps value = below_count_mono ps next value lt in
+    by_lt_z p next
+    (λ a. rw (lt_z_true p next a, lt_z_true p value (omega (arith, ints, a, lt))) (omega (arith, rest)))
+    (λ a. by_lt_z p value
+    (λ b. rw (lt_z_false p next a, lt_z_true p value b) (omega (arith, rest)))
+    (λ b. rw (lt_z_false p next a, lt_z_false p value b) (omega (arith, rest))))
+
+-- fewer places are below a place that is below the value
+pub below_count_falls : (places : List ℤ) (next value : ℤ) (v : ℕ) → v < length places → place_at places v ≡ next → next <ℤ value →
+    below_count places next + 1 ≤ below_count places value
+below_count_falls [] next value v v_in e lt = absurd (omega arith)
+below_count_falls (p ∷ ps) next value zero v_in e lt =
+    let rest : below_count ps next ≤ below_count ps value = below_count_mono ps next value lt in
+    rw (lt_z_false p next (omega (arith, ints, e)), lt_z_true p value (omega (arith, ints, e, lt))) (omega (arith, rest))
+below_count_falls (p ∷ ps) next value (suc v) v_in e lt =
+    let rest : below_count ps next + 1 ≤ below_count ps value = below_count_falls ps next value v (omega arith) e lt in
+    by_lt_z p next
+    (λ a. rw (lt_z_true p next a, lt_z_true p value (omega (arith, ints, a, lt))) (omega (arith, rest)))
+    (λ a. by_lt_z p value
+    (λ b. rw (lt_z_false p next a, lt_z_true p value b) (omega (arith, rest)))
+    (λ b. rw (lt_z_false p next a, lt_z_false p value b) (omega (arith, rest))))
+
+-- at the top value all labels of points there are zero
+pub squeezed_first : (places labels after : List ℤ) → length labels ≡ length places → ((v : ℕ) → place_at places v ≤ℤ pos 0) →
+    IsLevelled places labels after (pos 0) (pos 0) (length places) → AreSqueezed places after (pos 0) (pos 0)
+squeezed_first places labels after size top levelled =
+    let at = λ (v : ℕ) (v_in : v < length places) (up : pos 0 ≤ℤ place_at places v).
+    let e : place_at places v ≡ pos 0 = omega (arith, ints, up, top v) in
+    let l : place_at after v ≡ pos 0 = levelled.here v v_in e in
+    let both : (place_at places v ≡ pos 0) × (place_at after v ≡ pos 0) = (e, l) in both in
+    record {
+      size = levelled.size ∙ size;
+      top = omega (arith, ints);
+      room = omega (arith, ints, below_count_le places (pos 0));
+      value_top = omega (arith, ints);
+      high = λ v v_in up. let b = at v v_in up in omega (arith, ints, b.1);
+      near = λ v v_in up. let b = at v v_in up in inl (omega (arith, ints, b.0, b.1));
+      pairs = λ u v u_in v_in up le.
+          let a = at u u_in (omega (arith, ints, up, le)) in
+          let b = at v v_in up in
+          inl (omega (arith, ints, a.0, a.1, b.0, b.1));
+    }
+
+-- a gap and what it is cut to, added to a distance
+spaced_more : (before after gap cut : ℤ) → AreSpaced before after → pos 0 ≤ℤ before → pos 0 <ℤ gap → cut ≡ int_min gap (pos 4096) →
+    AreSpaced (before +ℤ gap) (after +ℤ cut)
+spaced_more before after gap cut (inl e) low up is =
+    by_lt_z (pos 4096) gap
+    (λ far. inr (omega (arith, ints, clamps, e, low, is, far), omega (arith, ints, low, far)))
+    (λ near. inl (omega (arith, ints, clamps, e, is, near)))
+spaced_more before after gap cut (inr h) low up is =
+    inr (omega (arith, ints, clamps, h.0, is, up), omega (arith, ints, h.1, up))
+
+spaced_same : (a b c d : ℤ) → a ≡ c → b ≡ d → AreSpaced a b → AreSpaced c d
+spaced_same a b c d e f (inl h) = inl (omega (arith, ints, e, f, h))
+spaced_same a b c d e f (inr h) = inr (omega (arith, ints, f, h.0), omega (arith, ints, e, h.1))
+
+-- the next lower value gets the level that is lower by the cut gap
+pub squeezed_more : (places labels after : List ℤ) (value level next lower : ℤ) → AreSqueezed places labels value level →
+    IsNextBelow places value (length places) (Some next) → lower ≡ (level -ℤ int_min (value -ℤ next) (pos 4096)) →
+    IsLevelled places labels after next lower (length places) → AreSqueezed places after next lower
+squeezed_more places labels after value level next lower was below is levelled =
+    let gap : pos 0 <ℤ (value -ℤ next) = omega (arith, ints, below.0) in
+    let cut_low : pos 0 <ℤ (level -ℤ lower) = omega (arith, ints, clamps, is, gap) in
+    let cut_high : (level -ℤ lower) ≤ℤ pos 4096 = omega (arith, ints, clamps, is) in
+    let cut : (level -ℤ lower) ≡ int_min (value -ℤ next) (pos 4096) = omega (arith, ints, is) in
+    let fewer = below_count_falls places next value below.1.0 below.1.1 below.1.2 below.0 in
+    let here = λ (v : ℕ) (v_in : v < length places) (e : place_at places v ≡ next). levelled.here v v_in e in
+    let old = λ (v : ℕ) (up : value ≤ℤ place_at places v).
+    levelled.rest v (λ e. let no : ⊥ = omega (arith, ints, e, up, below.0) in absurd no) in
+    let split = λ (v : ℕ) (v_in : v < length places) (up : next ≤ℤ place_at places v).
+    let s : (place_at places v ≡ next) ⊎ (value ≤ℤ place_at places v) = elim (below.2 v v_in) [
+      | inl a ↦ inl (omega (arith, ints, a, up))
+      | inr a ↦ inr a
+    ] in s in
+    let near = λ (v : ℕ) (v_in : v < length places) (up : value ≤ℤ place_at places v).
+    let s : AreSpaced (place_at places v -ℤ next) (place_at after v -ℤ lower) =
+    spaced_same _ _ (place_at places v -ℤ next) (place_at after v -ℤ lower) (omega (arith, ints)) (omega (arith, ints, old v up))
+    (spaced_more (place_at places v -ℤ value) (place_at labels v -ℤ level) (value -ℤ next) (level -ℤ lower)
+    (was.near v v_in up) (omega (arith, ints, up)) gap cut) in s in
+    record {
+      size = levelled.size ∙ was.size;
+      top = omega (arith, ints, cut_low, was.top);
+      room = omega (arith, ints, was.room, cut_high, fewer);
+      value_top = omega (arith, ints, was.value_top, below.0);
+      high = λ v v_in up. elim (split v v_in up) [
+        | inl e ↦ omega (arith, ints, here v v_in e, cut_low, was.top)
+        | inr a ↦ omega (arith, ints, old v a, was.high v v_in a)
+      ];
+      near = λ v v_in up. elim (split v v_in up) [
+        | inl e ↦ inl (omega (arith, ints, e, here v v_in e))
+        | inr a ↦ near v v_in a
+      ];
+      pairs = λ u v u_in v_in up le. elim (split v v_in up) [
+        | inl e ↦ elim (split u u_in (omega (arith, ints, up, le))) [
+          | inl f ↦ inl (omega (arith, ints, e, f, here v v_in e, here u u_in f))
+          | inr b ↦ spaced_same _ _ (place_at places u -ℤ place_at places v) (place_at after u -ℤ place_at after v)
+              (omega (arith, ints, e)) (omega (arith, ints, here v v_in e)) (near u u_in b)
+        ]
+        | inr a ↦
+            let b : value ≤ℤ place_at places u = omega (arith, ints, a, le) in
+            spaced_same _ _ (place_at places u -ℤ place_at places v) (place_at after u -ℤ place_at after v)
+            (omega (arith, ints)) (omega (arith, ints, old u b, old v a)) (was.pairs u v u_in v_in a le)
+      ];
+    }
+
+-- labels that are spaced as the places keep what the places keep
+spaced_keep : (places labels : List ℤ) (value level : ℤ) → AreSqueezed places labels value level →
+    ((v : ℕ) → v < length places → value ≤ℤ place_at places v) → KeepsLike places labels
+spaced_keep places labels value level squeezed all edge is_edge keeps =
+    by_lt_z (place_at places edge.b) (place_at places edge.a)
+    (λ lt. elim (squeezed.pairs edge.a edge.b is_edge.first is_edge.second (all edge.b is_edge.second) (omega (arith, ints, lt))) [
+      | inl e ↦ omega (arith, ints, e, keeps)
+      | inr h ↦ absurd (omega (arith, ints, h.1, keeps, is_edge.high))
+    ])
+    (λ ge. elim (squeezed.pairs edge.b edge.a is_edge.second is_edge.first (all edge.a is_edge.first) ge) [
+      | inl e ↦ omega (arith, ints, e, keeps)
+      | inr h ↦ omega (arith, ints, h.0, is_edge.low)
+    ])
+
+-- once no place is below the value, the labels are anew
+pub squeezed_ends : (places labels : List ℤ) (value level : ℤ) → length places ≤ 65536 → AreSqueezed places labels value level →
+    IsNextBelow places value (length places) None → AreAnew places labels
+squeezed_ends places labels value level few squeezed all =
+    record {
+      size = squeezed.size;
+      fresh = All-from_get_or (λ (place : ℤ). (pos 0 ≤ℤ (place +ℤ pos (2 ^ 28))) × (place ≤ℤ pos 0)) labels (pos 0) (λ v v_in.
+          let at : v < length places = omega (arith, squeezed.size) in
+          let low : pos 0 ≤ℤ (place_at labels v +ℤ pos (2 ^ 28)) = elim (squeezed.near v at (all v at)) [
+            | inl e ↦ omega (arith, ints, e, squeezed.room, few, all v at)
+            | inr h ↦ omega (arith, ints, h.0, squeezed.room, few)
+          ] in
+          (low, squeezed.high v at (all v at)));
+      keeps = spaced_keep places labels value level squeezed all;
+    }
+
+-- one more point gets the level
+pub levelled_write : (places before labels : List ℤ) (value level : ℤ) (i : ℕ) → length before ≡ length places → i < length places →
+    IsLevelled places before labels value level i → place_at places i ≡ value → IsLevelled places before (set labels i level) value level (i + 1)
+levelled_write places before labels value level i size i_in was at =
+    let i_len : i < length labels = omega (arith, was.size, size) in
+    let read = λ (v : ℕ). read_set labels i level v (pos 0) i_len in
+    record {
+      size = length-set labels i level ∙ was.size;
+      here = λ v lt e. elim (read v) [
+        | inl h ↦ h.1
+        | inr h ↦ let far : v ≢ i = h.0 in h.1 ∙ was.here v (omega arith) e
+      ];
+      rest = λ v off. elim (read v) [
+        | inl h ↦ absurd (omega (arith, off (ap (place_at places) h.0 ∙ at), h.0))
+        | inr h ↦ h.1 ∙ was.rest v (λ e. omega (arith, off e))
+      ];
+    }
+
+pub levelled_skip : (places before labels : List ℤ) (value level : ℤ) (i : ℕ) →
+    IsLevelled places before labels value level i → place_at places i ≢ value → IsLevelled places before labels value level (i + 1)
+levelled_skip places before labels value level i was off =
+    record {
+      size = was.size;
+      here = λ v lt e. elim (cases_eq v i) [
+        | inl q ↦ absurd (off (sym (ap (place_at places) q) ∙ e))
+        | inr n ↦ let far : v ≢ i = n in was.here v (omega arith) e
+      ];
+      rest = λ v other. was.rest v (λ e. omega (arith, other e));
+    }

@@ -1,0 +1,12 @@
+pub mod WalkLemmas
+pub mod RunLemmas
+pub mod QueueLemmas
+pub mod ScanLemmas
+pub mod TraceLemmas
+pub mod AnewLemmas
+pub mod RelaxLemmas
+pub mod TagLemmas
+pub mod WalkBuffer
+pub mod SettleLemmas
+pub mod LinkLemmas
+pub mod GraphLemmas

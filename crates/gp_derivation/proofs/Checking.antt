@@ -1,0 +1,93 @@
+-- What a certificate that checks shows.
+use Rattle.std.proofs.Common.{◌≡◌, ℕ, ℤ, Bool, true, false, not, List, [], ◌∷◌, ◌++◌, All, Contains, sym, ◌∙◌, subst}
+use Rattle.std.proofs.lemmas.List.{append-nil}
+use Rattle.std.proofs.lemmas.List.Elements.{All-append, All-nil, All-cons, All-push, All-weaker, All-contains, All-contains_itself, Contains-push}
+use Rattle.gp_clause.specs.declared.edge.Edge.{Edge}
+use Rattle.gp_clause.specs.declared.kind.Kind.{Kind}
+use Rattle.gp_clause.specs.declared.lit.Lit.{Lit}
+use Rattle.gp_clause.specs.declared.problem.Problem.{Problem}
+use Rattle.gp_clause.specs.declared.problem.Query.{Query}
+use Rattle.gp_clause.specs.Clause.{HoldsClause, HoldsAll}
+use Rattle.gp_clause.specs.Follows.{Follows, LocalsChangeNothing}
+use Rattle.gp_clause.specs.Lit.{HoldsLit, opposite}
+use Rattle.gp_clause.specs.Problem.{IsValidKind, IsValidProblem, IsValidQuery}
+use Rattle.gp_clause.specs.Valuation.{truth_of, place_of}
+use Rattle.gp_derivation.specs.declared.step.Step.{Step}
+use Rattle.gp_derivation.specs.declared.certificate.Certificate.{Certificate}
+use Rattle.gp_derivation.specs.Certificate.{hinted, StepsCheck, Checks, IsLast, Proves, Refutes, CertificateFollows, RefutedMeans}
+use Rattle.gp_derivation.proofs.Lists.{named_all, contains_got}
+use Rattle.gp_derivation.proofs.Passing.{Laws, IsModel, model_from_valuation, passing_true}
+
+-- what a step may use comes before it
+pub hinted_among : (earlier : List (List Lit)) (hints : List ℕ) → All (Contains earlier) (hinted earlier hints)
+hinted_among earlier [] = All-contains_itself earlier
+hinted_among earlier (hint ∷ hints) = named_all (Contains earlier) earlier (hint ∷ hints) (λ h clause is got. contains_got earlier h clause got)
+
+-- the clauses of steps that check are true where the clauses before them are
+pub steps_true : Laws → (edges : List Edge) (kinds : List Kind) (truth : ℕ → Bool) (place : ℕ → ℤ) → IsModel edges kinds truth place
+    → (earlier : List (List Lit)) (steps : List Step) → HoldsAll truth earlier → StepsCheck edges kinds earlier steps → All (λ (step : Step). HoldsClause truth step.clause) steps
+steps_true laws edges kinds truth place model earlier [] holds checks = All-nil (λ (step : Step). HoldsClause truth step.clause)
+steps_true laws edges kinds truth place model earlier (step ∷ steps) holds checks =
+    let used : HoldsAll truth (hinted earlier step.hints) = All-weaker (Contains earlier) (HoldsClause truth) (λ clause is. All-contains (HoldsClause truth) earlier clause holds is) (hinted earlier step.hints) (hinted_among earlier step.hints) in
+    let first : HoldsClause truth step.clause = passing_true laws edges kinds (hinted earlier step.hints) step.clause truth place model used checks.0.passes in
+    All-cons (λ (step : Step). HoldsClause truth step.clause) step steps first
+    (steps_true laws edges kinds truth place model (earlier ++ step.clause ∷ []) steps (All-push (HoldsClause truth) earlier step.clause holds first) checks.1)
+
+-- the last step is one of the steps
+pub last_contained : (steps : List Step) (step : Step) → IsLast steps step → Contains steps step
+last_contained steps step (front, is) = let P : List Step → Type 0 = λ xs. Contains xs step in subst P (sym is) (Contains-push front step)
+
+-- the clause that a certificate proves is true where the problem's clauses are
+pub proved_true : Laws → (problem : Problem) (certificate : Certificate) (clause : List Lit) (truth : ℕ → Bool) (place : ℕ → ℤ) → IsModel problem.edges problem.kinds truth place
+    → HoldsAll truth problem.clauses → Proves problem certificate clause → HoldsClause truth clause
+proved_true laws problem certificate clause truth place model holds proves =
+    let P : List Kind → Type 0 = λ kinds. IsModel problem.edges kinds truth place in
+    let wide : IsModel problem.edges (problem.kinds ++ []) truth place = subst P (sym (append-nil problem.kinds)) model in
+    let each : All (λ (step : Step). HoldsClause truth step.clause) certificate.steps = steps_true laws problem.edges (problem.kinds ++ []) truth place wide problem.clauses certificate.steps holds proves.checks in
+    let last : HoldsClause truth (proves.ends.0).clause = All-contains (λ (step : Step). HoldsClause truth step.clause) certificate.steps (proves.ends.0) each (last_contained certificate.steps (proves.ends.0) (proves.ends.1)) in
+    subst (HoldsClause truth) (proves.ends.2) last
+
+each_follows : Laws → (problem : Problem) (query : Query) (certificate : Certificate) → IsValidProblem problem → IsValidQuery problem query → Checks problem query certificate
+    → All (λ (step : Step). Follows problem.points problem.edges (problem.kinds ++ query.locals) problem.clauses step.clause) certificate.steps
+each_follows laws problem query certificate valid asked checks = λ k d within. λ truth place valuation holds.
+    let kinds_valid : All (IsValidKind problem.points) (problem.kinds ++ query.locals) = All-append (IsValidKind problem.points) problem.kinds query.locals valid.kinds asked.locals in
+    let model : IsModel problem.edges (problem.kinds ++ query.locals) truth place = model_from_valuation laws problem.points problem.edges (problem.kinds ++ query.locals) truth place kinds_valid valuation in
+    steps_true laws problem.edges (problem.kinds ++ query.locals) truth place model problem.clauses certificate.steps holds checks k d within
+
+pub certificates : Laws → LocalsChangeNothing → CertificateFollows
+certificates laws locals = record {
+  each = each_follows laws;
+  without_locals = λ problem query certificate valid asked checks. λ k d within. λ names.
+      locals.left_out problem.points problem.edges problem.kinds query.locals problem.clauses _ valid.clauses names (each_follows laws problem query certificate valid asked checks k d within);
+  proved = λ problem certificate clause valid proves. λ truth place valuation holds.
+      proved_true laws problem certificate clause truth place (model_from_valuation laws problem.points problem.edges problem.kinds truth place valid.kinds valuation) holds proves;
+}
+
+-- a truth value is not its own negation
+not_both : (b : Bool) → b ≡ not b → ⊥
+not_both true e = cc
+not_both false e = cc
+
+-- a clause of negations of what is true is false
+negations_false : (truth : ℕ → Bool) (assumed clause : List Lit) → All (HoldsLit truth) assumed → All (λ lit. Contains assumed (opposite lit)) clause → HoldsClause truth clause → ⊥
+negations_false truth assumed clause holds negated (k, lit, within, is, told) =
+    let P : Lit → Type 0 = λ l. Contains assumed (opposite l) in
+    let against : truth lit.variable ≡ not lit.positive = All-contains (HoldsLit truth) assumed (opposite lit) holds (subst P is (negated k lit within)) in
+    not_both lit.positive (sym told ∙ against)
+
+-- nothing at which edges and bounds are kept makes clauses and assumptions true that are refuted
+refuted : Laws → (problem : Problem) (query : Query) (certificate : Certificate) (truth : ℕ → Bool) (place : ℕ → ℤ) → Refutes problem query certificate
+    → IsModel problem.edges (problem.kinds ++ query.locals) truth place → HoldsAll truth problem.clauses → All (HoldsLit truth) query.assumed → ⊥
+refuted laws problem query certificate truth place refutes model holds assumed =
+    let each : All (λ (step : Step). HoldsClause truth step.clause) certificate.steps = steps_true laws problem.edges (problem.kinds ++ query.locals) truth place model problem.clauses certificate.steps holds refutes.checks in
+    let last : HoldsClause truth (refutes.ends.0).clause = All-contains (λ (step : Step). HoldsClause truth step.clause) certificate.steps (refutes.ends.0) each (last_contained certificate.steps (refutes.ends.0) (refutes.ends.1)) in
+    negations_false truth query.assumed (refutes.ends.0).clause assumed (refutes.ends.2) last
+
+pub refuting : Laws → RefutedMeans
+refuting laws = record {
+  no_valuation = λ problem query certificate valid asked refutes truth place valuation holds assumed.
+      let kinds_valid : All (IsValidKind problem.points) (problem.kinds ++ query.locals) = All-append (IsValidKind problem.points) problem.kinds query.locals valid.kinds asked.locals in
+      refuted laws problem query certificate truth place refutes (model_from_valuation laws problem.points problem.edges (problem.kinds ++ query.locals) truth place kinds_valid valuation) holds assumed;
+  no_answer = λ problem query certificate refutes valuation meets.
+      refuted laws problem query certificate (truth_of valuation) (place_of valuation) refutes (record { keeps = meets.edges; bounds = meets.bounds }) meets.clauses meets.assumed;
+}

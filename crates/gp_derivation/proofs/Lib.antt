@@ -1,0 +1,10 @@
+pub mod Lists
+pub mod Passing
+pub mod Checking
+pub mod Purity
+pub mod Marks
+pub mod Sweeping
+pub mod Drafts
+pub mod Rehinting
+pub mod Coning
+pub mod Growing

@@ -1,0 +1,116 @@
+-- What passes is true wherever the clauses are that it passes with.
+use Rattle.std.proofs.Common.{◌≡◌, ℕ, ◌<◌, ◌≤◌, ℤ, Bool, List, ◌++◌, Some, length, get_or, All, Contains, ◌⊎◌, inl, inr, ◌∙◌, subst, arith}
+use Rattle.std.specs.List.{slice_get}
+use Rattle.std.proofs.lemmas.List.Elements.{All-append, All-map, All-weaker, All-contains}
+use Rattle.gp_clause.specs.declared.edge.Edge.{Edge}
+use Rattle.gp_clause.specs.declared.kind.Kind.{Kind}
+use Rattle.gp_clause.specs.declared.lit.Lit.{Lit}
+use Rattle.gp_clause.specs.Clause.{HoldsClause, HoldsAll, NamesBelow, TrueOrFalse}
+use Rattle.gp_clause.specs.Closure.{Derived, DerivedMeans}
+use Rattle.gp_clause.specs.Closure.Derived.{given, forced}
+use Rattle.gp_clause.specs.Edge.{Keeps}
+use Rattle.gp_clause.specs.Kind.{bound_of, KeepsBound}
+use Rattle.gp_clause.specs.Lit.{HoldsLit, opposite}
+use Rattle.gp_clause.specs.Problem.{IsValidKind}
+use Rattle.gp_clause.specs.Valuation.{IsValuation, BoundsMean}
+use Rattle.gp_clause.specs.Walk.{KeepingLeavesNoCycle}
+use Rattle.gp_derivation.specs.Step.{negations, IsDerivedBound, IsRefuted, Passes, PassingFollows, MorePasses}
+use Rattle.gp_derivation.proofs.Lists.{contains_map, got_all}
+
+-- what is known of clauses, bounds and walks
+pub record Laws : Type 0 where
+  pub derived : DerivedMeans
+  pub bounds : BoundsMean
+  pub cycles : KeepingLeavesNoCycle
+  pub cases : TrueOrFalse
+
+-- places and truth values at which the fixed edges and the bounds of the variables are kept
+pub record IsModel (edges : List Edge) (kinds : List Kind) (truth : ℕ → Bool) (place : ℕ → ℤ) : Type 0 where
+  pub keeps : All (Keeps place) edges
+  pub bounds : (variable : ℕ) (kind : Kind) → slice_get kinds variable ≡ Some kind → KeepsBound place (bound_of kind (truth variable))
+
+pub model_from_valuation : Laws → (points : ℕ) (edges : List Edge) (kinds : List Kind) (truth : ℕ → Bool) (place : ℕ → ℤ) → All (IsValidKind points) kinds
+    → IsValuation points edges kinds truth place → IsModel edges kinds truth place
+model_from_valuation laws points edges kinds truth place valid valuation = record {
+  keeps = valuation.keeps;
+  bounds = λ variable kind is. laws.bounds.kept points edges kinds truth place valuation variable kind is (got_all (IsValidKind points) kinds variable kind valid is);
+}
+
+-- the bound of a literal that is derived from what is true is kept
+bound_kept : Laws → (edges : List Edge) (kinds : List Kind) (clauses : List (List Lit)) (start : List Lit) (truth : ℕ → Bool) (place : ℕ → ℤ) → IsModel edges kinds truth place
+    → HoldsAll truth clauses → All (HoldsLit truth) start → (edge : Edge) → IsDerivedBound kinds clauses start edge → Keeps place edge
+bound_kept laws edges kinds clauses start truth place model holds starts edge (lit, kind, derived, at, is) =
+    let true_lit : truth lit.variable ≡ lit.positive = laws.derived.true_too start clauses truth starts holds lit derived in
+    let by_truth : KeepsBound place (bound_of kind (truth lit.variable)) = model.bounds lit.variable kind at in
+    let P : Bool → Type 0 = λ value. KeepsBound place (bound_of kind value) in
+    subst (KeepsBound place) is (subst P true_lit by_truth)
+
+-- clauses that are true refute no start that is
+refuted_false : Laws → (edges : List Edge) (kinds : List Kind) (clauses : List (List Lit)) (start : List Lit) (truth : ℕ → Bool) (place : ℕ → ℤ) → IsModel edges kinds truth place
+    → HoldsAll truth clauses → All (HoldsLit truth) start → IsRefuted edges kinds clauses start → ⊥
+refuted_false laws edges kinds clauses start truth place model holds starts (inl conflict) = laws.derived.no_conflict start clauses truth starts holds conflict
+refuted_false laws edges kinds clauses start truth place model holds starts (inr (bounds, derived, cycle)) =
+    let kept : All (Keeps place) bounds = All-weaker (IsDerivedBound kinds clauses start) (Keeps place) (bound_kept laws edges kinds clauses start truth place model holds starts) bounds derived in
+    laws.cycles place (edges ++ bounds) (All-append (Keeps place) edges bounds model.keeps kept) cycle
+
+-- a clause that passes is true where the clauses are
+pub passing_true : Laws → (edges : List Edge) (kinds : List Kind) (clauses : List (List Lit)) (clause : List Lit) (truth : ℕ → Bool) (place : ℕ → ℤ) → IsModel edges kinds truth place
+    → HoldsAll truth clauses → Passes edges kinds clauses clause → HoldsClause truth clause
+passing_true laws edges kinds clauses clause truth place model holds passes = at (laws.cases truth clause)
+  where
+    at : HoldsClause truth clause ⊎ All (λ lit. HoldsLit truth (opposite lit)) clause → HoldsClause truth clause
+    at (inl told) = told
+    at (inr negated) = absurd (refuted_false laws edges kinds clauses (negations clause) truth place model holds (All-map (HoldsLit truth) opposite clause negated) passes.refuted)
+
+pub passing : Laws → PassingFollows
+passing laws points edges kinds clauses clause valid passes = λ truth place valuation holds.
+    passing_true laws edges kinds clauses clause truth place (model_from_valuation laws points edges kinds truth place valid valuation) holds passes
+
+-- more clauses derive more from more
+pub derived_more : (start : List Lit) (clauses : List (List Lit)) (longer : List Lit) (more : List (List Lit)) → All (Contains longer) start → All (Contains more) clauses
+    → (lit : Lit) → Derived start clauses lit → Derived longer more lit
+derived_more start clauses longer more starts among lit (given l is) = given l (All-contains (Contains longer) start l starts is)
+derived_more start clauses longer more starts among lit (forced clause l one within others) =
+    forced clause l (All-contains (Contains more) clauses clause among one) within
+    (λ other is apart. derived_more start clauses longer more starts among (opposite other) (others other is apart))
+
+-- and refute more
+refuted_more : (edges : List Edge) (kinds : List Kind) (start : List Lit) (clauses : List (List Lit)) (longer : List Lit) (more : List (List Lit)) → All (Contains longer) start → All (Contains more) clauses
+    → IsRefuted edges kinds clauses start → IsRefuted edges kinds more longer
+refuted_more edges kinds start clauses longer more starts among (inl (clause, one, negated)) =
+    inl (clause, All-contains (Contains more) clauses clause among one, λ lit is. derived_more start clauses longer more starts among (opposite lit) (negated lit is))
+refuted_more edges kinds start clauses longer more starts among (inr (bounds, derived, cycle)) =
+    inr (bounds, All-weaker (IsDerivedBound kinds clauses start) (IsDerivedBound kinds more longer) bound bounds derived, cycle)
+  where
+    bound : (edge : Edge) → IsDerivedBound kinds clauses start edge → IsDerivedBound kinds more longer edge
+    bound edge (lit, kind, from, at, is) = (lit, kind, derived_more start clauses longer more starts among lit from, at, is)
+
+pub more_pass : MorePasses
+more_pass edges kinds clauses more clause longer among literals in_range passes = record {
+  in_range = in_range;
+  refuted = refuted_more edges kinds (negations clause) clauses (negations longer) more
+      (All-map (Contains (negations longer)) opposite clause (All-weaker (Contains longer) (λ lit. Contains (negations longer) (opposite lit)) (λ lit is. contains_map opposite longer lit is) clause literals)) among passes.refuted;
+}
+
+-- a clause that passes with clauses of some first variables passes with any other variables after them
+pub passes_alike : (edges : List Edge) (kinds other : List Kind) (n : ℕ) (clauses : List (List Lit)) (clause : List Lit) → n ≤ length other
+    → ((variable : ℕ) → variable < n → slice_get other variable ≡ slice_get kinds variable) → All (NamesBelow n) clauses → NamesBelow n clause
+    → Passes edges kinds clauses clause → Passes edges other clauses clause
+passes_alike edges kinds other n clauses clause enough alike below names passes = record {
+  in_range = λ k d within. let first : (get_or clause k d).variable < n = names k d within in omega arith;
+  refuted = at passes.refuted;
+}
+  where
+    start_below : NamesBelow n (negations clause)
+    start_below = All-map (λ (lit : Lit). lit.variable < n) opposite clause names
+
+    first : (lit : Lit) → Derived (negations clause) clauses lit → lit.variable < n
+    first lit (given l is) = All-contains (λ (l : Lit). l.variable < n) (negations clause) l start_below is
+    first lit (forced one l among within others) = All-contains (λ (l : Lit). l.variable < n) one l (All-contains (NamesBelow n) clauses one below among) within
+
+    bound : (edge : Edge) → IsDerivedBound kinds clauses (negations clause) edge → IsDerivedBound other clauses (negations clause) edge
+    bound edge (lit, kind, from, got, is) = (lit, kind, from, alike lit.variable (first lit from) ∙ got, is)
+
+    at : IsRefuted edges kinds clauses (negations clause) → IsRefuted edges other clauses (negations clause)
+    at (inl conflict) = inl conflict
+    at (inr (bounds, derived, cycle)) = inr (bounds, All-weaker (IsDerivedBound kinds clauses (negations clause)) (IsDerivedBound other clauses (negations clause)) bound bounds derived, cycle)

@@ -1,0 +1,75 @@
+use Rattle.std.specs.Prelude.{ℕ, ◌≡◌, ◌<◌, Bool, ℤ, List, [], ◌∷◌, ◌++◌, length, map, All, Contains}
+use Rattle.gp_clause.specs.declared.edge.Edge.{Edge}
+use Rattle.gp_clause.specs.declared.kind.Kind.{Kind}
+use Rattle.gp_clause.specs.declared.lit.Lit.{Lit}
+use Rattle.gp_clause.specs.declared.problem.Problem.{Problem}
+use Rattle.gp_clause.specs.declared.problem.Query.{Query}
+use Rattle.gp_clause.specs.declared.valuation.Valuation.{Valuation}
+use Rattle.gp_clause.specs.Clause.{HoldsAll, NamesBelow}
+use Rattle.gp_clause.specs.Follows.{Follows}
+use Rattle.gp_clause.specs.Lit.{HoldsLit, opposite}
+use Rattle.gp_clause.specs.Problem.{IsValidProblem, IsValidQuery}
+use Rattle.gp_clause.specs.Valuation.{IsValuation, Meets}
+use Rattle.gp_derivation.specs.declared.step.Step.{Step}
+use Rattle.gp_derivation.specs.declared.certificate.Certificate.{Certificate}
+use Rattle.gp_derivation.specs.Step.{Passes, named}
+
+-- the clauses of steps
+abbrev pub clauses_of : List Step → List (List Lit)
+clauses_of steps = map (λ (step : Step). step.clause) steps
+
+-- the clauses that a step of a certificate may use: those that its hints name, or all that come before it where it has none
+abbrev pub hinted : List (List Lit) → List ℕ → List (List Lit)
+hinted earlier [] = earlier
+hinted earlier (hint ∷ hints) = named earlier (hint ∷ hints)
+
+-- a step checks after some clauses where its hints name clauses among them, and its own clause passes with what it may use
+pub record StepChecks (edges : List Edge) (kinds : List Kind) (earlier : List (List Lit)) (step : Step) : Type 0 where
+  pub hints : All (λ hint. hint < length earlier) step.hints
+  pub passes : Passes edges kinds (hinted earlier step.hints) step.clause
+
+-- each of the steps checks after some clauses and the clauses of the steps before it
+abbrev pub StepsCheck : List Edge → List Kind → List (List Lit) → List Step → Type 0
+StepsCheck edges kinds earlier [] = Unit {0}
+StepsCheck edges kinds earlier (step ∷ steps) = StepChecks edges kinds earlier step × StepsCheck edges kinds (earlier ++ step.clause ∷ []) steps
+
+-- a certificate checks for a problem and a query where each of its steps checks after the problem's clauses
+abbrev pub Checks : Problem → Query → Certificate → Type 0
+Checks problem query certificate = StepsCheck problem.edges (problem.kinds ++ query.locals) problem.clauses certificate.steps
+
+-- the query without locals that assumes nothing
+abbrev pub empty_query : Query
+empty_query = record { locals = []; assumed = [] }
+
+-- a step is the last of some steps
+abbrev pub IsLast : List Step → Step → Type 0
+IsLast steps step = (front : List Step) × (steps ≡ front ++ step ∷ [])
+
+-- a certificate proves a clause where it checks with the empty query and the clause is that of its last step
+pub record Proves (problem : Problem) (certificate : Certificate) (clause : List Lit) : Type 0 where
+  pub checks : Checks problem empty_query certificate
+  pub ends : (step : Step) × IsLast certificate.steps step × (step.clause ≡ clause)
+
+-- a certificate refutes a query where it checks, and its last step has negations of assumptions alone
+pub record Refutes (problem : Problem) (query : Query) (certificate : Certificate) : Type 0 where
+  pub checks : Checks problem query certificate
+  pub ends : (step : Step) × IsLast certificate.steps step × All (λ lit. Contains query.assumed (opposite lit)) step.clause
+
+-- each clause of a certificate that checks follows from the problem's clauses with the query's locals, and one of the
+-- problem's own variables follows without them
+pub record CertificateFollows : Type 0 where
+  pub each : (problem : Problem) (query : Query) (certificate : Certificate) → IsValidProblem problem → IsValidQuery problem query → Checks problem query certificate
+      → All (λ (step : Step). Follows problem.points problem.edges (problem.kinds ++ query.locals) problem.clauses step.clause) certificate.steps
+  pub without_locals : (problem : Problem) (query : Query) (certificate : Certificate) → IsValidProblem problem → IsValidQuery problem query → Checks problem query certificate
+      → All (λ (step : Step). NamesBelow (length problem.kinds) step.clause → Follows problem.points problem.edges problem.kinds problem.clauses step.clause) certificate.steps
+  pub proved : (problem : Problem) (certificate : Certificate) (clause : List Lit) → IsValidProblem problem → Proves problem certificate clause
+      → Follows problem.points problem.edges problem.kinds problem.clauses clause
+
+-- no valuation makes the clauses of a problem and the assumptions of a query true that some certificate refutes, and no
+-- answer meets the two
+pub record RefutedMeans : Type 0 where
+  pub no_valuation : (problem : Problem) (query : Query) (certificate : Certificate) → IsValidProblem problem → IsValidQuery problem query → Refutes problem query certificate
+      → (truth : ℕ → Bool) (place : ℕ → ℤ) → IsValuation problem.points problem.edges (problem.kinds ++ query.locals) truth place
+      → HoldsAll truth problem.clauses → All (HoldsLit truth) query.assumed → ⊥
+  pub no_answer : (problem : Problem) (query : Query) (certificate : Certificate) → Refutes problem query certificate
+      → (valuation : Valuation) → Meets problem query valuation → ⊥

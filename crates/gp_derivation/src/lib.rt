@@ -1,0 +1,21 @@
+// What the solver derives. A step is a clause that passes with some clauses: unit clauses carry the negation of its
+// literals to a false clause or to a negative cycle of the fixed edges and the bounds of what they derive. A certificate
+// is a list of steps, each of which passes with clauses of the problem and of earlier steps, so that each clause of it
+// follows from the problem. A log holds the clauses that a search learned and took, in order. The cone of a step is the
+// certificate that is made of the steps on which it rests.
+#![tactic(auto)]
+
+mod certificate;
+mod cones;
+mod log;
+mod numbering;
+mod reach;
+mod record;
+mod step;
+
+pub use certificate::{Certificate, certificate_follows, refuted_means};
+pub use cones::{cone, cone_checks};
+pub use log::{LogEntry, Origin, log_grows, pure_follows};
+pub use numbering::can_be_numbered;
+pub use record::{Offered, Sent, Turn, WorkerRecord};
+pub use step::{Step, more_passes, passing_follows};

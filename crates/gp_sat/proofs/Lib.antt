@@ -1,0 +1,10 @@
+pub mod Counting
+pub mod Adding
+pub mod Storing
+pub mod Cutting
+pub mod Scanning
+pub mod Steps
+pub mod Marked
+pub mod Visiting
+pub mod Passing
+pub mod Starting

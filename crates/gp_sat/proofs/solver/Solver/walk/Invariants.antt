@@ -1,0 +1,15 @@
+use Rattle.std.proofs.Common.{◌≤◌, length, Contains}
+use Rattle.gp_clause.specs.declared.lit.Lit.{Lit}
+use Rattle.gp_sat.specs.Marking.{IsMarked}
+use Rattle.gp_sat.specs.Walking.{IsWalked}
+use Rattle.gp_sat.proofs.solver.Solver.walk.Given as goal
+
+abbrev pub invariant-loop-place : goal.invariant-loop-place
+invariant-loop-place l = record {
+  within : l.place ≤ length l.self.trail;
+  walked : IsWalked l.self l.stop l.place l.walk.marks.items l.walk.lits.items l.walk.hints.items;
+  started : (lit : Lit) → Contains l.conflict lit → IsMarked l.walk.marks.items lit.variable;
+}
+
+abbrev pub decreases-loop-place : goal.decreases-loop-place
+decreases-loop-place l = l.place

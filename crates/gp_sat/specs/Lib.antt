@@ -1,0 +1,9 @@
+pub mod State
+pub mod Standing
+pub mod Sound
+pub mod Changes
+pub mod Looking
+pub mod Passing
+pub mod Learning
+pub mod Marking
+pub mod Walking

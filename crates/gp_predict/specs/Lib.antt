@@ -1,15 +1,5 @@
 pub mod Answer
-pub mod Faults
-pub mod Feasible
-pub mod Manifest
-pub mod Number
-pub mod Results
-pub mod Rule
+pub mod Refusal
 pub mod Run
-pub mod Schedule
 pub mod Stage
-pub mod Step
-pub mod StepFault
-pub mod Table
-pub mod Window
 pub mod Words

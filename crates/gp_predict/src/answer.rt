@@ -1,7 +1,7 @@
 ghost use Rattle.std.specs.Prelude.{◌≡◌, [], ◌∷◌, IfOk, string_bytes};
-ghost use Rattle.gp_predict.specs.Answer.{feasible, refused, stuck, words_refused};
+ghost use Rattle.gp_predict.specs.Answer.{feasible, stuck, words_refused};
 
-use crate::rule::Rule;
+use gp_replay::Rule;
 use gp_text::Row;
 use std::alloc::{AllocError, Global};
 
@@ -13,11 +13,18 @@ pub struct Answer {
 }
 
 /// The answer of a text of one line, which is given with its newline.
-fn one_line(alloc: Global, status: u8, line: String) -> Result<Answer, AllocError>
+pub fn one_line(alloc: Global, status: u8, line: String) -> Result<Answer, AllocError>
     ensures { IfOk result (λ answer. (answer.status ≡ status) × (answer.lines ≡ string_bytes line ∷ [])) }
 {
+    line_of(alloc, status, line.into_bytes())
+}
+
+/// The same, of a line that is given as bytes.
+pub fn line_of(alloc: Global, status: u8, line: Vec<u8>) -> Result<Answer, AllocError>
+    ensures { IfOk result (λ answer. (answer.status ≡ status) × (answer.lines ≡ line.items ∷ [])) }
+{
     let mut lines = Row::new(alloc);
-    lines.push(Row::from_vec(line.into_bytes()))?;
+    lines.push(Row::from_vec(line))?;
     Ok(Answer { status, lines })
 }
 
@@ -26,13 +33,6 @@ pub fn words_refused(alloc: Global) -> Result<Answer, AllocError>
     ensures { IfOk result (λ answer. answer ≡ words_refused) }
 {
     one_line(alloc, 2, String::from_str(alloc, "words\n")?)
-}
-
-/// The refusal of an input file, or of the recording as a whole.
-pub fn refused(alloc: Global, file: &str) -> Result<Answer, AllocError>
-    ensures { IfOk result (λ answer. answer ≡ refused file.now) }
-{
-    one_line(alloc, 3, format!(in alloc; "refused {file}\n")?)
 }
 
 /// The answer to a schedule of so many events that can happen.

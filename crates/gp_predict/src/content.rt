@@ -4,7 +4,7 @@ ghost use Rattle.gp_outside.specs.Folders.{File};
 ghost use Rattle.gp_predict.specs.Answer.{content_of, path_of};
 ghost use Rattle.gp_predict.specs.Stage.{Gives, IsRefusal};
 
-use crate::answer::refused;
+use crate::refusal::refused_as;
 use crate::stop::Stop;
 use gp_outside::{Folder, ReadFault};
 use gp_text::Row;
@@ -30,7 +30,8 @@ pub fn content_of<F: Folder>(
     let mut bytes = Vec::new(alloc);
     match folder.read(path.as_str(), limit, &mut bytes) {
         Ok(()) => Ok(Row::from_vec(bytes)),
-        Err(ReadFault::Absent | ReadFault::TooLong) => Err(Stop::Refused(refused(alloc, file)?)),
+        Err(ReadFault::Absent) => Err(Stop::Refused(refused_as(alloc, file, "absent")?)),
+        Err(ReadFault::TooLong) => Err(Stop::Refused(refused_as(alloc, file, "toolong")?)),
         Err(ReadFault::Failed) => Err(Stop::ReadFault),
         Err(ReadFault::Memory) => Err(Stop::Memory),
     }

@@ -3,23 +3,16 @@
 // `run` reads a recording, which is the separate traces of the threads of one run, and a schedule, and
 // says whether the schedule can happen: `feasible N`, or `stuck P R` with the place and the rule of
 // the first event that may not happen. Its contract is stated by one definition, the answer that is
-// due to the words and the files. A file that breaks a rule is refused by its name; a fault of the
-// folder or of the sink is never told as an answer.
+// due to the words and the files. A file that breaks a rule is refused by its name, the line and the
+// rule; a fault of the folder or of the sink is never told as an answer.
 #![tactic(auto)]
 
 mod answer;
 mod content;
-mod manifest;
-mod numbers;
-mod rule;
-mod running;
-mod schedule;
+mod refusal;
 mod stages;
-mod state;
 mod stop;
-mod table;
 mod top;
-mod window;
 mod words;
 
 pub use top::{Outcome, run};

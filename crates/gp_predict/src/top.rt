@@ -11,7 +11,8 @@ use crate::stop::Stop;
 use crate::words::folder_of;
 use gp_outside::{Folder, Gate, PutFault, Sink};
 use gp_text::Row;
-use std::alloc::{AllocError, Global};
+use std::alloc::AllocError;
+use std::thread::Threads;
 
 /// What the program ends with.
 #[derive(Debug, Drop)]
@@ -25,7 +26,7 @@ pub struct Outcome {
 ///
 /// `words` are the words after the program's name: `--task=replay` and the folder that holds
 /// `manifest`, `t1.trace` and so on, and `schedule`. Nothing passes the gate yet.
-pub fn run<R: AllocGlobal, F: Folder, S: Sink, G: Gate + Sync>(
+pub fn run<R: AllocGlobal + Threads + Sync, F: Folder, S: Sink, G: Gate + Sync>(
     rt: &R,
     words: &[String],
     folder: &mut F,
@@ -52,7 +53,7 @@ pub fn run<R: AllocGlobal, F: Folder, S: Sink, G: Gate + Sync>(
     ensures kept { F.files folder.new ≡ F.files folder.old }
     ensures range { result.status ≤ 6 }
 {
-    let status = match answer_of(rt.alloc(), words, folder) {
+    let status = match answer_of(rt, words, folder) {
         Ok(answer) => put_answer(sink, &answer),
         Err(Halt::ReadFault) => 4,
         Err(Halt::Memory) => 6,
@@ -80,7 +81,11 @@ impl From<AllocError> for Halt {
 }
 
 /// The answer that is due; a refusal is one.
-fn answer_of<F: Folder>(alloc: Global, words: &[String], folder: &mut F) -> Result<Answer, Halt>
+fn answer_of<R: AllocGlobal + Threads + Sync, F: Folder>(
+    rt: &R,
+    words: &[String],
+    folder: &mut F,
+) -> Result<Answer, Halt>
     ensures later { F.faults folder.old ≤ F.faults folder.new }
     ensures kept { F.files folder.new ≡ F.files folder.old }
     ensures due { IfOk result (λ given. WhereDue
@@ -90,9 +95,9 @@ fn answer_of<F: Folder>(alloc: Global, words: &[String], folder: &mut F) -> Resu
     ensures fault { result ≡ Err Halt.ReadFault → Rose (F.faults folder.old) (F.faults folder.new) }
 {
     let Some(directory) = folder_of(words) else {
-        return Ok(words_refused(alloc)?);
+        return Ok(words_refused(rt.alloc())?);
     };
-    match replay_at(alloc, folder, directory) {
+    match replay_at(rt, folder, directory) {
         Ok(answer) | Err(Stop::Refused(answer)) => Ok(answer),
         Err(Stop::ReadFault) => Err(Halt::ReadFault),
         Err(Stop::Memory) => Err(Halt::Memory),

@@ -8,5 +8,5 @@ use Rattle.gp_property.specs.declared.fault.PropertyFault.TheVariants.{Text, Mem
 abbrev pub from_text : TextFault → PropertyFault
 from_text (text.NotAscii line) = Text (text.NotAscii line)
 from_text (text.LongLine line) = Text (text.LongLine line)
-from_text text.NoLastNewline = Text text.NoLastNewline
+from_text (text.NoLastNewline line) = Text (text.NoLastNewline line)
 from_text text.Memory = Memory

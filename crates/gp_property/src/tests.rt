@@ -68,7 +68,7 @@ fn the_first_broken_rule_is_told(rt: HostRuntime) -> Result<(), Fail> {
         ),
         (
             b"property\nproperty a",
-            PropertyFault::Text(TextFault::NoLastNewline),
+            PropertyFault::Text(TextFault::NoLastNewline(2)),
         ),
         (b"property A\n", PropertyFault::BadWord(1)),
         (b"property\n", PropertyFault::BadWord(1)),

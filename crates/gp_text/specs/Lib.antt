@@ -3,4 +3,5 @@ pub mod Lines
 pub mod Name
 pub mod Numbers
 pub mod Padding
+pub mod Results
 pub mod Spelling

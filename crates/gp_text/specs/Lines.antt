@@ -41,15 +41,15 @@ abbrev pub with_line : ℕ → List ℕ → Result (List Line) TextFault → Res
 with_line n line (Ok lines) = Ok (kept_lines n (words_of line) ++ lines)
 with_line n line (Err fault) = Err fault
 
--- what follows the last newline, which is to be nothing
-abbrev pub at_end : List ℕ → Result (List Line) TextFault
-at_end [] = Ok []
-at_end (b ∷ bytes) = Err NoLastNewline
+-- what follows the last newline, in the line of number n, which is to be nothing
+abbrev pub at_end : ℕ → List ℕ → Result (List Line) TextFault
+at_end n [] = Ok []
+at_end n (b ∷ bytes) = Err (NoLastNewline n)
 
 -- the lines of these parts of a text, the first of which has the number n
 abbrev pub lines_from : ℕ → List (List ℕ) → Result (List Line) TextFault
 lines_from n [] = Ok []
-lines_from n (part ∷ []) = unless (check_of n part) (at_end part)
+lines_from n (part ∷ []) = unless (check_of n part) (at_end n part)
 lines_from n (part ∷ next ∷ more) =
     unless (check_of n part) (with_line n part (lines_from (n + 1) (next ∷ more)))
 

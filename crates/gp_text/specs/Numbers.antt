@@ -1,9 +1,10 @@
 -- The numbers that canonical decimals spell.
-use Rattle.std.specs.Prelude.{◌≡◌, ◌<◌, ◌↔◌, FitsSigned, decimal, ℕ, zero, suc, ◌^◌, ℤ, pos, negsuc, Bool, false, ◌&&◌, ◌==◌, nat_lt, if◌then◌else◌, List, [], ◌∷◌, Option, Some, None}
+use Rattle.std.specs.Prelude.{◌≡◌, ◌<◌, ◌↔◌, FitsSigned, decimal, ℕ, zero, suc, ◌^◌, ℤ, pos, negsuc, Bool, false, ◌&&◌, ◌==◌, nat_lt, if◌then◌else◌, List, [], ◌∷◌, Option, Some, None, nat_le}
 use Rattle.std.specs.Char.{is_ascii_digit}
 use Rattle.std.specs.Fmt.{signed_decimal}
 use Rattle.std.specs.Int.{w64}
 use Rattle.std.specs.List.{list_all}
+use Rattle.std.specs.Str.{bytes_eq}
 use Rattle.std.specs.Str.Parse.{digits_value}
 
 -- digits alone, at least one, and no zero before others
@@ -26,6 +27,16 @@ if_below bound (Some n) = if nat_lt n bound then Some n else None
 -- the number below 2^32 that these bytes spell
 abbrev pub small_number_of : List ℕ → Option ℕ
 small_number_of bytes = if_below (2 ^ 32) (number_of bytes)
+
+-- a number that lies between two bounds, both included
+abbrev pub between : ℕ → ℕ → Option ℕ → Option ℕ
+between low high None = None
+between low high (Some n) = if nat_le low n && nat_le n high then Some n else None
+
+-- the number of a line that is a keyword and one number
+abbrev pub number_after : List ℕ → List (List ℕ) → Option ℕ
+number_after keyword (first ∷ number ∷ []) = if bytes_eq first keyword then small_number_of number else None
+number_after keyword _ = None
 
 -- the number from 0 on as a signed one, where it is below 2^63
 abbrev pub positive : Option ℕ → Option ℤ

@@ -18,7 +18,9 @@ mod tests;
 pub use line::{Line, Word};
 pub use lines::{LONGEST_LINE, TextFault, read_lines};
 pub use name::{LONGEST_NAME, Name};
-pub use numbers::{one_spelling, print_i64, print_u64, read_i64, read_u32, read_u64};
+pub use numbers::{
+    between, number_after, one_spelling, print_i64, print_u64, read_i64, read_u32, read_u64,
+};
 pub use parts::cut;
 pub use row::Row;
 pub use spelling::{plain_words, reads_again};

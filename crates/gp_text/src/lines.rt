@@ -20,9 +20,9 @@ pub enum TextFault {
     /// The first line of over 4,096 bytes.
     #[error("line {0} is longer than 4,096 bytes")]
     LongLine(u32),
-    /// The text is not empty and does not end with a newline.
-    #[error("the text does not end with a newline")]
-    NoLastNewline,
+    /// The text is not empty and does not end with a newline; the number of its last line.
+    #[error("line {0}, the last one, does not end with a newline")]
+    NoLastNewline(u32),
     #[error("out of memory")]
     Memory,
 }
@@ -55,7 +55,7 @@ pub fn read_lines(alloc: Global, bytes: &[u8]) -> Result<Row<Line>, TextFault>
     }
     check(number, rest)?;
     if !rest.is_empty() {
-        return Err(TextFault::NoLastNewline);
+        return Err(TextFault::NoLastNewline(number));
     }
     Ok(lines)
 }

@@ -1,10 +1,11 @@
-ghost use Rattle.std.specs.Prelude.{◌≡◌, ◌++◌, ◌^◌, ◌<◌, IsTrue, SomeIff, OnOk, OnErr, decimal};
+ghost use Rattle.std.specs.Prelude.{◌≡◌, ◌++◌, ◌^◌, ◌<◌, ◌≤◌, IfSome, IsTrue, SomeIff, OnOk, OnErr, decimal};
 ghost use Rattle.std.specs.Char.{is_ascii_digit};
 ghost use Rattle.std.specs.Fmt.{signed_decimal};
 ghost use Rattle.std.specs.List.{list_all};
 ghost use Rattle.std.specs.Str.Parse.{digits_value};
-ghost use Rattle.gp_text.specs.Numbers.{OneSpelling, is_canonical, negative, number_of, signed_of, small_number_of};
+ghost use Rattle.gp_text.specs.Numbers.{OneSpelling, between, is_canonical, negative, number_after, number_of, signed_of, small_number_of};
 
+use crate::line::Word;
 use itoa::Buffer;
 use std::alloc::AllocError;
 
@@ -32,6 +33,24 @@ pub fn read_i64(bytes: &[u8]) -> Option<i64>
     match bytes {
         [b'-', size @ ..] => below_zero(read_u64(size)?),
         _ => i64::try_from(read_u64(bytes)?).ok(),
+    }
+}
+
+/// The number, where it lies within these bounds, both included.
+pub fn between(low: u32, high: u32, number: Option<u32>) -> Option<u32>
+    ensures due { result ≡ between low high number }
+    ensures within { IfSome result (λ n. (low ≤ n) × (n ≤ high)) }
+{
+    number.filter(|n| low <= *n && *n <= high)
+}
+
+/// The number of a line that is this keyword and one number.
+pub fn number_after(keyword: &[u8], words: &[Word]) -> Option<u32>
+    ensures { result ≡ number_after keyword.now words.now }
+{
+    match words {
+        [first, number] if first.as_bytes() == keyword => read_u32(number.as_bytes()),
+        _ => None,
     }
 }
 

@@ -1,10 +1,12 @@
--- Which words spell which event: a keyword, and what it takes.
-use Rattle.std.specs.Prelude.{ℕ, ℤ, Bool, List, [], ◌∷◌, Option, Some, None, if◌then◌else◌, nat_le, length, codes}
+-- Which words spell which entry of a trace: a keyword, and what it takes.
+use Rattle.std.specs.Prelude.{ℕ, ℤ, List, [], ◌∷◌, Option, Some, None, if◌then◌else◌, nat_le, length, codes}
 use Rattle.std.specs.Str.{bytes_eq}
 use Rattle.gp_text.specs.Name.{name_of}
 use Rattle.gp_text.specs.Numbers.{signed_of, small_number_of}
 use Rattle.gp_trace.specs.declared.event.Event.{Event}
-use Rattle.gp_trace.specs.declared.event.Event.TheVariants.{Read, Write, Start, Op}
+use Rattle.gp_trace.specs.declared.event.Event.TheVariants.{Read, Write, Acquire, Release, Start, Join, Op, Begin, End}
+use Rattle.gp_trace.specs.declared.line.Entry.{Entry}
+use Rattle.gp_trace.specs.declared.line.Entry.TheVariants.{Did, Mark, Exit}
 
 -- a name before further names, where all of them are names
 abbrev pub with_name : Option (List ℕ) → Option (List (List ℕ)) → Option (List (List ℕ))
@@ -29,10 +31,15 @@ write_with (Some name) (Some value) = Some (Write name value)
 write_with (Some name) None = None
 write_with None value = None
 
--- a start of the thread of this number
-abbrev pub start_with : Option ℕ → Option Event
-start_with (Some thread) = Some (Start thread)
-start_with None = None
+-- an event with this name alone
+abbrev pub event_with_name : (List ℕ → Event) → Option (List ℕ) → Option Event
+event_with_name event (Some name) = Some (event name)
+event_with_name event None = None
+
+-- an event with the number of this thread
+abbrev pub event_with_thread : (ℕ → Event) → Option ℕ → Option Event
+event_with_thread event (Some thread) = Some (event thread)
+event_with_thread event None = None
 
 -- the operation of this name on these objects
 abbrev pub op_with : Option (List ℕ) → Option (List (List ℕ)) → Option Event
@@ -50,21 +57,47 @@ abbrev pub write_of : List (List ℕ) → Option Event
 write_of (name ∷ value ∷ []) = write_with (name_of name) (signed_of value)
 write_of _ = None
 
--- `start U`, by the words after the keyword
-abbrev pub start_of : List (List ℕ) → Option Event
-start_of (thread ∷ []) = start_with (small_number_of thread)
-start_of _ = None
+-- `acquire name`, `release name`, `begin name` and `end name`, by the words after the keyword
+abbrev pub named_of : (List ℕ → Event) → List (List ℕ) → Option Event
+named_of event (name ∷ []) = event_with_name event (name_of name)
+named_of event _ = None
+
+-- `start U` and `join U`, by the words after the keyword
+abbrev pub thread_of : (ℕ → Event) → List (List ℕ) → Option Event
+thread_of event (thread ∷ []) = event_with_thread event (small_number_of thread)
+thread_of event _ = None
 
 -- `op name` and up to four names, by the words after the keyword
 abbrev pub op_of : List (List ℕ) → Option Event
 op_of [] = None
 op_of (name ∷ objects) = if nat_le (length objects) 4 then op_with (name_of name) (names_of objects) else None
 
--- the event that the words of a line spell, where they spell one
-abbrev pub event_of : List (List ℕ) → Option Event
-event_of [] = None
-event_of (keyword ∷ words) =
+-- an event as an entry
+abbrev pub did : Option Event → Option Entry
+did (Some event) = Some (Did event)
+did None = None
+
+-- an entry that is its keyword alone
+abbrev pub alone : Entry → List (List ℕ) → Option Entry
+alone entry [] = Some entry
+alone entry (word ∷ words) = None
+
+-- the event that a keyword and the words after it spell, where they spell one
+abbrev pub event_of : List ℕ → List (List ℕ) → Option Event
+event_of keyword words =
     if bytes_eq keyword (codes "read") then read_of words else
     (if bytes_eq keyword (codes "write") then write_of words else
-    (if bytes_eq keyword (codes "start") then start_of words else
-    (if bytes_eq keyword (codes "op") then op_of words else None)))
+    (if bytes_eq keyword (codes "acquire") then named_of Acquire words else
+    (if bytes_eq keyword (codes "release") then named_of Release words else
+    (if bytes_eq keyword (codes "start") then thread_of Start words else
+    (if bytes_eq keyword (codes "join") then thread_of Join words else
+    (if bytes_eq keyword (codes "op") then op_of words else
+    (if bytes_eq keyword (codes "begin") then named_of Begin words else
+    (if bytes_eq keyword (codes "end") then named_of End words else None))))))))
+
+-- the entry that the words of a line spell, where they spell one
+abbrev pub entry_of : List (List ℕ) → Option Entry
+entry_of [] = None
+entry_of (keyword ∷ words) =
+    if bytes_eq keyword (codes "mark") then alone Mark words else
+    (if bytes_eq keyword (codes "exit") then alone Exit words else did (event_of keyword words))

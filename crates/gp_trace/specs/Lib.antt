@@ -1,3 +1,6 @@
 pub mod Event
-pub mod Trace
 pub mod Faults
+pub mod Printed
+pub mod Rules
+pub mod Trace
+pub mod Walk

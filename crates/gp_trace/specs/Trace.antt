@@ -1,42 +1,45 @@
--- Which lines are the trace of which events.
-use Rattle.std.specs.Prelude.{ℕ, Bool, true, false, ◌==◌, List, [], ◌∷◌, Option, Some, None, Result, Ok, Err, if◌then◌else◌}
-use Rattle.gp_text.specs.declared.line.Line.{Line}
-use Rattle.gp_text.specs.declared.lines.TextFault.{TextFault}
-use Rattle.gp_text.specs.Lines.{lines_of}
+-- The trace of one thread, and which traces there are.
+use Rattle.std.specs.Prelude.{◌≡◌, ℕ, ◌^◌, ◌<◌, ◌≤◌, true, List, [], ◌∷◌, ◌++◌, length, drop, Option, Some, None, FitsSigned}
+use Rattle.std.specs.Int.{w64}
+use Rattle.std.specs.List.{AllByRecursion}
+use Rattle.gp_text.specs.Name.{is_name}
 use Rattle.gp_trace.specs.declared.event.Event.{Event}
-use Rattle.gp_trace.specs.declared.event.Event.TheVariants.{Read, Write, Start, Op}
-use Rattle.gp_trace.specs.declared.reading.TraceFault.{TraceFault}
-use Rattle.gp_trace.specs.declared.reading.TraceFault.TheVariants.{Malformed}
-use Rattle.gp_trace.specs.Event.{event_of}
+use Rattle.gp_trace.specs.declared.event.Event.TheVariants.{Read, Write, Acquire, Release, Start, Join, Op, Begin, End}
+use Rattle.gp_trace.specs.Rules.{at_first, AreWellFormed}
 
--- whether a thread that does this event starts itself
-abbrev pub names_self : ℕ → Event → Bool
-names_self thread (Read name value) = false
-names_self thread (Write name value) = false
-names_self thread (Start other) = other == thread
-names_self thread (Op name objects) = false
+-- a thread's number, its events in segments, and the segment, from 1, in which it ended
+pub record Trace : Type 0 where
+  pub thread : ℕ
+  pub segments : List (List Event)
+  pub exit_in : Option ℕ
 
--- the event of a line, where its words spell one that this thread may do
-abbrev pub checked_event : ℕ → Option Event → Result Event TraceFault
-checked_event thread None = Err Malformed
-checked_event thread (Some event) = if names_self thread event then Err Malformed else Ok event
+-- the events of the segments in one list
+abbrev pub in_order : List (List Event) → List Event
+in_order [] = []
+in_order (segment ∷ segments) = segment ++ in_order segments
 
--- an event before those of the lines after it; the first line that breaks a rule is told
-abbrev pub then_events : Result Event TraceFault → Result (List Event) TraceFault → Result (List Event) TraceFault
-then_events (Ok event) (Ok events) = Ok (event ∷ events)
-then_events (Ok event) (Err fault) = Err fault
-then_events (Err fault) events = Err fault
+-- names are names, numbers have their width, and an operation has at most four objects
+abbrev pub IsEvent : Event → Type 0
+IsEvent (Read name value) = (is_name name ≡ true) × FitsSigned w64 value
+IsEvent (Write name value) = (is_name name ≡ true) × FitsSigned w64 value
+IsEvent (Acquire lock) = is_name lock ≡ true
+IsEvent (Release lock) = is_name lock ≡ true
+IsEvent (Start other) = other < 2 ^ 32
+IsEvent (Join other) = other < 2 ^ 32
+IsEvent (Op name objects) = (is_name name ≡ true) × AllByRecursion (λ object. is_name object ≡ true) objects × (length objects ≤ 4)
+IsEvent (Begin region) = is_name region ≡ true
+IsEvent (End region) = is_name region ≡ true
 
--- the events that the lines of a thread's trace spell, in order
-abbrev pub events_of : ℕ → List Line → Result (List Event) TraceFault
-events_of thread [] = Ok []
-events_of thread (line ∷ lines) = then_events (checked_event thread (event_of line.words)) (events_of thread lines)
+-- the segment of the exit is one of them, and every later one is empty
+abbrev pub IsExit : Option ℕ → List (List Event) → Type 0
+IsExit None segments = Unit {0}
+IsExit (Some number) segments =
+    (1 ≤ number) × (number ≤ length segments) × AllByRecursion (λ segment. segment ≡ []) (drop number segments)
 
--- the events of a text, where it has lines
-abbrev pub events_in : ℕ → Result (List Line) TextFault → Result (List Event) TraceFault
-events_in thread (Ok lines) = events_of thread lines
-events_in thread (Err fault) = Err Malformed
-
--- the events that a text is the trace of, for the thread of this number
-abbrev pub trace_of : ℕ → List ℕ → Result (List Event) TraceFault
-trace_of thread bytes = events_in thread (lines_of bytes)
+-- what is true of every trace
+pub record IsLocalTrace (trace : Trace) : Type 0 where
+  pub some : 1 ≤ length trace.segments
+  pub few : length (in_order trace.segments) < 2 ^ 32
+  pub events : AllByRecursion IsEvent (in_order trace.segments)
+  pub formed : AreWellFormed trace.thread at_first (in_order trace.segments)
+  pub exits : IsExit trace.exit_in trace.segments

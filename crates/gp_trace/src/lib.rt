@@ -1,13 +1,21 @@
-// The events of one thread, and the reader of the file in which a recorder wrote them.
-//
-// A trace is the list of what one thread did, in its own order: the reads and writes with the values
-// that it saw, the threads that it started, and the operations that a pattern may ask for. It says
-// nothing of the other threads, and nothing of the order between threads.
+// The trace of one thread: what it did, in its own order, in segments between marks. A recorder sets a
+// mark at the same moment of the run in every thread's trace, so the segments of one number belong to
+// one window. Within one thread the rules of locks and regions are checked: a lock is released by its
+// holder alone and is not acquired twice, regions end innermost first, and no thread starts or joins
+// itself. `exit` ends the thread: only marks follow it. Nothing is said of the order between threads.
 #![tactic(auto)]
 
 mod event;
+mod fault;
 mod line;
-mod reading;
+mod printing;
+mod rules;
+#[cfg(test)]
+mod tests;
+mod trace;
+mod walk;
 
 pub use event::Event;
-pub use reading::{TraceFault, read_trace};
+pub use fault::TraceFault;
+pub use printing::{print_trace, trace_reads_again};
+pub use trace::{LocalTrace, read_trace, traces_fit};

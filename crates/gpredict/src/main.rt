@@ -15,23 +15,20 @@ mod tests;
 const NO_MEMORY: u8 = 6;
 
 fn main(rt: HostRuntime) -> ExitCode {
-    match words(&rt) {
-        Ok(words) => answer(rt, words.as_slice()),
+    let words = match words(&rt) {
+        Ok(words) => words,
         // A word that is no text is none of the words that `run` knows, and so refused like them.
-        Err(error) if error.kind() == ErrorKind::InvalidData => answer(rt, &[]),
-        Err(_) => ExitCode::from(NO_MEMORY),
-    }
+        Err(error) if error.kind() == ErrorKind::InvalidData => Vec::new(rt.alloc()),
+        Err(_) => return ExitCode::from(NO_MEMORY),
+    };
+    let mut folder = DirFolder::new(rt);
+    let mut sink = StdSink::new(rt);
+    let outcome = run(&rt, words.as_slice(), &mut folder, &mut sink, &FreeGate);
+    ExitCode::from(outcome.status)
 }
 
 /// The words after the program's name.
 fn words(rt: &HostRuntime) -> io::Result<Vec<String>> {
     let words = env::args(rt)?.skip(1).collect(rt.alloc())?;
     Ok(words)
-}
-
-fn answer(rt: HostRuntime, words: &[String]) -> ExitCode {
-    let mut folder = DirFolder::new(rt);
-    let mut sink = StdSink::new(rt);
-    let outcome = run(&rt, words, &mut folder, &mut sink, &FreeGate);
-    ExitCode::from(outcome.status)
 }

@@ -1,8 +1,0 @@
-use Rattle.std.proofs.Common.{length}
-use Rattle.std.proofs.lemmas.List.{length-replicate}
-use Rattle.gp_predict.specs.Step.{start_state}
-use Rattle.gp_predict.proofs.Counts.{run_is_distinct}
-use Rattle.gp_predict.proofs.running.events_happen_once.Goals as goal
-
-pub returns : goal.returns
-returns c = λ window ids r. run_is_distinct window (start_state window) r.0 ids (length-replicate (length window.segments) 0) r.1

@@ -1,0 +1,76 @@
+-- The texts by which input files are refused: `refused FILE LINE RULE`, or without a line.
+use Rattle.std.specs.Prelude.{ℕ, ◌++◌, List, [], ◌∷◌, codes, decimal}
+use Rattle.gp_text.specs.declared.lines.TextFault.{TextFault}
+use Rattle.gp_text.specs.declared.lines.TextFault.TheVariants as text
+use Rattle.gp_trace.specs.declared.fault.TraceFault.{TraceFault}
+use Rattle.gp_trace.specs.declared.fault.TraceFault.TheVariants as trace
+use Rattle.gp_window.specs.declared.fault.FileName.TheVariants as file
+use Rattle.gp_window.specs.FileNames.{name_of}
+use Rattle.gp_window.specs.declared.fault.RecordingFault.{RecordingFault}
+use Rattle.gp_window.specs.declared.fault.RecordingFault.TheVariants as recording
+use Rattle.gp_replay.specs.declared.schedule.ScheduleFault.{ScheduleFault}
+use Rattle.gp_replay.specs.declared.schedule.ScheduleFault.TheVariants as schedule
+use Rattle.gp_predict.specs.declared.answer.Answer.{Answer}
+
+-- a status with a text of one line
+abbrev pub one_line : ℕ → List ℕ → Answer
+one_line status text = record { status = status; lines = (text ++ codes "\n") ∷ [] }
+
+-- no text: replaying asks for no memory and for no folder here, so this answer is never due
+abbrev pub never_due : Answer
+never_due = record { status = 6; lines = [] }
+
+-- a file that is refused as a whole
+abbrev pub refused_as : List ℕ → List ℕ → Answer
+refused_as name rule = one_line 3 (codes "refused " ++ name ++ codes " " ++ rule)
+
+-- a file that is refused at a line
+abbrev pub refused_at : List ℕ → ℕ → List ℕ → Answer
+refused_at name line rule = one_line 3 (codes "refused " ++ name ++ codes " " ++ decimal line ++ codes " " ++ rule)
+
+-- a recording whose files do not fit together, told with a thread
+abbrev pub recording_refused : List ℕ → ℕ → Answer
+recording_refused rule thread = one_line 3 (codes "refused recording " ++ rule ++ codes " " ++ decimal thread)
+
+-- a recording in which two threads hold this lock over the mark before this window
+abbrev pub two_holders : List ℕ → ℕ → Answer
+two_holders lock window = one_line 3 (codes "refused recording twoholders " ++ lock ++ codes " " ++ decimal window)
+
+-- a file whose text has no lines
+abbrev pub text_refusal : List ℕ → TextFault → Answer
+text_refusal name (text.NotAscii line) = refused_at name line (codes "notascii")
+text_refusal name (text.LongLine line) = refused_at name line (codes "longline")
+text_refusal name (text.NoLastNewline line) = refused_at name line (codes "nolastnewline")
+text_refusal name text.Memory = never_due
+
+-- a trace that breaks a rule
+abbrev pub trace_refusal : List ℕ → TraceFault → Answer
+trace_refusal name (trace.Text fault) = text_refusal name fault
+trace_refusal name (trace.AfterExit line) = refused_at name line (codes "afterexit")
+trace_refusal name (trace.BadWord line) = refused_at name line (codes "badword")
+trace_refusal name (trace.NameSelf line) = refused_at name line (codes "nameself")
+trace_refusal name (trace.ReleaseUnheld line) = refused_at name line (codes "releaseunheld")
+trace_refusal name (trace.AcquireHeld line) = refused_at name line (codes "acquireheld")
+trace_refusal name (trace.RegionUnmatched line) = refused_at name line (codes "regionunmatched")
+trace_refusal name (trace.MarkCount line) = refused_at name line (codes "markcount")
+trace_refusal name trace.Memory = never_due
+
+-- files that are no recording
+abbrev pub recording_refusal : RecordingFault → Answer
+recording_refusal (recording.Absent name) = refused_as (name_of name) (codes "absent")
+recording_refusal (recording.TooLong name) = refused_as (name_of name) (codes "toolong")
+recording_refusal recording.ReadFailed = never_due
+recording_refusal (recording.ManifestText fault) = text_refusal (name_of file.Manifest) fault
+recording_refusal (recording.ManifestLine line) = refused_at (name_of file.Manifest) line (codes "badline")
+recording_refusal (recording.Trace thread fault) = trace_refusal (name_of (file.Trace thread)) fault
+recording_refusal (recording.UnknownThread thread) = recording_refused (codes "unknownthread") thread
+recording_refusal (recording.StartsRoot thread) = recording_refused (codes "startsroot") thread
+recording_refusal (recording.TwoStarts thread) = recording_refused (codes "twostarts") thread
+recording_refusal (recording.TwoHolders lock window) = two_holders lock window
+recording_refusal recording.Memory = never_due
+
+-- a text that is no schedule
+abbrev pub schedule_refusal : ScheduleFault → Answer
+schedule_refusal (schedule.Text fault) = text_refusal (codes "schedule") fault
+schedule_refusal (schedule.BadLine line) = refused_at (codes "schedule") line (codes "badline")
+schedule_refusal schedule.Memory = never_due

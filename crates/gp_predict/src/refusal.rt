@@ -1,0 +1,140 @@
+ghost use Rattle.std.specs.Prelude.{◌≡◌, IfOk, string_bytes};
+ghost use Rattle.gp_window.specs.FileNames.{name_of};
+ghost use Rattle.gp_predict.specs.Refusal.{recording_refusal, recording_refused, refused_as, refused_at, schedule_refusal, text_refusal, trace_refusal, two_holders};
+
+use crate::answer::{Answer, line_of, one_line};
+use gp_replay::ScheduleFault;
+use gp_text::{Name, TextFault, print_u64};
+use gp_trace::TraceFault;
+use gp_window::{FileName, RecordingFault};
+use std::alloc::{AllocError, Global};
+
+const REFUSED: u8 = 3;
+
+/// The refusal of files that are no recording. Want of memory, and a folder that failed, have none.
+pub fn recording_refusal(alloc: Global, fault: RecordingFault) -> Result<Answer, AllocError>
+    ensures text { IfOk result (λ answer. answer ≡ recording_refusal fault) }
+    ensures status { IfOk result (λ answer. answer.status ≡ 3) }
+{
+    match fault {
+        RecordingFault::Absent(name) => file_refused(alloc, name, "absent"),
+        RecordingFault::TooLong(name) => file_refused(alloc, name, "toolong"),
+        RecordingFault::ManifestText(fault) => text_refusal(alloc, "manifest", fault),
+        RecordingFault::ManifestLine(line) => refused_at(alloc, "manifest", line, "badline"),
+        RecordingFault::Trace(thread, fault) => trace_refusal(alloc, thread, fault),
+        RecordingFault::UnknownThread(thread) => recording_refused(alloc, "unknownthread", thread),
+        RecordingFault::StartsRoot(thread) => recording_refused(alloc, "startsroot", thread),
+        RecordingFault::TwoStarts(thread) => recording_refused(alloc, "twostarts", thread),
+        RecordingFault::TwoHolders(lock, window) => two_holders(alloc, &lock, window),
+        RecordingFault::ReadFailed | RecordingFault::Memory => Err(AllocError),
+    }
+}
+
+/// The refusal of a text that is no schedule. Want of memory has none.
+pub fn schedule_refusal(alloc: Global, fault: ScheduleFault) -> Result<Answer, AllocError>
+    ensures text { IfOk result (λ answer. answer ≡ schedule_refusal fault) }
+    ensures status { IfOk result (λ answer. answer.status ≡ 3) }
+{
+    match fault {
+        ScheduleFault::Text(fault) => text_refusal(alloc, "schedule", fault),
+        ScheduleFault::BadLine(line) => refused_at(alloc, "schedule", line, "badline"),
+        ScheduleFault::Memory => Err(AllocError),
+    }
+}
+
+/// The refusal of a file as a whole.
+pub fn refused_as(alloc: Global, name: &str, rule: &str) -> Result<Answer, AllocError>
+    ensures text { IfOk result (λ answer. answer ≡ refused_as name.now rule.now) }
+    ensures status { IfOk result (λ answer. answer.status ≡ 3) }
+{
+    one_line(
+        alloc,
+        REFUSED,
+        format!(in alloc; "refused {name} {rule}\n")?,
+    )
+}
+
+fn refused_at(alloc: Global, name: &str, line: u32, rule: &str) -> Result<Answer, AllocError>
+    ensures text { IfOk result (λ answer. answer ≡ refused_at name.now line rule.now) }
+    ensures status { IfOk result (λ answer. answer.status ≡ 3) }
+{
+    one_line(
+        alloc,
+        REFUSED,
+        format!(in alloc; "refused {name} {line} {rule}\n")?,
+    )
+}
+
+fn recording_refused(alloc: Global, rule: &str, thread: u32) -> Result<Answer, AllocError>
+    ensures text { IfOk result (λ answer. answer ≡ recording_refused rule.now thread) }
+    ensures status { IfOk result (λ answer. answer.status ≡ 3) }
+{
+    let mut line = Vec::from_slice(alloc, b"refused recording ")?;
+    line.extend_from_slice(rule.as_bytes())?;
+    line.push(b' ')?;
+    print_u64(&mut line, u64::from(thread))?;
+    line.push(b'\n')?;
+    line_of(alloc, REFUSED, line)
+}
+
+fn two_holders(alloc: Global, lock: &Name, window: u32) -> Result<Answer, AllocError>
+    ensures text { IfOk result (λ answer. answer ≡ two_holders lock.now window) }
+    ensures status { IfOk result (λ answer. answer.status ≡ 3) }
+{
+    let mut line = Vec::from_slice(alloc, b"refused recording twoholders ")?;
+    line.extend_from_slice(lock.as_bytes())?;
+    line.push(b' ')?;
+    print_u64(&mut line, u64::from(window))?;
+    line.push(b'\n')?;
+    line_of(alloc, REFUSED, line)
+}
+
+fn file_refused(alloc: Global, name: FileName, rule: &str) -> Result<Answer, AllocError>
+    ensures text { IfOk result (λ answer. answer ≡ refused_as (name_of name) rule.now) }
+    ensures status { IfOk result (λ answer. answer.status ≡ 3) }
+{
+    match name {
+        FileName::Manifest => refused_as(alloc, "manifest", rule),
+        FileName::Trace(thread) => {
+            let name = trace_name(alloc, thread)?;
+            refused_as(alloc, name.as_str(), rule)
+        }
+    }
+}
+
+fn text_refusal(alloc: Global, name: &str, fault: TextFault) -> Result<Answer, AllocError>
+    ensures text { IfOk result (λ answer. answer ≡ text_refusal name.now fault) }
+    ensures status { IfOk result (λ answer. answer.status ≡ 3) }
+{
+    match fault {
+        TextFault::NotAscii(line) => refused_at(alloc, name, line, "notascii"),
+        TextFault::LongLine(line) => refused_at(alloc, name, line, "longline"),
+        TextFault::NoLastNewline(line) => refused_at(alloc, name, line, "nolastnewline"),
+        TextFault::Memory => Err(AllocError),
+    }
+}
+
+fn trace_refusal(alloc: Global, thread: u32, fault: TraceFault) -> Result<Answer, AllocError>
+    ensures text { IfOk result (λ answer. answer ≡ trace_refusal (name_of (FileName.Trace thread)) fault) }
+    ensures status { IfOk result (λ answer. answer.status ≡ 3) }
+{
+    let name = trace_name(alloc, thread)?;
+    let name = name.as_str();
+    match fault {
+        TraceFault::Text(fault) => text_refusal(alloc, name, fault),
+        TraceFault::AfterExit(line) => refused_at(alloc, name, line, "afterexit"),
+        TraceFault::BadWord(line) => refused_at(alloc, name, line, "badword"),
+        TraceFault::NameSelf(line) => refused_at(alloc, name, line, "nameself"),
+        TraceFault::ReleaseUnheld(line) => refused_at(alloc, name, line, "releaseunheld"),
+        TraceFault::AcquireHeld(line) => refused_at(alloc, name, line, "acquireheld"),
+        TraceFault::RegionUnmatched(line) => refused_at(alloc, name, line, "regionunmatched"),
+        TraceFault::MarkCount(line) => refused_at(alloc, name, line, "markcount"),
+        TraceFault::Memory => Err(AllocError),
+    }
+}
+
+fn trace_name(alloc: Global, thread: u32) -> Result<String, AllocError>
+    ensures { IfOk result (λ name. string_bytes name ≡ name_of (FileName.Trace thread)) }
+{
+    format!(in alloc; "t{thread}.trace")
+}

@@ -1,0 +1,13 @@
+pub mod Countable
+pub mod Counts
+pub mod Fronts
+pub mod Holders
+pub mod Orders
+pub mod Parts
+pub mod Points
+pub mod Runs
+pub mod Sizes
+pub mod Starts
+pub mod Steps
+pub mod Tables
+pub mod Values

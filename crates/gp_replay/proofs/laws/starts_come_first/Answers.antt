@@ -1,0 +1,5 @@
+use Rattle.gp_replay.proofs.Orders.{started_first}
+use Rattle.gp_replay.proofs.laws.starts_come_first.Goals as goal
+
+pub returns : goal.returns
+returns c = λ window front id back r. started_first window r.0 front id back r.1

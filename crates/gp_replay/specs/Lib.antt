@@ -1,0 +1,11 @@
+pub mod Faults
+pub mod Feasible
+pub mod Holder
+pub mod Order
+pub mod Part
+pub mod Rule
+pub mod Schedule
+pub mod Start
+pub mod Step
+pub mod StepFault
+pub mod Value

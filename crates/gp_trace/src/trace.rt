@@ -1,0 +1,115 @@
+ghost use Rattle.std.specs.Prelude.{◌≡◌, ◌≢◌, ◌<◌, ◌≤◌, ◌+◌, ◌-◌, ◌^◌, ◌==◌, length, count_by, Ok, Err};
+ghost use Rattle.gp_text.specs.Lines.{lines_of};
+ghost use Rattle.gp_trace.specs.Trace.{IsLocalTrace};
+ghost use Rattle.gp_trace.specs.Walk.{after_lines, at_end, at_start, last_line, TracesFit, trace_in, trace_of};
+
+use crate::event::Event;
+use crate::fault::TraceFault;
+use crate::walk::{Walk, walk_lines};
+use gp_text::{Line, Row, read_lines};
+use std::alloc::Global;
+use std::marker::Model;
+
+/// The trace of one thread: its events in segments, one segment more than there are marks.
+#[derive(Debug, Drop)]
+pub struct LocalTrace {
+    thread: u32,
+    segments: Row<Row<Event>>,
+    exit_in: Option<u32>,
+}
+
+impl Model for LocalTrace {
+    ghost use Rattle.gp_trace.specs.Trace.{IsLocalTrace, Trace};
+
+    ghost Value = { Trace };
+
+    ghost view = { λ t. record { thread = t.thread; segments = t.segments; exit_in = t.exit_in } };
+
+    ghost invariant = { λ t. IsLocalTrace (record { thread = t.thread; segments = t.segments; exit_in = t.exit_in }) };
+}
+
+impl LocalTrace {
+    /// The number of the thread.
+    pub fn thread(&self) -> u32
+        ensures { result ≡ self.now.thread }
+    {
+        self.thread
+    }
+
+    /// The segments, in order.
+    pub fn segments(&self) -> &[Row<Event>]
+        ensures value { result.now ≡ self.now.segments }
+        ensures trace { IsLocalTrace self.now }
+    {
+        self.segments.as_slice()
+    }
+
+    /// The number, from 1, of the segment in which the thread ended.
+    pub fn exit_in(&self) -> Option<u32>
+        ensures { result ≡ self.now.exit_in }
+    {
+        self.exit_in
+    }
+}
+
+/// Reads the trace that a recorder wrote of the thread of this number, with so many marks: a line for
+/// each event, in the order in which the thread did them.
+pub fn read_trace(
+    alloc: Global,
+    thread: u32,
+    marks: u32,
+    bytes: &[u8],
+) -> Result<LocalTrace, TraceFault>
+    requires { length bytes.now < 2 ^ 32 - 1 }
+    ensures { result ≢ Err TraceFault.Memory → result ≡ trace_of thread marks bytes.now }
+{
+    let last = last_line(bytes);
+    let lines = read_lines(alloc, bytes)?;
+    read_entries(alloc, thread, marks, last, lines.as_slice())
+}
+
+/// What a text spells is a trace of the thread, with these marks.
+pub fn traces_fit()
+    ensures { TracesFit }
+{}
+
+fn last_line(bytes: &[u8]) -> u32
+    requires { length bytes.now < 2 ^ 32 - 1 }
+    ensures { result ≡ last_line bytes.now }
+{
+    newlines(bytes) as u32 + 1
+}
+
+fn newlines(bytes: &[u8]) -> usize
+    ensures count { result ≡ count_by (λ b. b == 10) bytes.now }
+    ensures fits { result ≤ length bytes.now }
+{
+    bytes.iter().filter(|byte| **byte == b'\n').count()
+}
+
+fn read_entries(
+    alloc: Global,
+    thread: u32,
+    marks: u32,
+    last: u32,
+    lines: &[Line],
+) -> Result<LocalTrace, TraceFault>
+    requires { length lines.now < 2 ^ 32 }
+    ensures { result ≢ Err TraceFault.Memory → result ≡ at_end thread marks last (after_lines thread marks at_start lines.now) }
+{
+    let Walk {
+        standing: _,
+        mut ended,
+        segment,
+        exit_in,
+    } = walk_lines(alloc, thread, marks, lines)?;
+    if ended.len() != marks as usize {
+        return Err(TraceFault::MarkCount(last));
+    }
+    ended.push(segment)?;
+    Ok(LocalTrace {
+        thread,
+        segments: ended,
+        exit_in,
+    })
+}

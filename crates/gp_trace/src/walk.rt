@@ -1,0 +1,152 @@
+ghost use Rattle.std.specs.Prelude.{◌≡◌, ◌≢◌, ◌<◌, ◌≤◌, ◌+◌, ◌-◌, ◌^◌, length, Err, IfOk};
+ghost use Rattle.gp_trace.specs.Walk.{after_exit, after_lines, at_exit, at_mark, at_start, before_exit, next, with_event};
+ghost use Rattle.gp_trace.specs.Rules.{check};
+
+use crate::event::Event;
+use crate::fault::TraceFault;
+use crate::line::{Entry, entry_of};
+use crate::rules::{Standing, after, check};
+use gp_text::{Line, Row};
+use std::alloc::Global;
+
+/// What was read of a trace: where the thread stands, the segments that have ended, the segment that
+/// goes on, and the number of the segment with the `exit`.
+#[derive(Debug, Drop)]
+pub struct Walk {
+    pub standing: Standing,
+    pub ended: Row<Row<Event>>,
+    pub segment: Row<Event>,
+    pub exit_in: Option<u32>,
+}
+
+/// Reads the lines up to the first that breaks a rule.
+pub fn walk_lines(
+    alloc: Global,
+    thread: u32,
+    marks: u32,
+    lines: &[Line],
+) -> Result<Walk, TraceFault>
+    requires { length lines.now < 2 ^ 32 }
+    ensures { result ≢ Err TraceFault.Memory → result ≡ after_lines thread marks at_start lines.now }
+{
+    let mut walk = at_start(alloc);
+    for line in lines {
+        walk = next(alloc, thread, marks, walk, line)?;
+    }
+    Ok(walk)
+}
+
+fn at_start(alloc: Global) -> Walk
+    ensures { result ≡ at_start }
+{
+    let standing = Standing {
+        held: Row::new(alloc),
+        begun: Row::new(alloc),
+    };
+    Walk {
+        standing,
+        ended: Row::new(alloc),
+        segment: Row::new(alloc),
+        exit_in: None,
+    }
+}
+
+fn next(alloc: Global, thread: u32, marks: u32, walk: Walk, line: &Line) -> Result<Walk, TraceFault>
+    requires { length walk.ended < 2 ^ 32 - 1 }
+    ensures next { result ≢ Err TraceFault.Memory → result ≡ next thread marks walk line.now }
+    ensures ended { IfOk result (λ after. length after.ended ≤ length walk.ended + 1) }
+{
+    let entry = entry_of(alloc, line.words.as_slice())?;
+    if walk.exit_in.is_some() {
+        after_exit(alloc, marks, line.number, walk, entry)
+    } else {
+        before_exit(alloc, thread, marks, line.number, walk, entry)
+    }
+}
+
+fn after_exit(
+    alloc: Global,
+    marks: u32,
+    line: u32,
+    walk: Walk,
+    entry: Option<Entry>,
+) -> Result<Walk, TraceFault>
+    ensures next { result ≢ Err TraceFault.Memory → result ≡ after_exit marks line walk entry }
+    ensures ended { IfOk result (λ after. length after.ended ≤ length walk.ended + 1) }
+{
+    match entry {
+        Some(Entry::Mark) => at_mark(alloc, marks, line, walk),
+        Some(Entry::Did(_) | Entry::Exit) | None => Err(TraceFault::AfterExit(line)),
+    }
+}
+
+fn before_exit(
+    alloc: Global,
+    thread: u32,
+    marks: u32,
+    line: u32,
+    walk: Walk,
+    entry: Option<Entry>,
+) -> Result<Walk, TraceFault>
+    requires { length walk.ended < 2 ^ 32 - 1 }
+    ensures next { result ≢ Err TraceFault.Memory → result ≡ before_exit thread marks line walk entry }
+    ensures ended { IfOk result (λ after. length after.ended ≤ length walk.ended + 1) }
+{
+    match entry {
+        Some(Entry::Did(event)) => with_event(thread, line, walk, event),
+        Some(Entry::Mark) => at_mark(alloc, marks, line, walk),
+        Some(Entry::Exit) => Ok(at_exit(walk)),
+        None => Err(TraceFault::BadWord(line)),
+    }
+}
+
+fn with_event(thread: u32, line: u32, walk: Walk, event: Event) -> Result<Walk, TraceFault>
+    ensures next { result ≢ Err TraceFault.Memory → result ≡ with_event walk event (check thread line walk.standing event) }
+    ensures ended { IfOk result (λ after. after.ended ≡ walk.ended) }
+{
+    let Walk {
+        standing,
+        ended,
+        mut segment,
+        exit_in,
+    } = walk;
+    check(thread, line, &standing, &event)?;
+    let standing = after(standing, &event)?;
+    segment.push(event)?;
+    Ok(Walk {
+        standing,
+        ended,
+        segment,
+        exit_in,
+    })
+}
+
+fn at_mark(alloc: Global, marks: u32, line: u32, walk: Walk) -> Result<Walk, TraceFault>
+    ensures next { result ≢ Err TraceFault.Memory → result ≡ at_mark marks line walk }
+    ensures ended { IfOk result (λ after. length after.ended ≤ length walk.ended + 1) }
+{
+    let Walk {
+        standing,
+        mut ended,
+        segment,
+        exit_in,
+    } = walk;
+    if ended.len() == marks as usize {
+        return Err(TraceFault::MarkCount(line));
+    }
+    ended.push(segment)?;
+    Ok(Walk {
+        standing,
+        ended,
+        segment: Row::new(alloc),
+        exit_in,
+    })
+}
+
+fn at_exit(mut walk: Walk) -> Walk
+    requires { length walk.ended < 2 ^ 32 - 1 }
+    ensures { result ≡ at_exit walk }
+{
+    walk.exit_in = Some(walk.ended.len() as u32 + 1);
+    walk
+}

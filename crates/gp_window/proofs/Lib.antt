@@ -1,0 +1,9 @@
+pub mod Contents
+pub mod Fronts
+pub mod Heads
+pub mod Marks
+pub mod Parsed
+pub mod Places
+pub mod StartValues
+pub mod Tables
+pub mod Threads

@@ -1,0 +1,13 @@
+pub mod FileNames
+pub mod Holders
+pub mod Manifest
+pub mod ManifestFaults
+pub mod ManifestForm
+pub mod Number
+pub mod Parsed
+pub mod Recording
+pub mod RecordingFaults
+pub mod RecordingForm
+pub mod Starts
+pub mod Table
+pub mod WindowForm

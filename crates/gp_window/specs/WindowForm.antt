@@ -1,0 +1,101 @@
+-- A window of a recording, read off the recording.
+use Rattle.std.specs.Prelude.{ℕ, ℤ, pos, zero, suc, ◌≡◌, ◌≤◌, ◌+◌, ◌-◌, Bool, false, not, ◌==◌, ◌||◌, List, [], ◌∷◌, Option, Some, None, if◌then◌else◌, filter, flat_map, map, nat_le, take}
+use Rattle.std.specs.Cmp.Lexicographic.{slice_cmp}
+use Rattle.std.specs.Ordering.{int_eq, nat_cmp}
+use Rattle.gp_trace.specs.declared.event.Event.{Event}
+use Rattle.gp_trace.specs.declared.event.Event.TheVariants.{Read, Write, Acquire, Release, Start, Join, Op, Begin, End}
+use Rattle.gp_trace.specs.Trace.{Trace}
+use Rattle.gp_window.specs.declared.manifest.StartValue.{StartValue}
+use Rattle.gp_window.specs.Holders.{held_over, segment_after}
+use Rattle.gp_window.specs.RecordingForm.{RecordingForm, IsRecording}
+use Rattle.gp_window.specs.Starts.{is_among}
+use Rattle.gp_window.specs.Table.{with_entry}
+
+-- a window: its number, the events of each thread in it, and what holds when it begins
+pub record WindowForm : Type 0 where
+  pub number : ℕ
+  pub segments : List (List Event)
+  pub start_values : List (List ℕ × ℤ)
+  pub holders : List (List ℕ × ℕ)
+  pub started : List ℕ
+  pub exited : List ℕ
+
+-- the values of variables, in the order of their names, after these were given
+abbrev pub given_all : List (List ℕ × ℤ) → List StartValue → List (List ℕ × ℤ)
+given_all values [] = values
+given_all values (given ∷ more) = given_all (with_entry (slice_cmp nat_cmp) values given.variable given.value) more
+
+-- the values at the beginning of a window: those of the window before, but where the manifest gives others
+abbrev pub values_at : List StartValue → ℕ → List (List ℕ × ℤ)
+values_at given zero = []
+values_at given (suc k) = given_all (values_at given k) (filter (λ value. value.window == suc k) given)
+
+-- a value other than 0
+abbrev pub is_kept : List ℕ × ℤ → Bool
+is_kept value = not (int_eq value.1 (pos 0))
+
+-- the start values of a window, without those that are 0
+abbrev pub start_values_of : List StartValue → ℕ → List (List ℕ × ℤ)
+start_values_of given k = filter is_kept (values_at given k)
+
+-- the thread that an event starts
+abbrev pub started_by : Event → List ℕ
+started_by (Start thread) = thread ∷ []
+started_by (Read name value) = []
+started_by (Write name value) = []
+started_by (Acquire name) = []
+started_by (Release name) = []
+started_by (Join thread) = []
+started_by (Op name objects) = []
+started_by (Begin name) = []
+started_by (End name) = []
+
+-- the threads that a thread starts in its first segments
+abbrev pub started_in : ℕ → Trace → List ℕ
+started_in before trace = flat_map (λ segment. flat_map started_by segment) (take before trace.segments)
+
+-- the threads that are started in so many first segments
+abbrev pub started_before : ℕ → List Trace → List ℕ
+started_before before traces = flat_map (started_in before) traces
+
+-- so many numbers, from this one on
+abbrev pub numbers_from : ℕ → ℕ → List ℕ
+numbers_from n zero = []
+numbers_from n (suc more) = n ∷ numbers_from (n + 1) more
+
+-- those of the threads that are roots or were started
+abbrev pub chosen : List ℕ → List ℕ → List ℕ → List ℕ
+chosen roots started threads = filter (λ thread. is_among roots thread || is_among started thread) threads
+
+-- the roots and the threads that were started before, rising
+abbrev pub started_of : RecordingForm → ℕ → List ℕ
+started_of r before =
+    chosen r.manifest.roots (started_before before r.traces) (numbers_from 1 r.manifest.threads)
+
+-- whether a thread that ends in this segment, if in any, has ended by the end of window k
+abbrev pub has_exited : ℕ → Option ℕ → Bool
+has_exited k None = false
+has_exited k (Some segment) = nat_le segment k
+
+-- the threads that end in window k or in an earlier one, in order
+abbrev pub exited_of : ℕ → List Trace → List ℕ
+exited_of k traces = map (λ trace. trace.thread) (filter (λ trace. has_exited k trace.exit_in) traces)
+
+-- window k of a recording: the segments of that number, and what holds after all earlier ones
+abbrev pub window_of : RecordingForm → ℕ → WindowForm
+window_of r k = record {
+  number = k;
+  segments = map (segment_after (k - 1)) r.traces;
+  start_values = start_values_of r.manifest.values k;
+  holders = held_over r.traces (k - 1);
+  started = started_of r (k - 1);
+  exited = exited_of k r.traces;
+}
+
+-- a window is one of the windows of some recording
+pub record IsWindow (w : WindowForm) : Type 0 where
+  pub recording : RecordingForm
+  pub rules : IsRecording recording
+  pub first : 1 ≤ w.number
+  pub last : w.number ≤ recording.manifest.epochs
+  pub is : w ≡ window_of recording w.number

@@ -1,0 +1,71 @@
+ghost use Rattle.std.specs.Prelude.{◌≡◌, ◌≢◌, All, [], length, Err, Ok};
+ghost use Rattle.gp_trace.specs.Trace.{IsLocalTrace};
+ghost use Rattle.gp_window.specs.RecordingForm.{AreNumbered, IsRecording};
+ghost use Rattle.gp_window.specs.Recording.{checked};
+
+use crate::fault::RecordingFault;
+use crate::holders::check_marks;
+use crate::manifest::Manifest;
+use crate::starts::walk_traces;
+use gp_text::Row;
+use gp_trace::LocalTrace;
+use std::alloc::Global;
+use std::marker::Model;
+
+/// A recorded run: its manifest, and the trace of each thread, in order of thread.
+#[derive(Debug, Drop)]
+pub struct Recording {
+    manifest: Manifest,
+    traces: Row<LocalTrace>,
+}
+
+impl Model for Recording {
+    ghost use Rattle.gp_window.specs.RecordingForm.{IsRecording, RecordingForm};
+
+    ghost Value = { RecordingForm };
+
+    ghost view = { λ r. record { manifest = r.manifest; traces = r.traces } };
+
+    ghost invariant = { λ r. IsRecording (record { manifest = r.manifest; traces = r.traces }) };
+}
+
+impl Recording {
+    /// The manifest.
+    pub fn manifest(&self) -> &Manifest
+        ensures value { result.now ≡ self.now.manifest }
+        ensures rules { IsRecording self.now }
+    {
+        &self.manifest
+    }
+
+    /// The traces, in order of thread.
+    pub fn traces(&self) -> &[LocalTrace]
+        ensures value { result.now ≡ self.now.traces }
+        ensures rules { IsRecording self.now }
+    {
+        self.traces.as_slice()
+    }
+}
+
+/// The recording of a manifest and traces, where the checks between them hold.
+pub fn checked(
+    alloc: Global,
+    manifest: Manifest,
+    traces: Row<LocalTrace>,
+) -> Result<Recording, RecordingFault>
+    requires count { length traces ≡ manifest.threads }
+    requires numbered { AreNumbered manifest.epochs 1 traces }
+    requires traces { All IsLocalTrace traces }
+    ensures due { result ≢ Err RecordingFault.Memory → result ≡ checked manifest traces }
+    ensures no_fault { result ≢ Err RecordingFault.ReadFailed }
+{
+    let mut started = Row::new(alloc);
+    walk_traces(
+        manifest.threads(),
+        manifest.roots(),
+        &mut started,
+        traces.as_slice(),
+    )?;
+    check_marks(alloc, manifest.epochs(), traces.as_slice())?;
+    Ok(Recording { manifest, traces })
+}

@@ -1,0 +1,92 @@
+-- Where an atom has no event left, no list is found.
+use Rattle.std.proofs.Common.{◌≡◌, refl, ap, ◌∙◌, sym, suc, Bool, true, false, cond, List, [], ◌∷◌, map, length, arith}
+use Rattle.std.specs.Prelude.{filter, ◌||◌, Option, Some, None, Result, Ok, Err, IfOk}
+use Rattle.std.specs.List.{flat_map, list_any}
+use Rattle.std.proofs.Math.Dec.{eqb-suc-zero}
+use Rattle.gp_trace.specs.declared.event.Event.{Event}
+use Rattle.gp_window.specs.declared.schedule.EventId.{EventId}
+use Rattle.gp_instance.specs.declared.atom.PatternAtom.{PatternAtom}
+use Rattle.gp_instance.specs.declared.chosen.Chosen.{Chosen}
+use Rattle.gp_instance.specs.Search.{chosen_of, is_dead, Leaves, may_stand, narrowed, search, threads_fit, unless_dead, where_threads_fit}
+use Rattle.gp_instance.proofs.Lists.{flat_map_agree}
+use Rattle.gp_instance.proofs.ThreadsFit.{no_threads}
+
+-- one test fails, so the other passes
+other_passes : (a b : Bool) → b ≡ true → (a || b) ≡ true
+other_passes true b passes = refl
+other_passes false b passes = passes
+
+-- the first has something left, so one of the rest has nothing
+rest_dead : (id : EventId) (ids : List EventId) (domains : List (List EventId)) → list_any is_dead ((id ∷ ids) ∷ domains) ≡ true → list_any is_dead domains ≡ true
+rest_dead id ids domains dead = ap (λ first. first || list_any is_dead domains) (sym (eqb-suc-zero (length ids))) ∙ dead
+
+-- what is dead stays dead
+stays_dead : (segments : List (List Event)) (chosen : Chosen) (atoms : List PatternAtom) (domains : List (List EventId))
+    → length domains ≡ length atoms → list_any is_dead domains ≡ true → list_any is_dead (narrowed segments chosen atoms domains) ≡ true
+stays_dead segments chosen [] [] same dead = cc
+stays_dead segments chosen [] (ids ∷ domains) same dead = absurd (omega arith)
+stays_dead segments chosen (atom ∷ atoms) [] same dead = absurd (omega arith)
+stays_dead segments chosen (atom ∷ atoms) ([] ∷ domains) same dead = refl
+stays_dead segments chosen (atom ∷ atoms) ((id ∷ ids) ∷ domains) same dead =
+    other_passes (is_dead (filter (may_stand segments chosen atom) (id ∷ ids))) (list_any is_dead (narrowed segments chosen atoms domains))
+    (stays_dead segments chosen atoms domains (omega arith) (rest_dead id ids domains dead))
+
+-- as many domains as atoms
+pub narrowed_long : (segments : List (List Event)) (chosen : Chosen) (atoms : List PatternAtom) (domains : List (List EventId))
+    → length domains ≡ length atoms → length (narrowed segments chosen atoms domains) ≡ length atoms
+narrowed_long segments chosen [] domains same = refl
+narrowed_long segments chosen (atom ∷ atoms) [] same = absurd (omega arith)
+narrowed_long segments chosen (atom ∷ atoms) (ids ∷ domains) same = ap suc (narrowed_long segments chosen atoms domains (omega arith))
+
+-- joins of nothing
+flat_map_none : {A B : Type 0} (xs : List A) → flat_map {A = B} (λ x. []) xs ≡ []
+flat_map_none [] = refl
+flat_map_none (x ∷ xs) = flat_map_none xs
+
+-- nothing is found
+pub dead_end : (segments : List (List Event)) (atoms : List PatternAtom) (domains : List (List EventId))
+    → length domains ≡ length atoms → list_any is_dead domains ≡ true → search segments atoms domains ≡ []
+dead_end segments [] [] same dead = cc
+dead_end segments [] (ids ∷ domains) same dead = absurd (omega arith)
+dead_end segments (atom ∷ atoms) [] same dead = absurd (omega arith)
+dead_end segments (atom ∷ atoms) ([] ∷ domains) same dead = refl
+dead_end segments (atom ∷ atoms) ((id ∷ ids) ∷ domains) same dead =
+    let left : EventId → List (List EventId) = λ first. narrowed segments (chosen_of segments atom first) atoms domains in
+    let rest = rest_dead id ids domains dead in
+    flat_map_agree (λ first. map (λ more. first ∷ more) (search segments atoms (left first))) (λ first. [])
+    (λ first. ap (map (λ more. first ∷ more)) (dead_end segments atoms (left first) (narrowed_long segments (chosen_of segments atom first) atoms domains (omega arith)) (stays_dead segments (chosen_of segments atom first) atoms domains (omega arith) rest)))
+    (id ∷ ids)
+    ∙ flat_map_none (id ∷ ids)
+
+-- what is left
+pub leaves : (segments : List (List Event)) (atoms : List PatternAtom) (due : List (List EventId)) (left : Option (List (List EventId)))
+    → length due ≡ length atoms → left ≡ unless_dead due → Leaves segments atoms due left
+leaves segments atoms due left long is =
+    let by_cases : (b : Bool) → list_any is_dead due ≡ b → left ≡ cond b None (Some due) → Leaves segments atoms due left = λ b. elim b as (λ v. list_any is_dead due ≡ v → left ≡ cond v None (Some due) → Leaves segments atoms due left) [
+      | true ↦ λ dead none. rw none (dead_end segments atoms due long dead)
+      | false ↦ λ alive some. rw some (refl, long)
+    ] in
+    by_cases (list_any is_dead due) refl is
+
+-- what is left where threads fit
+leaves_fitting : (segments : List (List Event)) (atoms : List PatternAtom) (due left : List (List EventId))
+    → left ≡ due → length left ≡ length atoms → Leaves segments atoms due (where_threads_fit atoms left)
+leaves_fitting segments atoms due left is long =
+    let by_cases : (b : Bool) → threads_fit [] atoms left ≡ b → Leaves segments atoms due (cond b (Some left) None) = λ b. elim b as (λ v. threads_fit [] atoms left ≡ v → Leaves segments atoms due (cond v (Some left) None)) [
+      | true ↦ λ fit. (is, long)
+      | false ↦ λ fails. ap (search segments atoms) (sym is) ∙ no_threads segments atoms left fails
+    ] in
+    by_cases (threads_fit [] atoms left) refl
+
+-- what is left where something is, and threads fit
+pub leaves_some : {E : Type 0} (segments : List (List Event)) (atoms : List PatternAtom) (due left : List (List EventId)) (kept : Result (Option (List (List EventId))) E)
+    → Leaves segments atoms due (Some left) → IfOk kept (λ domains. domains ≡ where_threads_fit atoms left) → IfOk kept (Leaves segments atoms due)
+leaves_some segments atoms due left (Ok kept) some fit = rw fit (leaves_fitting segments atoms due left some.0 some.1)
+leaves_some segments atoms due left (Err fault) some fit = fit
+
+-- what the narrowing after a choice leaves
+pub leaves_narrowed : (segments : List (List Event)) (chosen due : Chosen) (atoms : List PatternAtom) (others : List (List EventId)) (left : Option (List (List EventId)))
+    → chosen ≡ due → length others ≡ length atoms → left ≡ unless_dead (narrowed segments chosen atoms others)
+    → Leaves segments atoms (narrowed segments due atoms others) left
+leaves_narrowed segments chosen due atoms others left is same kept =
+    leaves segments atoms (narrowed segments due atoms others) left (narrowed_long segments due atoms others same) (kept ∙ ap (λ c. unless_dead (narrowed segments c atoms others)) is)

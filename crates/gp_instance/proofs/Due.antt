@@ -1,0 +1,43 @@
+-- The instances that were found are those that are due.
+use Rattle.std.proofs.Common.{◌≡◌, ap, ◌∙◌, subst, sym, ℕ, ◌<◌, ◌≤◌, cond, List, [], length, map, arith}
+use Rattle.std.specs.Prelude.{Ok, Err}
+use Rattle.std.proofs.lemmas.Bool.{le-ltb, lt-ltb}
+use Rattle.std.proofs.lemmas.List.{length-map}
+use Rattle.gp_window.specs.WindowForm.{WindowForm}
+use Rattle.gp_property.specs.declared.property.Property.{Property}
+use Rattle.gp_instance.specs.declared.instance.Instance.{Instance}
+use Rattle.gp_instance.specs.declared.instance.InstancesFault.TheVariants.{TooMany}
+use Rattle.gp_instance.specs.Atoms.{atoms_of}
+use Rattle.gp_instance.specs.Instances.{due_instances, instances_of, numbered}
+use Rattle.gp_instance.specs.Search.{candidates_of, first_instances, search}
+use Rattle.gp_instance.proofs.Found.{search_finds}
+use Rattle.gp_instance.proofs.Limit.{all-first, length-first}
+
+-- what the search of a window finds up to the limit
+abbrev pub found_of : WindowForm → Property → ℕ → List Instance
+found_of window property number =
+    first_instances [] (map (numbered number) (search window.segments (atoms_of property) (map (candidates_of window.segments) (atoms_of property))))
+
+-- the same of the instances
+found_is : (window : WindowForm) (property : Property) (number : ℕ) → found_of window property number ≡ first_instances [] (map (numbered number) (instances_of window property))
+found_is window property number = ap (λ lists. first_instances [] (map (numbered number) lists)) (search_finds window property)
+
+-- too many
+pub due_too_many : (window : WindowForm) (property : Property) (number : ℕ) (found : List Instance)
+    → found ≡ found_of window property number → 10000 < length found → Err TooMany ≡ due_instances window property number
+unfolding due_instances
+due_too_many window property number found is over =
+    let listed = instances_of window property in
+    let many : 10000 < length listed = omega (arith, length-first (map (numbered number) listed) (subst (λ xs. 10000 < length xs) (is ∙ found_is window property number) over), length-map listed (numbered number)) in
+    ap (λ b. cond b (Err TooMany) (Ok (map (numbered number) listed))) (sym (lt-ltb 10000 (length listed) many))
+
+-- not too many
+pub due_all : (window : WindowForm) (property : Property) (number : ℕ) (found : List Instance)
+    → found ≡ found_of window property number → length found ≤ 10000 → Ok found ≡ due_instances window property number
+unfolding due_instances
+due_all window property number found is few =
+    let listed = instances_of window property in
+    let all = all-first (map (numbered number) listed) (subst (λ xs. length xs ≤ 10000) (is ∙ found_is window property number) few) in
+    let short : length listed ≤ 10000 = omega (arith, all.0, length-map listed (numbered number)) in
+    ap Ok (is ∙ found_is window property number ∙ all.1)
+    ∙ ap (λ b. cond b (Err TooMany) (Ok (map (numbered number) listed))) (sym (le-ltb 10000 (length listed) short))

@@ -1,0 +1,10 @@
+pub mod Atoms
+pub mod Shape
+pub mod Region
+pub mod Pairs
+pub mod Instance
+pub mod Instances
+pub mod Matches
+pub mod Search
+pub mod Listed
+pub mod Rows

@@ -1,0 +1,169 @@
+ghost use Rattle.std.specs.Prelude.{◌≡◌, ◌++◌, filter, length, IfOk, OnOk};
+ghost use Rattle.std.specs.List.{list_all};
+ghost use Rattle.std.specs.Option.{option_copied};
+ghost use Rattle.gp_instance.specs.Instance.{agree, bindings_with, closes, is_at, is_same_mark};
+ghost use Rattle.gp_instance.specs.Search.{agrees_along, all_agree, ends_region, keeps_thread, may_stand, narrowed, opens_region, rises_from, unless_dead};
+ghost use Rattle.gp_instance.specs.Shape.{binding_of};
+
+use crate::atom::PatternAtom;
+use crate::candidate::{agree, event_at, keep_id, segment_of};
+use crate::chosen::Chosen;
+use crate::matching::is_same;
+use crate::region::end_of;
+use crate::shape::{names_of, terms_of};
+use gp_property::{Shape, Term};
+use gp_text::{Name, Row};
+use gp_trace::Event;
+use gp_window::EventId;
+use std::alloc::{AllocError, Global};
+
+/// For each later atom those of its events that may stand beside the chosen one, `None` where an
+/// atom has none left.
+pub fn narrowed(
+    alloc: Global,
+    segments: &[Row<Event>],
+    chosen: &Chosen,
+    atoms: &[PatternAtom],
+    domains: &[Row<EventId>],
+) -> Result<Option<Row<Row<EventId>>>, AllocError>
+    requires { length domains.now ≡ length atoms.now }
+    ensures { IfOk result (λ kept. kept ≡ unless_dead (narrowed segments.now chosen.now atoms.now domains.now)) }
+{
+    let mut kept = Row::new(alloc);
+    for (place, atom) in atoms.iter().enumerate() {
+        let ids = beside(alloc, segments, chosen, atom, domains[place].as_slice())?;
+        if ids.is_empty() {
+            return Ok(None);
+        }
+        kept.push(ids)?;
+    }
+    Ok(Some(kept))
+}
+
+fn beside(
+    alloc: Global,
+    segments: &[Row<Event>],
+    chosen: &Chosen,
+    atom: &PatternAtom,
+    ids: &[EventId],
+) -> Result<Row<EventId>, AllocError>
+    ensures { IfOk result (λ kept. kept ≡ filter (may_stand segments.now chosen.now atom.now) ids.now) }
+{
+    let mut kept = Row::new(alloc);
+    for id in ids {
+        let keep = may_stand(segments, chosen, atom, *id);
+        keep_id(&mut kept, *id, keep)?;
+    }
+    Ok(kept)
+}
+
+/// Whether an event of a later atom may stand beside the chosen one.
+#[tactic(auto, unfolding(crate::specs::Search::may_stand))]
+fn may_stand(segments: &[Row<Event>], chosen: &Chosen, atom: &PatternAtom, id: EventId) -> bool
+    ensures { result ≡ may_stand segments.now chosen.now atom.now id }
+{
+    keeps_thread(chosen, atom, id)
+        && !is_same(chosen.id, id)
+        && rises_from(chosen, atom, id)
+        && ends_region(chosen, atom, id)
+        && opens_region(segments, chosen, atom, id)
+        && all_agree(
+            chosen.bindings.as_slice(),
+            &atom.shape,
+            event_at(segments, id),
+        )
+}
+
+fn keeps_thread(chosen: &Chosen, atom: &PatternAtom, id: EventId) -> bool
+    ensures { result ≡ keeps_thread chosen.now atom.now id }
+{
+    let same = chosen.id.thread == id.thread;
+    if chosen.thread_var.as_bytes() == atom.thread_var.as_bytes() {
+        same
+    } else {
+        !same
+    }
+}
+
+fn rises_from(chosen: &Chosen, atom: &PatternAtom, id: EventId) -> bool
+    ensures { result ≡ rises_from chosen.now atom.now id }
+{
+    chosen.id.thread != id.thread || chosen.step == atom.step || chosen.id.index < id.index
+}
+
+fn ends_region(chosen: &Chosen, atom: &PatternAtom, id: EventId) -> bool
+    ensures { result ≡ ends_region chosen.now atom.now id }
+{
+    !is_same_mark(chosen.opens, atom.closes)
+        || (chosen.id.thread == id.thread && is_at(chosen.region_end, id.index))
+}
+
+fn opens_region(segments: &[Row<Event>], chosen: &Chosen, atom: &PatternAtom, id: EventId) -> bool
+    ensures { result ≡ opens_region segments.now chosen.now atom.now id }
+{
+    !is_same_mark(atom.opens, chosen.closes) || closes(segments, id, chosen.id)
+}
+
+fn closes(segments: &[Row<Event>], begin: EventId, end: EventId) -> bool
+    ensures { result ≡ closes segments.now begin end }
+{
+    begin.thread == end.thread
+        && is_at(
+            end_of(segment_of(segments, begin.thread), begin.index as usize),
+            end.index,
+        )
+}
+
+fn is_same_mark(one: Option<u8>, other: Option<u8>) -> bool
+    ensures { result ≡ is_same_mark one other }
+{
+    match (one, other) {
+        (Some(one), Some(other)) => one == other,
+        _ => false,
+    }
+}
+
+fn is_at(found: Option<usize>, index: u32) -> bool
+    ensures { result ≡ is_at found index }
+{
+    match found {
+        Some(found) => found == index as usize,
+        None => false,
+    }
+}
+
+/// Whether the parameters of a shape stand for the same names in its event as these.
+fn all_agree(bindings: &[(Name, Name)], shape: &Option<Shape>, event: Option<&Event>) -> bool
+    ensures { result ≡ all_agree bindings.now (bindings_with shape.now (option_copied event.entry)) }
+{
+    match (shape, event) {
+        (Some(shape), Some(event)) => each_agrees(bindings, terms_of(shape), names_of(event)),
+        _ => true,
+    }
+}
+
+fn each_agrees(bindings: &[(Name, Name)], terms: &[Term], names: &[Name]) -> bool
+    ensures { result ≡ list_all (λ binding. agrees_along binding terms.now names.now) bindings.now }
+{
+    bindings
+        .iter()
+        .all(|binding| agrees_along(binding, terms, names))
+}
+
+fn agrees_along(binding: &(Name, Name), terms: &[Term], names: &[Name]) -> bool
+    ensures { result ≡ agrees_along binding.now terms.now names.now }
+{
+    terms
+        .iter()
+        .zip(names)
+        .all(|(term, name)| agrees_at(binding, term, name))
+}
+
+fn agrees_at(binding: &(Name, Name), term: &Term, name: &Name) -> bool
+    ensures { result ≡ list_all (agree binding.now) (binding_of (term.now, name.now)) }
+{
+    match term {
+        Term::Param(parameter) => agree(binding, &(*parameter, *name)),
+        Term::Is(_) | Term::Any => true,
+    }
+}

@@ -1,0 +1,29 @@
+// Instances: the choices of events of a window that a pattern may speak of, and where a schedule
+// matches one.
+//
+// An instance has one event of the window for each atom of the pattern, under six conditions: kinds,
+// names and constants; parameters; threads; regions; no event twice; and the order of each thread.
+// `instances` lists all of them in lexicographic order, by a search that chooses the events atom by
+// atom and keeps for each later atom the events that may still stand beside those chosen; it gives a
+// choice up where an atom has none left, or where no threads are left for the thread variables. `matches`
+// says whether the events of an instance stand in a schedule as the pattern wants: step after step,
+// and those of a group next to one another.
+#![tactic(auto)]
+
+mod atom;
+mod beside;
+mod candidate;
+mod chosen;
+mod instance;
+mod laws;
+mod matching;
+mod region;
+mod search;
+mod shape;
+#[cfg(test)]
+mod tests;
+mod threads;
+
+pub use instance::{Instance, InstancesFault, MOST_INSTANCES, instances};
+pub use laws::{groups_stand_in_rows, lists_exactly};
+pub use matching::{is_one_for_each, matches};

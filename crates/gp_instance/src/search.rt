@@ -1,0 +1,118 @@
+ghost use Rattle.std.specs.Prelude.{◌≡◌, ◌++◌, ◌∷◌, [], ◌≤◌, length, map, IfOk, OnOk};
+ghost use Rattle.gp_instance.specs.Instances.{numbered};
+ghost use Rattle.gp_instance.specs.Search.{AreSmall, Leaves, candidates_of, chosen_of, first_instances, instance_after, narrowed, search};
+
+use crate::atom::PatternAtom;
+use crate::beside::narrowed;
+use crate::candidate::candidates;
+use crate::chosen::chosen_of;
+use crate::instance::{Instance, MOST_INSTANCES};
+use crate::threads::where_threads_fit;
+use gp_text::Row;
+use gp_trace::Event;
+use gp_window::EventId;
+use std::alloc::{AllocError, Global};
+
+/// Adds all instances that begin with the events of `front` and go on with events of each atom's
+/// domain, until there is one more than are listed.
+pub fn search(
+    alloc: Global,
+    segments: &[Row<Event>],
+    number: u32,
+    atoms: &[PatternAtom],
+    domains: &[Row<EventId>],
+    front: &[EventId],
+    found: &mut Row<Instance>,
+) -> Result<(), AllocError>
+    requires same { length domains.now ≡ length atoms.now }
+    requires room { length found.old ≤ 10001 }
+    ensures { OnOk result (found.new ≡ first_instances found.old (map (instance_after number front.now) (search segments.now atoms.now domains.now))) }
+{
+    let Some((atom, later)) = atoms.split_first() else {
+        return add(alloc, number, front, found);
+    };
+    let Some((ids, others)) = domains.split_first() else {
+        return Ok(());
+    };
+    let ids = ids.as_slice();
+    for id in ids {
+        if found.len() > MOST_INSTANCES {
+            return Ok(());
+        }
+        if let Some(left) = after_choice(alloc, segments, atom, *id, later, others)? {
+            let longer = extended(alloc, front, *id)?;
+            search(
+                alloc,
+                segments,
+                number,
+                later,
+                left.as_slice(),
+                longer.as_slice(),
+                found,
+            )?;
+        }
+    }
+    Ok(())
+}
+
+/// For each atom the events that it may stand for by itself, `None` where that leaves no instance.
+pub fn first_domains(
+    alloc: Global,
+    segments: &[Row<Event>],
+    atoms: &[PatternAtom],
+) -> Result<Option<Row<Row<EventId>>>, AllocError>
+    requires { AreSmall segments.now }
+    ensures { IfOk result (λ left. Leaves segments.now atoms.now (map (candidates_of segments.now) atoms.now) left) }
+{
+    match candidates(alloc, segments, atoms)? {
+        Some(domains) => where_threads_fit(alloc, atoms, domains),
+        None => Ok(None),
+    }
+}
+
+/// What is left for each later atom after this choice, `None` where an atom has nothing left.
+fn after_choice(
+    alloc: Global,
+    segments: &[Row<Event>],
+    atom: &PatternAtom,
+    id: EventId,
+    later: &[PatternAtom],
+    others: &[Row<EventId>],
+) -> Result<Option<Row<Row<EventId>>>, AllocError>
+    requires { length others.now ≡ length later.now }
+    ensures { IfOk result (λ left. Leaves segments.now later.now (narrowed segments.now (chosen_of segments.now atom.now id) later.now others.now) left) }
+{
+    let chosen = chosen_of(alloc, segments, atom, id)?;
+    match narrowed(alloc, segments, &chosen, later, others)? {
+        Some(left) => where_threads_fit(alloc, later, left),
+        None => Ok(None),
+    }
+}
+
+fn extended(alloc: Global, front: &[EventId], id: EventId) -> Result<Row<EventId>, AllocError>
+    ensures { IfOk result (λ longer. longer ≡ front.now ++ id ∷ []) }
+{
+    let mut longer = Row::from_vec(Vec::from_slice(alloc, front)?);
+    longer.push(id)?;
+    Ok(longer)
+}
+
+/// Adds the instance of these events, where there is room.
+#[tactic(auto, using(crate::proofs::Limit::one_more))]
+fn add(
+    alloc: Global,
+    number: u32,
+    events: &[EventId],
+    found: &mut Row<Instance>,
+) -> Result<(), AllocError>
+    requires { length found.old ≤ 10001 }
+    ensures { OnOk result (found.new ≡ first_instances found.old (numbered number events.now ∷ [])) }
+{
+    if found.len() > MOST_INSTANCES {
+        return Ok(());
+    }
+    found.push(Instance {
+        property: number,
+        events: Row::from_vec(Vec::from_slice(alloc, events)?),
+    })
+}

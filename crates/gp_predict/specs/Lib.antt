@@ -1,5 +1,9 @@
 pub mod Answer
+pub mod Content
+pub mod Lines
+pub mod Listing
 pub mod Refusal
+pub mod Replaying
 pub mod Run
 pub mod Stage
 pub mod Words

@@ -8,6 +8,8 @@ use Rattle.gp_window.specs.declared.fault.FileName.TheVariants as file
 use Rattle.gp_window.specs.FileNames.{name_of}
 use Rattle.gp_window.specs.declared.fault.RecordingFault.{RecordingFault}
 use Rattle.gp_window.specs.declared.fault.RecordingFault.TheVariants as recording
+use Rattle.gp_property.specs.declared.fault.PropertyFault.{PropertyFault}
+use Rattle.gp_property.specs.declared.fault.PropertyFault.TheVariants as property
 use Rattle.gp_replay.specs.declared.schedule.ScheduleFault.{ScheduleFault}
 use Rattle.gp_replay.specs.declared.schedule.ScheduleFault.TheVariants as schedule
 use Rattle.gp_predict.specs.declared.answer.Answer.{Answer}
@@ -16,7 +18,7 @@ use Rattle.gp_predict.specs.declared.answer.Answer.{Answer}
 abbrev pub one_line : ℕ → List ℕ → Answer
 one_line status text = record { status = status; lines = (text ++ codes "\n") ∷ [] }
 
--- no text: replaying asks for no memory and for no folder here, so this answer is never due
+-- no text: the definitions ask for no memory and for no folder, so this answer is never due
 abbrev pub never_due : Answer
 never_due = record { status = 6; lines = [] }
 
@@ -74,3 +76,14 @@ abbrev pub schedule_refusal : ScheduleFault → Answer
 schedule_refusal (schedule.Text fault) = text_refusal (codes "schedule") fault
 schedule_refusal (schedule.BadLine line) = refused_at (codes "schedule") line (codes "badline")
 schedule_refusal schedule.Memory = never_due
+
+-- a text that is no file of properties
+abbrev pub properties_refusal : PropertyFault → Answer
+properties_refusal (property.Text fault) = text_refusal (codes "props") fault
+properties_refusal (property.Empty line) = refused_at (codes "props") line (codes "empty")
+properties_refusal (property.BadWord line) = refused_at (codes "props") line (codes "badword")
+properties_refusal (property.RepeatedName line) = refused_at (codes "props") line (codes "repeatedname")
+properties_refusal (property.TooManyAtoms line) = refused_at (codes "props") line (codes "toomanyatoms")
+properties_refusal (property.UnknownEvent line) = refused_at (codes "props") line (codes "unknownevent")
+properties_refusal (property.RegionUse line) = refused_at (codes "props") line (codes "regionuse")
+properties_refusal property.Memory = never_due

@@ -1,5 +1,5 @@
 -- What a stage of the top call gave, against the definition of what is due.
-use Rattle.std.specs.Prelude.{ℕ, ◌≡◌, Result, Ok, Err}
+use Rattle.std.specs.Prelude.{◌≡◌, Result, Ok, Err}
 use Rattle.gp_predict.specs.declared.answer.Answer.{Answer}
 use Rattle.gp_predict.specs.declared.stop.Stop.{Stop}
 use Rattle.gp_predict.specs.declared.stop.Stop.TheVariants.{Refused, ReadFault, Memory}

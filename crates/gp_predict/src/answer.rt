@@ -1,5 +1,6 @@
 ghost use Rattle.std.specs.Prelude.{◌≡◌, [], ◌∷◌, IfOk, string_bytes};
-ghost use Rattle.gp_predict.specs.Answer.{feasible, stuck, words_refused};
+ghost use Rattle.gp_predict.specs.Answer.{words_refused};
+ghost use Rattle.gp_predict.specs.Replaying.{feasible, stuck};
 
 use gp_replay::Rule;
 use gp_text::Row;

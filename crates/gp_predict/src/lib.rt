@@ -1,16 +1,19 @@
 // The top call: from the words of a command line, a folder and a sink to a status and a text.
 //
-// `run` reads a recording, which is the separate traces of the threads of one run, and a schedule, and
-// says whether the schedule can happen: `feasible N`, or `stuck P R` with the place and the rule of
-// the first event that may not happen. Its contract is stated by one definition, the answer that is
-// due to the words and the files. A file that breaks a rule is refused by its name, the line and the
+// `run` reads a recording, which is the separate traces of the threads of one run. Task replay reads a
+// schedule, and says whether it can happen: `feasible N`, or `stuck P R` with the place and the rule of
+// the first event that may not happen. Task list reads properties, and lists the instances of each in
+// each window. The contract of `run` is stated by one definition, the answer that is due to the words
+// and the files. A file that breaks a rule is refused by its name, the line and the
 // rule; a fault of the folder or of the sink is never told as an answer.
 #![tactic(auto)]
 
 mod answer;
 mod content;
+mod lines;
+mod listing;
 mod refusal;
-mod stages;
+mod replaying;
 mod stop;
 mod top;
 mod words;

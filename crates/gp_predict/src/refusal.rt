@@ -1,8 +1,9 @@
 ghost use Rattle.std.specs.Prelude.{◌≡◌, IfOk, string_bytes};
 ghost use Rattle.gp_window.specs.FileNames.{name_of};
-ghost use Rattle.gp_predict.specs.Refusal.{recording_refusal, recording_refused, refused_as, refused_at, schedule_refusal, text_refusal, trace_refusal, two_holders};
+ghost use Rattle.gp_predict.specs.Refusal.{properties_refusal, recording_refusal, recording_refused, refused_as, refused_at, schedule_refusal, text_refusal, trace_refusal, two_holders};
 
 use crate::answer::{Answer, line_of, one_line};
+use gp_property::PropertyFault;
 use gp_replay::ScheduleFault;
 use gp_text::{Name, TextFault, print_u64};
 use gp_trace::TraceFault;
@@ -39,6 +40,23 @@ pub fn schedule_refusal(alloc: Global, fault: ScheduleFault) -> Result<Answer, A
         ScheduleFault::Text(fault) => text_refusal(alloc, "schedule", fault),
         ScheduleFault::BadLine(line) => refused_at(alloc, "schedule", line, "badline"),
         ScheduleFault::Memory => Err(AllocError),
+    }
+}
+
+/// The refusal of a text that is no file of properties. Want of memory has none.
+pub fn properties_refusal(alloc: Global, fault: PropertyFault) -> Result<Answer, AllocError>
+    ensures text { IfOk result (λ answer. answer ≡ properties_refusal fault) }
+    ensures status { IfOk result (λ answer. answer.status ≡ 3) }
+{
+    match fault {
+        PropertyFault::Text(fault) => text_refusal(alloc, "props", fault),
+        PropertyFault::Empty(line) => refused_at(alloc, "props", line, "empty"),
+        PropertyFault::BadWord(line) => refused_at(alloc, "props", line, "badword"),
+        PropertyFault::RepeatedName(line) => refused_at(alloc, "props", line, "repeatedname"),
+        PropertyFault::TooManyAtoms(line) => refused_at(alloc, "props", line, "toomanyatoms"),
+        PropertyFault::UnknownEvent(line) => refused_at(alloc, "props", line, "unknownevent"),
+        PropertyFault::RegionUse(line) => refused_at(alloc, "props", line, "regionuse"),
+        PropertyFault::Memory => Err(AllocError),
     }
 }
 

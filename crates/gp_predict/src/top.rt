@@ -1,14 +1,17 @@
-ghost use Rattle.std.specs.Prelude.{ℕ, ◌≡◌, ◌≤◌, ◌⊎◌, Some, None, Err, IfOk, OnOk, OnErr, flat_map, map, string_bytes};
+ghost use Rattle.std.specs.Prelude.{ℕ, ◌≡◌, ◌≤◌, ◌⊎◌, List, Some, None, Err, IfOk, IfErr, OnOk, OnErr, flat_map, map, string_bytes};
 ghost use Rattle.gp_outside.specs.Faults.{Rose};
+ghost use Rattle.gp_outside.specs.Folders.{File};
 ghost use Rattle.gp_outside.specs.Sinks.{Appends, AppendsFront};
-ghost use Rattle.gp_predict.specs.Answer.{due_answer};
+ghost use Rattle.gp_predict.specs.Answer.{due_answer, task_at};
 ghost use Rattle.gp_predict.specs.Run.{IsBegun, IsGiven, WhereDue};
-ghost use Rattle.gp_predict.specs.Words.{folder_of};
+ghost use Rattle.gp_predict.specs.Stage.{Gives, IsRefusal};
+ghost use Rattle.gp_predict.specs.Words.{command_of};
 
 use crate::answer::{Answer, words_refused};
-use crate::stages::replay_at;
+use crate::listing::list_at;
+use crate::replaying::replay_at;
 use crate::stop::Stop;
-use crate::words::folder_of;
+use crate::words::{Task, command_of};
 use gp_outside::{Folder, Gate, PutFault, Sink};
 use gp_text::Row;
 use std::alloc::AllocError;
@@ -17,15 +20,15 @@ use std::thread::Threads;
 /// What the program ends with.
 #[derive(Debug, Drop)]
 pub struct Outcome {
-    /// 0 feasible, 1 stuck, 2 the words are refused, 3 an input file is refused, 4 the folder failed,
+    /// 0 feasible or listed, 1 stuck, 2 the words are refused, 3 an input file is refused, 4 the folder failed,
     /// 5 the sink failed, 6 want of memory.
     pub status: u8,
 }
 
 /// Does what the words ask for, with the files of the folder, and writes the text to the sink.
 ///
-/// `words` are the words after the program's name: `--task=replay` and the folder that holds
-/// `manifest`, `t1.trace` and so on, and `schedule`. Nothing passes the gate yet.
+/// `words` are the words after the program's name: `--task=replay` or `--task=list`, and the folder
+/// that holds `manifest`, `t1.trace` and so on, and `schedule` or `props`. Nothing passes the gate yet.
 pub fn run<R: AllocGlobal + Threads + Sync, F: Folder, S: Sink, G: Gate + Sync>(
     rt: &R,
     words: &[String],
@@ -37,7 +40,7 @@ pub fn run<R: AllocGlobal + Threads + Sync, F: Folder, S: Sink, G: Gate + Sync>(
     ensures due { result.status ≤ 3 → WhereDue
         (due_answer (map string_bytes words.now) (F.files folder.old))
         (IsGiven result.status (S.written sink.old) (S.written sink.new)) }
-    ensures words { result.status ≡ 2 → folder_of (map string_bytes words.now) ≡ None }
+    ensures words { result.status ≡ 2 → command_of (map string_bytes words.now) ≡ None }
     // Where nothing outside fails, the answer that is due is given, or memory is wanting.
     ensures complete { ¬ (Rose (F.faults folder.old) (F.faults folder.new))
         → ¬ (Rose (S.faults sink.old) (S.faults sink.new)) → WhereDue
@@ -90,17 +93,38 @@ fn answer_of<R: AllocGlobal + Threads + Sync, F: Folder>(
     ensures kept { F.files folder.new ≡ F.files folder.old }
     ensures due { IfOk result (λ given. WhereDue
         (due_answer (map string_bytes words.now) (F.files folder.old)) (λ answer. given ≡ answer)) }
-    ensures words { IfOk result (λ given. given.status ≡ 2 → folder_of (map string_bytes words.now) ≡ None) }
+    ensures words { IfOk result (λ given. given.status ≡ 2 → command_of (map string_bytes words.now) ≡ None) }
     ensures range { IfOk result (λ given. given.status ≤ 3) }
     ensures fault { result ≡ Err Halt.ReadFault → Rose (F.faults folder.old) (F.faults folder.new) }
 {
-    let Some(directory) = folder_of(words) else {
+    let Some((task, directory)) = command_of(words) else {
         return Ok(words_refused(rt.alloc())?);
     };
-    match replay_at(rt, folder, directory) {
+    match task_at(rt, task, folder, directory) {
         Ok(answer) | Err(Stop::Refused(answer)) => Ok(answer),
         Err(Stop::ReadFault) => Err(Halt::ReadFault),
         Err(Stop::Memory) => Err(Halt::Memory),
+    }
+}
+
+/// The answer of a task on the files of a folder.
+fn task_at<R: AllocGlobal + Threads + Sync, F: Folder>(
+    rt: &R,
+    task: Task,
+    folder: &mut F,
+    directory: &str,
+) -> Result<Answer, Stop>
+    ensures later { F.faults folder.old ≤ F.faults folder.new }
+    ensures kept { F.files folder.new ≡ F.files folder.old }
+    ensures told { (files : List File) → F.files folder.old ≡ Some files
+        → Gives result (task_at task files directory.now) }
+    ensures done { IfOk result (λ answer. answer.status ≤ 1) }
+    ensures refused { IfErr result IsRefusal }
+    ensures fault { result ≡ Err Stop.ReadFault → Rose (F.faults folder.old) (F.faults folder.new) }
+{
+    match task {
+        Task::Replay => replay_at(rt, folder, directory),
+        Task::List => list_at(rt, folder, directory),
     }
 }
 

@@ -1,26 +1,45 @@
-ghost use Rattle.std.specs.Prelude.{◌≡◌, [], ◌∷◌, map, option_copied, string_bytes};
-ghost use Rattle.gp_predict.specs.Words.{folder_of, is_folder};
+ghost use Rattle.std.specs.Prelude.{◌≡◌, [], ◌∷◌, map, option_map, string_bytes};
+ghost use Rattle.gp_predict.specs.Words.{command_of, command_with, is_folder, task_of};
 
 /// The most bytes of a folder's name.
 const LONGEST_FOLDER: usize = 4096;
 
-/// The folder that the words name, where they are `--task=replay` and a folder, and no other word.
-pub fn folder_of(words: &[String]) -> Option<&str>
-    ensures { option_copied result ≡ folder_of (map string_bytes words.now) }
+/// What the program is asked to do with a recording.
+#[derive(Clone, Copy, Debug, PartialEq, Eq)]
+pub enum Task {
+    /// To say whether a schedule can happen.
+    Replay,
+    /// To list the instances of each property in each window.
+    List,
+}
+
+/// The task and the folder that the words name, where they are a task, a folder and no other word.
+pub fn command_of(words: &[String]) -> Option<(Task, &str)>
+    ensures { option_map (λ command. (command.0, command.1.now)) result ≡ command_of (map string_bytes words.now) }
 {
     let [task, folder] = words else {
         return None;
     };
-    folder_named(task.as_str(), folder.as_str())
+    command_with(task_of(task.as_str())?, folder.as_str())
 }
 
-fn folder_named<'a>(task: &str, folder: &'a str) -> Option<&'a str>
-    ensures { option_copied result ≡ folder_of (task.now ∷ folder.now ∷ []) }
+fn command_with(task: Task, folder: &str) -> Option<(Task, &str)>
+    ensures { option_map (λ command. (command.0, command.1.now)) result ≡ command_with (Some task) folder.now }
 {
-    if task == "--task=replay" && is_folder(folder) {
-        Some(folder)
+    if is_folder(folder) {
+        Some((task, folder))
     } else {
         None
+    }
+}
+
+fn task_of(word: &str) -> Option<Task>
+    ensures { result ≡ task_of word.now }
+{
+    match word {
+        "--task=replay" => Some(Task::Replay),
+        "--task=list" => Some(Task::List),
+        _ => None,
     }
 }
 

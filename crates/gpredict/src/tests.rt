@@ -6,6 +6,8 @@ use std::process::Abort;
 use std::test::Fail;
 use std::thread::Threads;
 
+mod listing;
+
 type Files = Vec<(String, Vec<u8>)>;
 
 /// Two threads, of which the first is a root.
@@ -48,9 +50,20 @@ fn replayed<R: AllocGlobal + Threads + Sync>(
     failing: Vec<u64>,
     failing_puts: Vec<(u64, u64)>,
 ) -> Result<(u8, Vec<u8>), AllocError> {
+    done(rt, "--task=replay", files, failing, failing_puts)
+}
+
+/// Does a task on the files of folder `d`, and gives the status and the bytes.
+fn done<R: AllocGlobal + Threads + Sync>(
+    rt: &R,
+    task: &str,
+    files: Files,
+    failing: Vec<u64>,
+    failing_puts: Vec<(u64, u64)>,
+) -> Result<(u8, Vec<u8>), AllocError> {
     let alloc = rt.alloc();
     let words = vec![in alloc;
-        String::from_str(alloc, "--task=replay")?,
+        String::from_str(alloc, task)?,
         String::from_str(alloc, "d")?,
     ]?;
     let mut folder = MemoryFolder::new(files, failing);
@@ -511,7 +524,8 @@ fn other_words_are_refused(rt: HostRuntime) -> Result<(), Fail> {
     let replay = "--task=replay";
     words_end(&rt, &[], 2, "words\n")?;
     words_end(&rt, &[replay], 2, "words\n")?;
-    words_end(&rt, &["--task=list", "d"], 2, "words\n")?;
+    words_end(&rt, &["--task=list"], 2, "words\n")?;
+    words_end(&rt, &["--task=lists", "d"], 2, "words\n")?;
     words_end(&rt, &["--task=replay ", "d"], 2, "words\n")?;
     words_end(&rt, &["d", replay], 2, "words\n")?;
     words_end(&rt, &[replay, ""], 2, "words\n")?;
@@ -519,6 +533,7 @@ fn other_words_are_refused(rt: HostRuntime) -> Result<(), Fail> {
     words_end(&rt, &[replay, "-d"], 2, "words\n")?;
     words_end(&rt, &[replay, "d", "e"], 2, "words\n")?;
     words_end(&rt, &[replay, "d"], 3, "refused manifest absent\n")?;
+    words_end(&rt, &["--task=list", "d"], 3, "refused manifest absent\n")?;
     Ok(())
 }
 

@@ -1,5 +1,4 @@
 -- A line that was cut off after whole lines leaves a front part of the text.
-use Rattle.std.proofs.Common.{◌∙◌, sym}
 use Rattle.std.proofs.lemmas.Result.{err_from_is_err_and}
 use Rattle.gp_predict.proofs.Pieces.{front_then}
 use Rattle.gp_predict.proofs.top.put_lines.Goals as goal

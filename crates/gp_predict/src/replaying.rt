@@ -1,19 +1,19 @@
 ghost use Rattle.std.specs.Prelude.{ℕ, ◌≡◌, ◌≢◌, ◌≤◌, ◌<◌, ◌-◌, ◌^◌, List, Some, Err, IfOk, IfErr, OnErr, length};
 ghost use Rattle.gp_outside.specs.Faults.{Rose};
 ghost use Rattle.gp_outside.specs.Folders.{File};
-ghost use Rattle.gp_predict.specs.Answer.{recording_at, replay_answer, replay_at, schedule_at};
+ghost use Rattle.gp_predict.specs.Replaying.{replay_answer, replay_at, schedule_at};
 ghost use Rattle.gp_replay.specs.Schedule.{schedule_of_text};
 ghost use Rattle.gp_predict.specs.Refusal.{schedule_refusal};
 ghost use Rattle.gp_text.specs.Results.{or_refused};
 ghost use Rattle.gp_predict.specs.Stage.{Gives, IsRefusal};
 
 use crate::answer::{Answer, feasible, stuck};
-use crate::content::content_of;
-use crate::refusal::{recording_refusal, schedule_refusal};
+use crate::content::{content_of, recording_at};
+use crate::refusal::schedule_refusal;
 use crate::stop::Stop;
 use gp_outside::Folder;
 use gp_replay::{ReplayFault, ScheduleFault, WindowSchedule, read_schedule, replay};
-use gp_window::{Recording, RecordingFault, cut, read_recording};
+use gp_window::{Recording, cut};
 use std::alloc::Global;
 use std::thread::Threads;
 
@@ -38,26 +38,6 @@ pub fn replay_at<R: AllocGlobal + Threads + Sync, F: Folder>(
     let epochs = recording.manifest().epochs();
     let read = schedule_at(rt.alloc(), folder, directory, epochs)?;
     verdict_on(rt.alloc(), &recording, &read)
-}
-
-fn recording_at<R: AllocGlobal + Threads + Sync, F: Folder>(
-    rt: &R,
-    folder: &mut F,
-    directory: &str,
-) -> Result<Recording, Stop>
-    ensures later { F.faults folder.old ≤ F.faults folder.new }
-    ensures kept { F.files folder.new ≡ F.files folder.old }
-    ensures told { (files : List File) → F.files folder.old ≡ Some files
-        → Gives result (recording_at files directory.now) }
-    ensures refused { IfErr result IsRefusal }
-    ensures fault { result ≡ Err Stop.ReadFault → Rose (F.faults folder.old) (F.faults folder.new) }
-{
-    match read_recording(rt, rt.alloc(), folder, directory) {
-        Ok(recording) => Ok(recording),
-        Err(RecordingFault::ReadFailed) => Err(Stop::ReadFault),
-        Err(RecordingFault::Memory) => Err(Stop::Memory),
-        Err(fault) => Err(Stop::Refused(recording_refusal(rt.alloc(), fault)?)),
-    }
 }
 
 fn schedule_at<F: Folder>(

@@ -1,0 +1,14 @@
+pub mod Lists
+pub mod Heads
+pub mod Cycles
+pub mod Lessons
+pub mod Wholes
+pub mod Asserting
+pub mod Trails
+pub mod Conflicts
+pub mod Logging
+pub mod Refuting
+pub mod Meeting
+pub mod Choosing
+pub mod Turns
+pub mod Running

@@ -1,0 +1,183 @@
+-- The last steps of refutations, and their cones.
+use Rattle.std.proofs.Common.{◌≡◌, ◌≢◌, refl, sym, ◌∙◌, ap, subst, ℕ, ◌+◌, ◌<◌, ◌≤◌, ◌==◌, Bool, true, false, cond, not, Some, List, [], ◌∷◌, ◌++◌, length, All, Contains, sum_by, IsPermutation, inl, inr, arith}
+use Rattle.std.proofs.lemmas.Bool.{cases_lt, cases_eq}
+use Rattle.std.proofs.lemmas.Bool.Decides.{nat_tests}
+use Rattle.std.proofs.lemmas.Option.{same_Some}
+use Rattle.std.proofs.lemmas.List.Sums.{sum_by-cons, sum_by-append}
+use Rattle.std.proofs.lemmas.List.Sorted.{Contains-permutation, IsPermutation-sym}
+use Rattle.std.proofs.lemmas.List.Elements.{All-contains, All-head, All-tail, Contains-push, Contains-push_cases, Contains-append_left}
+use Rattle.gp_clause.specs.declared.kind.Kind.{Kind}
+use Rattle.gp_clause.specs.declared.lit.Lit.{Lit}
+use Rattle.gp_clause.specs.declared.problem.Problem.{Problem}
+use Rattle.gp_clause.specs.declared.problem.Query.{Query}
+use Rattle.gp_clause.specs.Clause.{occurrences, IsRising}
+use Rattle.gp_clause.specs.Lit.{opposite}
+use Rattle.gp_clause.proofs.Occurrences.{once_from_rising}
+use Rattle.gp_derivation.specs.declared.log.LogEntry.{LogEntry}
+use Rattle.gp_derivation.specs.declared.log.Origin.{Origin}
+use Rattle.gp_derivation.specs.declared.log.Origin.TheVariants.{Learned, Taken}
+use Rattle.gp_derivation.specs.declared.step.Step.{Step}
+use Rattle.gp_derivation.specs.Log.{IsLearned, LearnedPasses, OriginPasses}
+use Rattle.gp_derivation.specs.Numbering.{CanBeNumbered, NamesEarlier, size_of}
+use Rattle.gp_derivation.proofs.Lists.{contains_got}
+use Rattle.gp_sat.specs.declared.assigned.Assigned.{Assigned}
+use Rattle.gp_sat.specs.State.{State, assigned}
+use Rattle.gp_sat.specs.Standing.{IsFalse, Each}
+use Rattle.gp_sat.specs.Sound.{true_lit}
+use Rattle.gp_sat.specs.Learning.{IsLearned as Follows, IsDecided}
+use Rattle.gp_search.specs.declared.engine.Engine.{Engine}
+use Rattle.gp_search.specs.Inside.{all_kinds, IsTurning, IsAssuming}
+use Rattle.gp_search.proofs.Cycles.{all_from_contains}
+use Rattle.gp_search.proofs.Heads.{opposite_twice}
+use Rattle.gp_search.proofs.Lessons.{final_passes}
+use Rattle.gp_search.proofs.Lists.{contains_cases, here, there}
+
+-- learned entries count one each
+learned_sizes : (log : List LogEntry) → All (λ (entry : LogEntry). IsLearned entry.origin) log → sum_by size_of log ≡ length log
+learned_sizes [] all = refl
+learned_sizes (entry ∷ log) all =
+    let rest : sum_by size_of log ≡ length log = learned_sizes log (All-tail (λ (e : LogEntry). IsLearned e.origin) entry log all) in
+    let one : size_of entry ≡ 1 = size entry.origin (All-head (λ (e : LogEntry). IsLearned e.origin) entry log all) in
+    omega (arith, sum_by-cons size_of entry log, rest, one)
+  where
+    size : (origin : Origin) → IsLearned origin → size_of (record { step = entry.step; origin = origin }) ≡ 1
+    size Learned is = refl
+    size (Taken sender certificate) wrong = absurd wrong
+
+-- a learned entry that passes names what comes before it
+names_earlier : (problem : Problem) (locals : List Kind) (log : List LogEntry) (begins place : ℕ) (step : Step) (origin : Origin) → IsLearned origin → OriginPasses problem locals log begins place step origin
+    → NamesEarlier (length problem.clauses) place step origin
+names_earlier problem locals log begins place step Learned is passes = passes.hints
+names_earlier problem locals log begins place step (Taken sender certificate) wrong passes = absurd wrong
+
+-- a step that passes at the end of a log has a cone
+pub can_number : (problem : Problem) (query : Query) (engine : Engine) (bases : ℕ) (log : List LogEntry) (step : Step) → IsTurning problem query engine → bases ≡ length problem.clauses → log ≡ engine.log.items
+    → LearnedPasses problem query.locals engine.log.items engine.begins (length engine.log.items) step → CanBeNumbered bases log step
+can_number problem query engine bases log step turning counted same passes =
+    let P : ℕ → Type 0 = λ n. CanBeNumbered n log step in
+    let Q : List LogEntry → Type 0 = λ xs. CanBeNumbered (length problem.clauses) xs step in
+    subst P (sym counted) (subst Q (sym same) (record {
+      entries = λ place entry got.
+          let is : IsLearned entry.origin = All-contains (λ (e : LogEntry). IsLearned e.origin) engine.log.items entry turning.whole.log.learned (contains_got engine.log.items place entry got) in
+          elim (cases_lt place engine.begins) [
+            | inl before ↦ let some = turning.whole.log.passes.earlier place entry got before in names_earlier problem some.0 engine.log.items some.1 place entry.step entry.origin is some.2
+            | inr after ↦ names_earlier problem query.locals engine.log.items engine.begins place entry.step entry.origin is (turning.whole.log.passes.current place entry got after)
+          ];
+      hints = passes.hints;
+      few = omega (arith, learned_sizes engine.log.items turning.whole.log.learned, turning.whole.few);
+    }))
+
+-- how often a literal counts for a variable
+abbrev counted : ℕ → Lit → ℕ
+counted v lit = cond (lit.variable == v) 1 0
+
+counted_one : (v : ℕ) (lit : Lit) → lit.variable ≡ v → counted v lit ≡ 1
+counted_one v lit is = grind (arith, nat_tests)
+
+counted_none : (v : ℕ) (lit : Lit) → lit.variable ≢ v → counted v lit ≡ 0
+counted_none v lit apart = grind (arith, nat_tests)
+
+-- a variable of one literal occurs, and one of two literals occurs twice
+occurs : (v : ℕ) (lits : List Lit) (a : Lit) → Contains lits a → a.variable ≡ v → 1 ≤ occurrences v lits
+occurs v [] a (k, within, is) of = absurd (omega arith)
+occurs v (lit ∷ lits) a among of = elim (contains_cases lit lits a among) [
+  | inl same ↦ omega (arith, sum_by-cons (counted v) lit lits, counted_one v lit (ap (λ (l : Lit). l.variable) same ∙ of))
+  | inr rest ↦ omega (arith, sum_by-cons (counted v) lit lits, occurs v lits a rest of)
+]
+
+occurs_twice : (v : ℕ) (lits : List Lit) (a b : Lit) → a ≢ b → Contains lits a → Contains lits b → a.variable ≡ v → b.variable ≡ v → 2 ≤ occurrences v lits
+occurs_twice v [] a b apart (k, within, is) other of_a of_b = absurd (omega arith)
+occurs_twice v (lit ∷ lits) a b apart among other of_a of_b = elim (contains_cases lit lits a among) [
+  | inl first ↦ elim (contains_cases lit lits b other) [
+    | inl second ↦ absurd (apart (sym first ∙ second))
+    | inr rest ↦ omega (arith, sum_by-cons (counted v) lit lits, counted_one v lit (ap (λ (l : Lit). l.variable) first ∙ of_a), occurs v lits b rest of_b)
+  ]
+  | inr later ↦ elim (contains_cases lit lits b other) [
+    | inl second ↦ omega (arith, sum_by-cons (counted v) lit lits, counted_one v lit (ap (λ (l : Lit). l.variable) second ∙ of_b), occurs v lits a later of_a)
+    | inr rest ↦ omega (arith, sum_by-cons (counted v) lit lits, occurs_twice v lits a b apart later rest of_a of_b)
+  ]
+]
+
+occurs_nowhere : (v : ℕ) (lits : List Lit) → ((lit : Lit) → Contains lits lit → lit.variable ≢ v) → occurrences v lits ≡ 0
+occurs_nowhere v [] apart = refl
+occurs_nowhere v (lit ∷ lits) apart =
+    omega (arith, sum_by-cons (counted v) lit lits, counted_none v lit (apart lit (here lit lits)), occurs_nowhere v lits (λ other is. apart other (there lit lits other is)))
+
+-- a false literal that was decided is the negation of what is assumed, where every decision is
+pub decided_negated : (query : Query) (s : State) (assumed : ℕ) (lit : Lit) → IsAssuming query.assumed s assumed → s.level ≤ assumed → ((v : ℕ) (a : Assigned) → assigned s v ≡ Some a → a.level ≤ s.level) → IsDecided s lit → IsFalse (assigned s) lit
+    → Contains query.assumed (opposite lit)
+decided_negated query s assumed lit assuming low levels (a, is, none) (b, also, sign) =
+    let same : a ≡ b = let both : Some a ≡ Some b = sym is ∙ also in same_Some a b both in
+    let one : Contains query.assumed (true_lit lit.variable a) = assuming.decided lit.variable a is none (omega (arith, levels lit.variable a is, low)) in
+    subst (λ (l : Lit). Contains query.assumed l) (λ i. record { variable = lit.variable; positive = (ap (λ (x : Assigned). x.positive) same ∙ sign) i }) one
+
+-- the clause of a final analysis has negated assumptions alone
+pub final_negated : (problem : Problem) (query : Query) (engine : Engine) (clause : List Lit) → IsTurning problem query engine → engine.solver.level ≤ engine.assumed
+    → Each (IsDecided engine.solver) clause → Each (IsFalse (assigned engine.solver)) clause → All (λ lit. Contains query.assumed (opposite lit)) clause
+final_negated problem query engine clause turning low decisions all_false =
+    all_from_contains (λ (lit : Lit). Contains query.assumed (opposite lit)) clause (λ lit is.
+    decided_negated query engine.solver engine.assumed lit turning.assuming low (λ v a there. (turning.sound.ordered.present v a there).0) (decisions lit is) (all_false lit is))
+
+differs : (lit : Lit) → lit ≢ opposite lit
+differs lit same = at lit.positive (ap (λ (l : Lit). l.positive) same)
+  where
+    at : (sign : Bool) → sign ≡ not sign → ⊥
+    at true is = let clash : ⊥ = cc in clash
+    at false is = let clash : ⊥ = cc in clash
+
+-- no decision is of the variable of a false assumption
+pub apart_from_false : (problem : Problem) (query : Query) (engine : Engine) (lit : Lit) (clause : List Lit) → IsTurning problem query engine → engine.solver.level ≤ engine.assumed → Contains query.assumed lit
+    → IsFalse (assigned engine.solver) lit → Each (IsDecided engine.solver) clause → Each (IsFalse (assigned engine.solver)) clause → (other : Lit) → Contains clause other → other.variable ≢ lit.variable
+apart_from_false problem query engine lit clause turning low among (b, also, sign) decisions all_false other is same =
+    let a = decisions other is in
+    let one : a.0 ≡ b = let both : Some a.0 ≡ Some b = sym a.1 ∙ (ap (assigned engine.solver) same ∙ also) in same_Some a.0 b both in
+    let assumed : Contains query.assumed (true_lit other.variable a.0) =
+    turning.assuming.decided other.variable a.0 a.1 a.2 (omega (arith, (turning.sound.ordered.present other.variable a.0 a.1).0, low)) in
+    let negation : Contains query.assumed (opposite lit) =
+    subst (λ (l : Lit). Contains query.assumed l) (λ i. record { variable = same i; positive = (ap (λ (x : Assigned). x.positive) one ∙ sign) i }) assumed in
+    omega (arith, occurs_twice lit.variable query.assumed lit (opposite lit) (differs lit) among negation refl refl, turning.whole.asked.once lit.variable)
+
+-- so the negation of the assumption may stand beside the clause of the analysis
+pub once_beside : (lits clause : List Lit) (lit : Lit) → IsRising clause → lits ≡ clause ++ opposite lit ∷ [] → ((other : Lit) → Contains clause other → other.variable ≢ lit.variable)
+    → (v : ℕ) → occurrences v lits ≤ 1
+once_beside lits clause lit rising same apart v =
+    let P : List Lit → Type 0 = λ xs. occurrences v xs ≤ 1 in
+    let count : Lit → ℕ = counted v in
+    let sum : occurrences v (clause ++ opposite lit ∷ []) ≡ occurrences v clause + occurrences v (opposite lit ∷ []) = sum_by-append count clause (opposite lit ∷ []) in
+    let last : occurrences v (opposite lit ∷ []) ≡ counted v lit + 0 = sum_by-cons count (opposite lit) [] in
+    subst P (sym same) (elim (cases_eq lit.variable v) [
+      | inl here_it_is ↦
+          let none : occurrences v clause ≡ 0 = occurs_nowhere v clause (λ other is equal. apart other is (equal ∙ sym here_it_is)) in
+          omega (arith, sum, last, none, counted_one v lit here_it_is)
+      | inr elsewhere ↦ omega (arith, sum, last, counted_none v lit elsewhere, once_from_rising v clause rising)
+    ])
+
+-- the last step where an assumption is false
+pub assumption_passes : (problem : Problem) (query : Query) (engine : Engine) (lit : Lit) (clause lits final : List Lit) (hints : List ℕ) → IsTurning problem query engine → engine.solver.level ≤ engine.assumed
+    → Contains query.assumed lit → IsFalse (assigned engine.solver) lit → Follows engine.solver (lit ∷ []) clause hints → Each (IsDecided engine.solver) clause
+    → lits ≡ clause ++ opposite lit ∷ [] → IsPermutation lits final
+    → LearnedPasses problem query.locals engine.log.items engine.begins (length engine.log.items) (record { clause = final; hints = hints })
+assumption_passes problem query engine lit clause lits final hints turning low among fell learned decisions same sorted =
+    let beside : (l : Lit) → Contains (clause ++ opposite lit ∷ []) l → Contains final l = λ l is. Contains-permutation lits final l sorted (subst (λ (xs : List Lit). Contains xs l) (sym same) is) in
+    let back : (l : Lit) → Contains final l → Contains (clause ++ opposite lit ∷ []) l = λ l is. subst (λ (xs : List Lit). Contains xs l) same (Contains-permutation final lits l (IsPermutation-sym lits final sorted) is) in
+    let apart : (other : Lit) → Contains clause other → other.variable ≢ lit.variable = apart_from_false problem query engine lit clause turning low among fell decisions learned.all_false in
+    final_passes problem query engine lit clause final hints turning fell learned
+    (λ l is. beside l (Contains-append_left clause (opposite lit ∷ []) l is)) (beside (opposite lit) (Contains-push clause (opposite lit)))
+    (λ is. elim (Contains-push_cases clause (opposite lit) lit (back lit is)) [
+      | inl one ↦ apart lit one refl
+      | inr equal ↦ differs lit (sym equal)
+    ])
+    (all_from_contains (λ (l : Lit). l.variable < length (all_kinds problem query)) final (λ l is. elim (Contains-push_cases clause (opposite lit) l (back l is)) [
+      | inl one ↦ let no = learned.all_false l one in turning.reasoned.below l.variable no.0 no.1
+      | inr equal ↦ subst (λ (v : ℕ). v < length (all_kinds problem query)) (ap (λ (x : Lit). x.variable) equal) (turning.reasoned.below lit.variable fell.0 fell.1)
+    ]))
+
+pub assumption_negated : (problem : Problem) (query : Query) (engine : Engine) (lit : Lit) (clause lits final : List Lit) → IsTurning problem query engine → engine.solver.level ≤ engine.assumed
+    → Contains query.assumed lit → Each (IsDecided engine.solver) clause → Each (IsFalse (assigned engine.solver)) clause → lits ≡ clause ++ opposite lit ∷ [] → IsPermutation lits final
+    → All (λ l. Contains query.assumed (opposite l)) final
+assumption_negated problem query engine lit clause lits final turning low among decisions all_false same sorted =
+    let back : (l : Lit) → Contains final l → Contains (clause ++ opposite lit ∷ []) l = λ l is. subst (λ (xs : List Lit). Contains xs l) same (Contains-permutation final lits l (IsPermutation-sym lits final sorted) is) in
+    all_from_contains (λ (l : Lit). Contains query.assumed (opposite l)) final (λ l is. elim (Contains-push_cases clause (opposite lit) l (back l is)) [
+      | inl one ↦ All-contains (λ (x : Lit). Contains query.assumed (opposite x)) clause l (final_negated problem query engine clause turning low decisions all_false) one
+      | inr equal ↦ subst (λ (x : Lit). Contains query.assumed x) (sym (ap opposite (sym equal) ∙ opposite_twice lit)) among
+    ])

@@ -1,0 +1,77 @@
+-- What a turn adds to the log, and its verdicts.
+use Rattle.std.proofs.Common.{◌≡◌, refl, sym, ◌∙◌, ap, subst, ℕ, ◌+◌, ◌≤◌, List, [], ◌∷◌, ◌++◌, length, All, append_assoc, arith}
+use Rattle.std.proofs.lemmas.List.{append-nil, length-append, length_push, get_or-append-add}
+use Rattle.std.proofs.lemmas.List.Elements.{All-contains}
+use Rattle.gp_clause.specs.declared.problem.Problem.{Problem}
+use Rattle.gp_clause.specs.declared.problem.Query.{Query}
+use Rattle.gp_derivation.specs.declared.log.LogEntry.{LogEntry}
+use Rattle.gp_derivation.specs.Log.{IsLearned, EntryPasses, LogPasses}
+use Rattle.gp_derivation.proofs.Lists.{contains_got}
+use Rattle.gp_search.specs.declared.engine.Engine.{Engine}
+use Rattle.gp_search.specs.Inside.{IsWhole, IsTurning}
+use Rattle.gp_search.specs.Moves.{KeepsLog, LearnsOne, Adds, IsGrown}
+use Rattle.gp_search.specs.Verdict.{Learns, IsUsedUp}
+
+-- at first nothing was added
+pub adds_none : (engine : Engine) → Adds 0 engine engine
+adds_none engine = record { added = []; longer = sym (append-nil engine.log.items); counted = refl }
+
+-- then one entry more
+pub adds_more : (count : ℕ) (old now kept new : Engine) → Adds count old now → KeepsLog now kept → LearnsOne kept new → Adds (count + 1) old new
+adds_more count old now kept new adds keeps learns = record {
+  added = adds.added ++ learns.entry ∷ [];
+  longer = learns.log ∙ (ap (λ (es : List LogEntry). es ++ learns.entry ∷ []) (keeps.log ∙ adds.longer) ∙ append_assoc old.log.items adds.added (learns.entry ∷ []));
+  counted = let one : length (adds.added ++ learns.entry ∷ []) ≡ length adds.added + 1 = length_push adds.added learns.entry in omega (arith, one, adds.counted);
+}
+
+-- so the log grew by the budget at most
+pub grown_kept : (count budget : ℕ) (old now new : Engine) → Adds count old now → KeepsLog now new → count ≤ budget → IsGrown budget old new
+grown_kept count budget old now new adds keeps few = record { added = adds.added; longer = keeps.log ∙ adds.longer; few = omega (arith, adds.counted, few) }
+
+pub grown_twice : (count budget : ℕ) (old now kept new : Engine) → Adds count old now → KeepsLog now kept → KeepsLog kept new → count ≤ budget → IsGrown budget old new
+grown_twice count budget old now kept new adds keeps also few = record { added = adds.added; longer = also.log ∙ (keeps.log ∙ adds.longer); few = omega (arith, adds.counted, few) }
+
+-- how long the log is then
+pub added_length : (count : ℕ) (old now new : Engine) → Adds count old now → KeepsLog now new → length new.log.items ≡ length old.log.items + count
+added_length count old now new adds keeps =
+    let same : length new.log.items ≡ length (old.log.items ++ adds.added) = ap (λ (es : List LogEntry). length es) (keeps.log ∙ adds.longer) in
+    omega (arith, same, length-append old.log.items adds.added, adds.counted)
+
+-- where as many entries were added as the budget, it is used up
+pub used_up : (problem : Problem) (query : Query) (budget : ℕ) (old : List LogEntry) (new : Engine) (from to : ℕ) → IsTurning problem query new → new.begins ≡ length old → from ≡ new.begins → to ≡ length new.log.items
+    → length new.log.items ≡ length old + budget → IsUsedUp problem query budget old new.log.items from to
+used_up problem query budget old new from to turning begins first last counted = record {
+  from_old = first ∙ begins;
+  to_new = last;
+  counted = omega (arith, first, begins, last, counted);
+  spent = λ ticket. record {
+    learning = record {
+      counted = omega (arith, first, begins, last, counted);
+      logged = omega (arith, last);
+      learned = λ place entry got _ _. All-contains (λ (e : LogEntry). IsLearned e.origin) new.log.items entry turning.whole.log.learned (contains_got new.log.items place entry got);
+    };
+    passing = λ place entry got low high.
+        let P : ℕ → Type 0 = λ n. EntryPasses problem query.locals new.log.items n place entry in
+        subst P (sym first) (turning.whole.log.passes.current place entry got (omega (arith, first, low)));
+  };
+}
+
+-- what a turn leaves of the log
+pub learns : (problem : Problem) (query : Query) (budget : ℕ) (old new : Engine) → IsWhole problem query new → new.begins ≡ length old.log.items → IsGrown budget old new → Learns problem query budget old.log.items new.log.items
+learns problem query budget old new whole begins grown =
+    let P : List LogEntry → Type 0 = λ es. All (λ (e : LogEntry). IsLearned e.origin) es in
+    let same : length new.log.items ≡ length (old.log.items ++ grown.added) = ap (λ (es : List LogEntry). length es) grown.longer in
+    record {
+      grows = record {
+        added = grown.added;
+        longer = grown.longer;
+        learned = back old.log.items grown.added (subst P grown.longer whole.log.learned);
+        passes = subst (λ (n : ℕ). LogPasses problem query.locals new.log.items n) begins whole.log.passes;
+      };
+      few = omega (arith, same, length-append old.log.items grown.added, grown.few);
+    }
+  where
+    back : (xs ys : List LogEntry) → All (λ (e : LogEntry). IsLearned e.origin) (xs ++ ys) → All (λ (e : LogEntry). IsLearned e.origin) ys
+    back xs ys all k d within =
+        let P : LogEntry → Type 0 = λ e. IsLearned e.origin in
+        subst P (get_or-append-add xs ys k d) (all (length xs + k) d (omega (arith, within, length-append xs ys)))

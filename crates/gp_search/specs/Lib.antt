@@ -1,0 +1,4 @@
+pub mod Verdict
+pub mod Bounds
+pub mod Inside
+pub mod Moves

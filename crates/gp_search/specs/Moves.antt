@@ -1,0 +1,157 @@
+-- What the calls of an engine change, and what they find.
+use Rattle.std.specs.Prelude.{◌≡◌, ℕ, ◌+◌, ◌-◌, ◌<◌, ◌≤◌, Bool, true, false, if◌then◌else◌, nat_lt, Option, Some, None, List, [], ◌∷◌, ◌++◌, length, map, replicate, Contains, slice_index_or}
+use Rattle.gp_clause.specs.declared.lit.Lit.{Lit}
+use Rattle.gp_clause.specs.declared.problem.Problem.{Problem}
+use Rattle.gp_clause.specs.declared.problem.Query.{Query}
+use Rattle.gp_clause.specs.Clause.{NamesBelow}
+use Rattle.gp_clause.specs.Valuation.{Meets}
+use Rattle.gp_derivation.specs.declared.log.LogEntry.{LogEntry}
+use Rattle.gp_derivation.specs.declared.step.Step.{Step}
+use Rattle.gp_derivation.specs.Certificate.{Refutes}
+use Rattle.gp_derivation.specs.Log.{LearnedPasses}
+use Rattle.gp_difference.specs.declared.fault.Asserted.{Asserted}
+use Rattle.gp_difference.specs.declared.fault.Asserted.TheVariants.{Kept, Cycle}
+use Rattle.gp_sat.specs.declared.assigned.Assigned.{Assigned}
+use Rattle.gp_sat.specs.declared.stored.Stored.{Stored}
+use Rattle.gp_sat.specs.State.{State, assigned, IsAttached, without_clause}
+use Rattle.gp_sat.specs.Standing.{IsFalse, Each}
+use Rattle.gp_sat.specs.Changes.{Backjumps}
+use Rattle.gp_sat.specs.Learning.{HasOnePresent, IsHighestBelow}
+use Rattle.gp_sat.specs.Looking.{IsTrueLit}
+use Rattle.gp_search.specs.declared.engine.Engine.{Engine}
+use Rattle.gp_search.specs.declared.turn.Descent.{Descent}
+use Rattle.gp_search.specs.declared.turn.Descent.TheVariants.{Verdict as Ended, Conflict as Stuck}
+use Rattle.gp_search.specs.declared.verdict.Verdict.{Verdict}
+use Rattle.gp_search.specs.declared.verdict.Verdict.TheVariants.{Model, Refuted, Spent}
+use Rattle.gp_search.specs.Inside.{IsConflict, IsBlank, false_lit}
+
+-- the log and its marks, the beginning of the turn and the number of variables stay
+pub record KeepsLog (old new : Engine) : Type 0 where
+  pub log : new.log.items ≡ old.log.items
+  pub begins : new.begins ≡ old.begins
+  pub variables : length new.solver.values ≡ length old.solver.values
+
+-- the log stays, and the trail is as long or longer
+pub record GoesOn (old new : Engine) : Type 0 where
+  pub keeps : KeepsLog old new
+  pub trail : length old.solver.trail ≤ length new.solver.trail
+
+-- the graph and how much of the trail it has may change, and nothing else
+abbrev pub MovesGraph : Engine → Engine → Type 0
+MovesGraph old new = new ≡ record old { graph = new.graph; asserted = new.asserted }
+
+-- what asserting bounds came to: the graph keeps those of the whole trail, or the tags of the cycle name a conflict
+abbrev pub IsAnswered : Problem → Query → Engine → Asserted → Type 0
+IsAnswered problem query engine Kept = engine.asserted ≡ length engine.solver.trail
+IsAnswered problem query engine Cycle = IsConflict problem query engine.solver (map (false_lit engine.solver) engine.graph.cycle) None
+
+-- what asserting the next bound came to: the graph has one literal more, or the tags of the cycle name a conflict
+abbrev pub IsNext : Problem → Query → Engine → Engine → Asserted → Type 0
+IsNext problem query old new Kept = new.asserted ≡ old.asserted + 1
+IsNext problem query old new Cycle = IsConflict problem query new.solver (map (false_lit new.solver) new.graph.cycle) None
+
+-- hints, and beside them a number if there is one
+abbrev pub with_number : List ℕ → Option ℕ → List ℕ
+with_number hints None = hints
+with_number hints (Some number) = hints ++ number ∷ []
+
+-- a step that may be logged, all of whose literals are false and just one of the present level, and the level at which it
+-- asserts that one
+pub record IsLesson (problem : Problem) (query : Query) (engine : Engine) (step : Step) (level : ℕ) : Type 0 where
+  pub passes : LearnedPasses problem query.locals engine.log.items engine.begins (length engine.log.items) step
+  pub all_false : Each (IsFalse (assigned engine.solver)) step.clause
+  pub point : HasOnePresent engine.solver step.clause
+  pub highest : IsHighestBelow engine.solver step.clause level
+  pub below : level < engine.solver.level
+
+-- the levels above one were taken back
+pub record IsBackAt (old new : Engine) (level : ℕ) : Type 0 where
+  pub keeps : KeepsLog old new
+  pub solver : Backjumps old.solver new.solver level
+
+-- one entry came to the end of the log
+pub record LearnsOne (old new : Engine) : Type 0 where
+  pub entry : LogEntry
+  pub log : new.log.items ≡ old.log.items ++ entry ∷ []
+  pub begins : new.begins ≡ old.begins
+
+-- whether a hint names a base clause or an entry with a mark
+abbrev pub is_marked : List Bool → ℕ → ℕ → Bool
+is_marked marks bases hint = if nat_lt hint bases then true else slice_index_or marks (hint - bases) false
+
+-- a step has problem variables only, and each entry that its hints name has a mark
+pub record RestsOnMarked (problem : Problem) (marks : List Bool) (step : Step) : Type 0 where
+  pub below : NamesBelow (length problem.kinds) step.clause
+  pub marked : (other : ℕ) → Contains step.hints (length problem.clauses + other) → slice_index_or marks other false ≡ true
+
+-- all variables below the number are assigned
+abbrev pub IsAllAssigned : ℕ → State → Type 0
+IsAllAssigned names s = (variable : ℕ) → variable < names → (a : Assigned) × (assigned s variable ≡ Some a)
+
+-- a variable below the number is unassigned
+abbrev pub IsFreeVariable : ℕ → State → ℕ → Type 0
+IsFreeVariable names s variable = (variable < names) × (assigned s variable ≡ None)
+
+-- all that is assumed is true
+abbrev pub IsAllTrue : List Lit → State → Type 0
+IsAllTrue assumed s = Each (IsTrueLit (assigned s)) assumed
+
+-- an assumed literal is not true
+abbrev pub IsOpen : List Lit → State → Lit → Type 0
+IsOpen assumed s lit = Contains assumed lit × (IsTrueLit (assigned s) lit → ⊥)
+
+-- whether an assignment is true
+abbrev pub is_true : Option Assigned → Bool
+is_true None = false
+is_true (Some a) = a.positive
+
+-- the truth values of the first variables
+pub record IsTruthOf (s : State) (names : ℕ) (truth : List Bool) : Type 0 where
+  pub size : length truth ≡ names
+  pub same : (variable : ℕ) → variable < names → slice_index_or truth variable false ≡ is_true (assigned s variable)
+
+-- the trail has one literal more, for which there was room
+pub record GoesFurther (old new : Engine) : Type 0 where
+  pub longer : length new.solver.trail ≡ length old.solver.trail + 1
+  pub room : length old.solver.trail < length old.solver.values
+
+-- a verdict other than a spent budget is right
+abbrev pub IsFound : Problem → Query → Verdict → Type 0
+IsFound problem query (Model valuation) = Meets problem query valuation
+IsFound problem query (Refuted certificate) = Refutes problem query certificate
+IsFound problem query (Spent from to) = ⊥
+
+-- a descent ended with a verdict, or with a conflict above level 0
+abbrev pub IsEnded : Problem → Query → Engine → Descent → Type 0
+IsEnded problem query engine (Ended verdict) = IsFound problem query verdict
+IsEnded problem query engine (Stuck conflict) = IsConflict problem query engine.solver conflict.lits.items conflict.number × (0 < engine.solver.level)
+
+-- so many entries came to the end of the log
+pub record Adds (count : ℕ) (old new : Engine) : Type 0 where
+  pub added : List LogEntry
+  pub longer : new.log.items ≡ old.log.items ++ added
+  pub counted : length added ≡ count
+
+-- the log grew by as many entries as the budget at most
+pub record IsGrown (budget : ℕ) (old new : Engine) : Type 0 where
+  pub added : List LogEntry
+  pub longer : new.log.items ≡ old.log.items ++ added
+  pub few : length added ≤ budget
+
+-- a solver that has these clauses, all attached, and no assignment
+abbrev pub of_clauses : ℕ → List (List Lit) → State
+of_clauses variables clauses = record { values = replicate variables None; trail = []; clauses = map (λ (clause : List Lit). record { clause = clause; attached = true }) clauses; level = 0 }
+
+-- the solver after the entry at a place was retired, unless it is marked as pure
+abbrev pub retired : List Bool → ℕ → ℕ → State → State
+retired marks bases place s = if slice_index_or marks place false then s else without_clause s (bases + place)
+
+-- the solver is blank, and of its clauses only those of some entries of the turn were detached, among them each one of the
+-- first places that has no mark
+pub record IsRetired (bases begins upto : ℕ) (marks : List Bool) (old new : State) : Type 0 where
+  pub blank : IsBlank new
+  pub variables : length new.values ≡ length old.values
+  pub lits : map (λ (stored : Stored). stored.clause) new.clauses ≡ map (λ (stored : Stored). stored.clause) old.clauses
+  pub base : (number : ℕ) → number < bases → IsAttached old.clauses number → IsAttached new.clauses number
+  pub fewer : (number : ℕ) → IsAttached new.clauses number → IsAttached old.clauses number
+  pub marked : (place : ℕ) → begins ≤ place → place < upto → IsAttached new.clauses (bases + place) → slice_index_or marks place false ≡ true

@@ -1,0 +1,111 @@
+ghost use Rattle.std.specs.Prelude.{◌≡◌, ◌+◌, ◌<◌, ◌≤◌, ◌++◌, length, IfOk, All, Contains, Some, slice_index_or};
+ghost use Rattle.gp_clause.specs.Lit.{opposite};
+ghost use Rattle.gp_clause.specs.Valuation.{Meets};
+ghost use Rattle.gp_derivation.specs.Certificate.{Refutes};
+ghost use Rattle.gp_derivation.specs.Log.{LearnedPasses};
+ghost use Rattle.gp_sat.specs.State.{assigned};
+ghost use Rattle.gp_sat.specs.Standing.{IsFalse};
+ghost use Rattle.gp_search.specs.Inside.{IsTurning, IsConflict, IsSettled, all_kinds};
+ghost use Rattle.gp_search.specs.Moves.{IsAllAssigned, IsAllTrue, IsTruthOf};
+
+use crate::engine::{Conflict, Engine};
+use crate::learning::add_number;
+use gp_clause::{Clause, Lit, Problem, Query, Row, Valuation, true_or_false};
+use gp_derivation::{Certificate, Step, cone, cone_checks};
+use std::alloc::AllocError;
+
+impl Engine {
+    // The certificate of a conflict while every decision is an assumption.
+    pub(crate) fn refute(
+        &self,
+        problem: &Problem,
+        query: &Query,
+        conflict: &Conflict,
+    ) -> Result<Certificate, AllocError>
+        requires turning { IsTurning problem.now query.now self.now }
+        requires conflict { IsConflict problem.now query.now self.now.solver conflict.now.lits.items conflict.now.number }
+        requires low { self.now.solver.level ≤ self.now.assumed }
+        ensures { IfOk result (Refutes problem.now query.now) }
+    {
+        let learned = self.solver.analyse_final(conflict.lits.as_slice())?;
+        let step = Step {
+            clause: learned.clause,
+            hints: add_number(learned.hints, conflict.number)?,
+        };
+        self.certify(problem, query, &step)
+    }
+
+    // The certificate of an assumption that is false while every decision is an assumption.
+    pub(crate) fn refute_assumption(
+        &self,
+        problem: &Problem,
+        query: &Query,
+        lit: Lit,
+    ) -> Result<Certificate, AllocError>
+        requires turning { IsTurning problem.now query.now self.now }
+        requires assumed { Contains query.now.assumed lit }
+        requires fell { IsFalse (assigned self.now.solver) lit }
+        requires low { self.now.solver.level ≤ self.now.assumed }
+        ensures { IfOk result (Refutes problem.now query.now) }
+    {
+        let learned = self.solver.analyse_final(&[lit])?;
+        let mut lits = learned.clause.into_vec();
+        lits.push(lit.negated())?;
+        let step = Step {
+            clause: Clause::of(lits).unwrap(),
+            hints: learned.hints,
+        };
+        self.certify(problem, query, &step)
+    }
+
+    // The cone of a step that has negated assumptions alone.
+    fn certify(
+        &self,
+        problem: &Problem,
+        query: &Query,
+        step: &Step,
+    ) -> Result<Certificate, AllocError>
+        requires turning { IsTurning problem.now query.now self.now }
+        requires passes { LearnedPasses problem.now query.now.locals self.now.log.items self.now.begins (length self.now.log.items) step.now }
+        requires negated { All (λ lit. Contains query.now.assumed (opposite lit)) step.now.clause }
+        ensures { IfOk result (Refutes problem.now query.now) }
+    {
+        cone_checks();
+        cone(
+            *self.log.allocator(),
+            problem.clauses.len() as u32,
+            self.log.as_slice(),
+            step,
+        )
+    }
+
+    // The values of the trail, and the places of the graph.
+    pub(crate) fn model(&self, problem: &Problem, query: &Query) -> Result<Valuation, AllocError>
+        requires turning { IsTurning problem.now query.now self.now }
+        requires settled { IsSettled self.now }
+        requires all { IsAllAssigned (length (all_kinds problem.now query.now)) self.now.solver }
+        requires assumed { IsAllTrue query.now.assumed self.now.solver }
+        ensures { IfOk result (Meets problem.now query.now) }
+    {
+        true_or_false();
+        let variables = problem.kinds.len() + query.locals.len();
+        let truth = self.truth(variables as u32)?;
+        let places = Vec::from_slice(*self.log.allocator(), self.graph.places())?;
+        Ok(Valuation {
+            truth: Row::from_vec(truth),
+            places: Row::from_vec(places),
+        })
+    }
+
+    // The truth values of the first variables.
+    fn truth(&self, variables: u32) -> Result<Vec<bool>, AllocError>
+        requires { variables ≤ length self.now.solver.values }
+        ensures { IfOk result (λ truth. IsTruthOf self.now.solver variables truth.items) }
+    {
+        let mut truth = Vec::new(*self.log.allocator());
+        for variable in 0..variables {
+            truth.push(self.solver.value(variable) == Some(true))?;
+        }
+        Ok(truth)
+    }
+}

@@ -1,0 +1,112 @@
+ghost use Rattle.std.specs.Prelude.{◌≡◌, ◌+◌, ◌<◌, ◌≤◌, length, IfOk, OnOk, MatchOption, None, Contains, IsTrue, ◌↔◌};
+ghost use Rattle.gp_sat.specs.State.{assigned};
+ghost use Rattle.gp_sat.specs.Looking.{IsTrueLit};
+ghost use Rattle.gp_search.specs.Inside.{IsTurning, IsSettled, all_kinds};
+ghost use Rattle.gp_search.specs.Moves.{IsAllAssigned, IsAllTrue, IsOpen, IsFreeVariable, KeepsLog, IsFound, GoesFurther};
+
+use crate::bounds::phase;
+use crate::engine::Engine;
+use crate::verdict::Verdict;
+use gp_clause::{Lit, Problem, Query};
+use std::alloc::AllocError;
+
+impl Engine {
+    // Decides the next assumption or variable, or finds the verdict: the query is refuted where the assumption is false,
+    // and met where no variable is left.
+    pub(crate) fn decide(
+        &mut self,
+        problem: &Problem,
+        query: &Query,
+    ) -> Result<Option<Verdict>, AllocError>
+        requires turning { IsTurning problem.now query.now self.old }
+        requires settled { IsSettled self.old }
+        ensures turning { IsTurning problem.now query.now self.new }
+        ensures same { KeepsLog self.old self.new }
+        ensures found { IfOk result (λ found. MatchOption found (GoesFurther self.old self.new) (IsFound problem.now query.now)) }
+    {
+        match self.open_assumption(problem, query) {
+            Some(lit) => self.assume(problem, query, lit),
+            None => self.fill(problem, query),
+        }
+    }
+
+    // The first assumption that is not true.
+    fn open_assumption(&self, problem: &Problem, query: &Query) -> Option<Lit>
+        requires { IsTurning problem.now query.now self.now }
+        ensures { MatchOption result (IsAllTrue query.now.assumed self.now.solver) (IsOpen query.now.assumed self.now.solver) }
+    {
+        for lit in query.assumed.as_slice() {
+            if !self.is_true(*lit) {
+                return Some(*lit);
+            }
+        }
+        None
+    }
+
+    // Whether a literal is true.
+    fn is_true(&self, lit: Lit) -> bool
+        requires { lit.variable < length self.now.solver.values }
+        ensures { IsTrue result ↔ IsTrueLit (assigned self.now.solver) lit }
+    {
+        match self.solver.value(lit.variable) {
+            Some(positive) => positive == lit.positive,
+            None => false,
+        }
+    }
+
+    // Decides an assumption, or refutes the query where it is false.
+    fn assume(
+        &mut self,
+        problem: &Problem,
+        query: &Query,
+        lit: Lit,
+    ) -> Result<Option<Verdict>, AllocError>
+        requires turning { IsTurning problem.now query.now self.old }
+        requires settled { IsSettled self.old }
+        requires next { IsOpen query.now.assumed self.old.solver lit }
+        ensures turning { IsTurning problem.now query.now self.new }
+        ensures same { KeepsLog self.old self.new }
+        ensures found { IfOk result (λ found. MatchOption found (GoesFurther self.old self.new) (IsFound problem.now query.now)) }
+    {
+        if self.solver.value(lit.variable).is_some() {
+            let certificate = self.refute_assumption(problem, query, lit)?;
+            return Ok(Some(Verdict::Refuted(certificate)));
+        }
+        self.solver.decide(lit);
+        self.assumed = self.solver.level();
+        let _ = self.solver.trail();
+        Ok(None)
+    }
+
+    // Decides the least unassigned variable, or gives the model where there is none.
+    fn fill(&mut self, problem: &Problem, query: &Query) -> Result<Option<Verdict>, AllocError>
+        requires turning { IsTurning problem.now query.now self.old }
+        requires settled { IsSettled self.old }
+        requires assumed { IsAllTrue query.now.assumed self.old.solver }
+        ensures turning { IsTurning problem.now query.now self.new }
+        ensures same { KeepsLog self.old self.new }
+        ensures found { IfOk result (λ found. MatchOption found (GoesFurther self.old self.new) (IsFound problem.now query.now)) }
+    {
+        match self.free_variable(problem, query) {
+            None => Ok(Some(Verdict::Model(self.model(problem, query)?))),
+            Some(variable) => {
+                let positive = phase(problem, query, self.graph.places(), variable);
+                self.solver.decide(Lit { variable, positive });
+                let _ = self.solver.trail();
+                Ok(None)
+            }
+        }
+    }
+
+    // The least unassigned variable of the problem and the query.
+    fn free_variable(&self, problem: &Problem, query: &Query) -> Option<u32>
+        requires { IsTurning problem.now query.now self.now }
+        ensures { MatchOption result (IsAllAssigned (length (all_kinds problem.now query.now)) self.now.solver) (IsFreeVariable (length (all_kinds problem.now query.now)) self.now.solver) }
+    {
+        let variables = problem.kinds.len() + query.locals.len();
+        match self.solver.next_free() {
+            Some(variable) if (variable as usize) < variables => Some(variable),
+            _ => None,
+        }
+    }
+}

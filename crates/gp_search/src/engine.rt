@@ -1,0 +1,78 @@
+ghost use Rattle.std.specs.Prelude.{◌≡◌, [], IfOk, length};
+ghost use Rattle.gp_clause.specs.Problem.{IsValidProblem};
+ghost use Rattle.gp_search.specs.Verdict.{IsSolvable};
+ghost use Rattle.gp_search.specs.Inside.{IsIdle, IsGraphOf};
+ghost use Rattle.gp_search.specs.Moves.{of_clauses};
+
+use gp_clause::{Lit, Problem, keeping_leaves_no_cycle};
+use gp_derivation::LogEntry;
+use gp_difference::{Graph, GraphFault};
+use gp_sat::Solver;
+use std::alloc::{AllocError, Global};
+
+// The state of a search. The clauses of the solver have the numbers that hints have: those of the problem, and then the
+// entries of the log. An entry that rests on the problem alone is marked as pure. In a turn, which begins at a place of
+// the log, the graph keeps the bounds of so many literals of the trail, and the decisions up to a level are assumptions.
+#[derive(Debug, Drop)]
+pub(crate) struct Engine {
+    pub(crate) solver: Solver,
+    pub(crate) graph: Graph,
+    pub(crate) log: Vec<LogEntry>,
+    pub(crate) pure: Vec<bool>,
+    pub(crate) begins: usize,
+    pub(crate) asserted: usize,
+    pub(crate) assumed: u32,
+}
+
+// A false clause, and its number where it is one of the solver.
+#[derive(Debug, Drop)]
+pub(crate) struct Conflict {
+    pub(crate) lits: Vec<Lit>,
+    pub(crate) number: Option<u32>,
+}
+
+impl Engine {
+    // A state with the clauses of a problem and nothing else.
+    pub(crate) fn new(alloc: Global, problem: &Problem) -> Result<Engine, AllocError>
+        requires valid { IsValidProblem problem.now }
+        requires solvable { IsSolvable problem.now.edges }
+        ensures idle { IfOk result (IsIdle problem.now) }
+        ensures empty { IfOk result (λ engine. engine.log.items ≡ []) }
+    {
+        Ok(Engine {
+            solver: attached(alloc, problem)?,
+            graph: graph(alloc, problem)?,
+            log: Vec::new(alloc),
+            pure: Vec::new(alloc),
+            begins: 0,
+            asserted: 0,
+            assumed: 0,
+        })
+    }
+}
+
+// A solver with the clauses of a problem.
+fn attached(alloc: Global, problem: &Problem) -> Result<Solver, AllocError>
+    requires { IsValidProblem problem.now }
+    ensures { IfOk result (λ solver. solver ≡ of_clauses (length problem.now.kinds) problem.now.clauses) }
+{
+    let mut solver = Solver::new(alloc, problem.kinds.len() as u32)?;
+    for clause in problem.clauses.as_slice() {
+        solver.attach(clause)?;
+    }
+    Ok(solver)
+}
+
+// A graph with the points and the edges of a problem.
+fn graph(alloc: Global, problem: &Problem) -> Result<Graph, AllocError>
+    requires valid { IsValidProblem problem.now }
+    requires solvable { IsSolvable problem.now.edges }
+    ensures { IfOk result (λ graph. IsGraphOf problem.now graph × (graph.kept ≡ [])) }
+{
+    keeping_leaves_no_cycle();
+    match Graph::new(alloc, problem.points, problem.edges.as_slice()) {
+        Ok(graph) => Ok(graph),
+        Err(GraphFault::Memory) => Err(AllocError),
+        Err(GraphFault::FixedCycle) => unreachable!(),
+    }
+}

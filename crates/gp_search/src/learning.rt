@@ -1,0 +1,143 @@
+ghost use Rattle.std.specs.Prelude.{◌≡◌, ◌+◌, ◌<◌, ◌^◌, ◌≤◌, length, IfOk, OnOk, OnErr, IsTrue};
+ghost use Rattle.gp_derivation.specs.Log.{LearnedPasses};
+ghost use Rattle.gp_sat.specs.Changes.{MayAttach};
+ghost use Rattle.gp_search.specs.Inside.{IsTurning, IsConflict};
+ghost use Rattle.gp_search.specs.Moves.{IsLesson, IsBackAt, KeepsLog, LearnsOne, with_number, RestsOnMarked, is_marked};
+
+use crate::bounds::count_bounds;
+use crate::engine::{Conflict, Engine};
+use gp_clause::{Problem, Query, Row};
+use gp_derivation::{LogEntry, Origin, Step, log_grows};
+use std::alloc::AllocError;
+
+// A step to log, and the level at which its clause asserts a literal.
+#[derive(Debug, Drop)]
+pub(crate) struct Lesson {
+    step: Step,
+    level: u32,
+}
+
+impl Engine {
+    // Learns from a conflict above the assumptions.
+    pub(crate) fn learn(
+        &mut self,
+        problem: &Problem,
+        query: &Query,
+        conflict: &Conflict,
+    ) -> Result<(), AllocError>
+        requires turning { IsTurning problem.now query.now self.old }
+        requires conflict { IsConflict problem.now query.now self.old.solver conflict.now.lits.items conflict.now.number }
+        requires above { 0 < self.old.solver.level }
+        requires few { length problem.now.clauses + length self.old.log.items + 2 < 2 ^ 32 }
+        ensures turning { IsTurning problem.now query.now self.new }
+        ensures ok { OnOk result (LearnsOne self.old self.new) }
+        ensures err { OnErr result (KeepsLog self.old self.new) }
+    {
+        let Lesson { step, level } = self.lesson(problem, query, conflict)?;
+        self.back_to(problem, query, level);
+        self.keep(problem, query, step)
+    }
+
+    // What the analysis of a conflict gives, with the number of the conflict's clause among the hints.
+    fn lesson(
+        &self,
+        problem: &Problem,
+        query: &Query,
+        conflict: &Conflict,
+    ) -> Result<Lesson, AllocError>
+        requires turning { IsTurning problem.now query.now self.now }
+        requires conflict { IsConflict problem.now query.now self.now.solver conflict.now.lits.items conflict.now.number }
+        requires above { 0 < self.now.solver.level }
+        ensures { IfOk result (λ lesson. IsLesson problem.now query.now self.now lesson.step lesson.level) }
+    {
+        let learned = self.solver.analyse(conflict.lits.as_slice())?;
+        Ok(Lesson {
+            step: Step {
+                clause: learned.clause,
+                hints: add_number(learned.hints, conflict.number)?,
+            },
+            level: learned.level,
+        })
+    }
+
+    // Takes back the levels above one, and their bounds.
+    fn back_to(&mut self, problem: &Problem, query: &Query, level: u32)
+        requires turning { IsTurning problem.now query.now self.old }
+        requires below { level < self.old.solver.level }
+        ensures turning { IsTurning problem.now query.now self.new }
+        ensures back { IsBackAt self.old self.new level }
+    {
+        self.solver.backjump(level);
+        let trail = self.solver.trail();
+        self.asserted = self.asserted.min(trail.len());
+        let mark = count_bounds(problem, query, &trail[..self.asserted]);
+        self.graph.undo_to(mark);
+        self.assumed = self.assumed.min(level);
+    }
+
+    // Logs a step under the next number, and attaches its clause.
+    fn keep(&mut self, problem: &Problem, query: &Query, step: Step) -> Result<(), AllocError>
+        requires turning { IsTurning problem.now query.now self.old }
+        requires passes { LearnedPasses problem.now query.now.locals self.old.log.items self.old.begins (length self.old.log.items) step }
+        requires may { MayAttach self.old.solver step.clause }
+        requires few { length problem.now.clauses + length self.old.log.items + 2 < 2 ^ 32 }
+        ensures turning { IsTurning problem.now query.now self.new }
+        ensures ok { OnOk result (LearnsOne self.old self.new) }
+        ensures err { OnErr result (KeepsLog self.old self.new) }
+    {
+        log_grows();
+        self.log.reserve(1)?;
+        self.pure.reserve(1)?;
+        self.solver.attach(&step.clause)?;
+        let pure = self.is_pure(problem, &step);
+        self.pure.push_reserved(pure);
+        self.log.push_reserved(LogEntry {
+            step,
+            origin: Origin::Learned,
+        });
+        let _ = self.solver.trail();
+        Ok(())
+    }
+
+    // Whether a step rests on the problem alone.
+    fn is_pure(&self, problem: &Problem, step: &Step) -> bool
+        ensures { IsTrue result → RestsOnMarked problem.now self.now.pure.items step.now }
+    {
+        let variables = problem.kinds.len();
+        let bases = problem.clauses.len();
+        step.clause
+            .lits()
+            .iter()
+            .all(|lit| (lit.variable as usize) < variables)
+            && step
+                .hints
+                .as_slice()
+                .iter()
+                .all(|hint| names_marked(self.pure.as_slice(), bases, *hint))
+    }
+}
+
+// Whether a hint names a base clause or a pure entry.
+fn names_marked(marks: &[bool], bases: usize, hint: u32) -> bool
+    ensures { result ≡ is_marked marks.now bases hint }
+{
+    let hint = hint as usize;
+    if hint < bases {
+        return true;
+    }
+    match marks.get(hint - bases) {
+        Some(mark) => *mark,
+        None => false,
+    }
+}
+
+// Hints, and beside them a number if there is one.
+pub(crate) fn add_number(hints: Row<u32>, number: Option<u32>) -> Result<Row<u32>, AllocError>
+    ensures { IfOk result (λ all. all ≡ with_number hints number) }
+{
+    let mut hints = hints;
+    if let Some(number) = number {
+        hints.push(number)?;
+    }
+    Ok(hints)
+}

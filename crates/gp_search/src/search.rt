@@ -1,0 +1,73 @@
+ghost use Rattle.std.specs.Prelude.{◌≡◌, ◌≤◌, [], IfOk};
+ghost use Rattle.gp_clause.specs.Problem.{IsValidProblem, IsValidQuery};
+ghost use Rattle.gp_search.specs.Verdict.{IsSolvable, HasRoom, Learns, IsDue};
+
+use crate::engine::Engine;
+use crate::verdict::Verdict;
+use gp_clause::{Problem, Query, Row};
+use gp_derivation::LogEntry;
+use std::alloc::{AllocError, Global};
+use std::marker::Model;
+
+/// A search over one problem, which keeps what it learned from query to query.
+#[derive(Debug, Drop)]
+pub struct Search<'a> {
+    problem: &'a Problem,
+    engine: Engine,
+}
+
+impl<'a> Model for Search<'a> {
+    ghost use Rattle.gp_search.specs.Verdict.{Searching};
+
+    ghost Value = { Searching };
+
+    ghost use Rattle.gp_search.specs.Inside.{IsIdle};
+
+    ghost view = { λ s. record { problem = s.problem.now; log = s.engine.log.items } };
+
+    ghost invariant = { λ s. IsIdle s.problem.now s.engine };
+}
+
+impl<'a> Search<'a> {
+    /// Attaches the clauses of the problem. Memory that is lacking is the one error.
+    pub fn new(alloc: Global, problem: &'a Problem) -> Result<Search<'a>, AllocError>
+        requires valid { IsValidProblem problem.now }
+        requires solvable { IsSolvable problem.now.edges }
+        ensures problem { IfOk result (λ search. search.problem ≡ problem.now) }
+        ensures log { IfOk result (λ search. search.log ≡ []) }
+    {
+        let engine = Engine::new(alloc, problem)?;
+        Ok(Search { problem, engine })
+    }
+
+    /// The entries that were logged, in order.
+    pub fn log(&self) -> &[LogEntry]
+        ensures { result.now ≡ self.now.log }
+    {
+        self.engine.log.as_slice()
+    }
+
+    /// Takes no memory.
+    pub fn into_log(self) -> Row<LogEntry>
+        ensures { result ≡ self.entry.log }
+    {
+        let Search { engine, .. } = self;
+        let Engine { log, .. } = engine;
+        Row::from_vec(log)
+    }
+
+    /// Answers a query, where up to `budget` clauses may be learned. After want of memory the search can be used again,
+    /// and its log may be longer.
+    pub fn ask(&mut self, query: &Query, budget: u64) -> Result<Verdict, AllocError>
+        requires valid { IsValidQuery self.old.problem query.now }
+        requires budget { 1 ≤ budget }
+        requires few { HasRoom self.old budget }
+        ensures problem { self.new.problem ≡ self.old.problem }
+        ensures log { Learns self.old.problem query.now budget self.old.log self.new.log }
+        ensures verdict { IfOk result (IsDue self.old.problem query.now budget self.old.log self.new.log) }
+    {
+        let verdict = self.engine.turn(self.problem, query, budget);
+        self.engine.finish(self.problem, query);
+        verdict
+    }
+}

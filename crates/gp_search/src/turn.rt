@@ -1,0 +1,147 @@
+ghost use Rattle.std.specs.Prelude.{◌≡◌, ◌+◌, ◌<◌, ◌≤◌, ◌^◌, length, IfOk, OnOk, OnErr};
+ghost use Rattle.gp_clause.specs.Problem.{IsValidQuery};
+ghost use Rattle.gp_search.specs.Inside.{IsTurning, IsWhole, IsIdle};
+ghost use Rattle.gp_sat.specs.State.{grown};
+ghost use Rattle.gp_search.specs.Moves.{KeepsLog, IsEnded, IsGrown, retired};
+ghost use Rattle.gp_search.specs.Verdict.{IsDue};
+
+use crate::engine::{Conflict, Engine};
+use crate::verdict::Verdict;
+use gp_clause::{Problem, Query};
+use gp_derivation::log_grows;
+use gp_sat::Solver;
+use std::alloc::AllocError;
+
+// How a descent ended: with a verdict, or with a conflict above the assumptions.
+#[derive(Debug, Drop)]
+pub(crate) enum Descent {
+    Verdict(Verdict),
+    Conflict(Conflict),
+}
+
+impl Engine {
+    // A turn at a query.
+    pub(crate) fn turn(
+        &mut self,
+        problem: &Problem,
+        query: &Query,
+        budget: u64,
+    ) -> Result<Verdict, AllocError>
+        requires idle { IsIdle problem.now self.old }
+        requires valid { IsValidQuery problem.now query.now }
+        requires few { length problem.now.clauses + length self.old.log.items + budget + 2 < 2 ^ 32 }
+        ensures whole { IsWhole problem.now query.now self.new }
+        ensures begins { self.new.begins ≡ length self.old.log.items }
+        ensures grown { IsGrown budget self.old self.new }
+        ensures verdict { IfOk result (IsDue problem.now query.now budget self.old.log.items self.new.log.items) }
+    {
+        self.begin(problem, query)?;
+        self.run(problem, query, budget)
+    }
+
+    // Searches up to a verdict, and learns as many clauses as the budget at most.
+    fn run(&mut self, problem: &Problem, query: &Query, budget: u64) -> Result<Verdict, AllocError>
+        requires turning { IsTurning problem.now query.now self.old }
+        requires start { self.old.begins ≡ length self.old.log.items }
+        requires few { length problem.now.clauses + length self.old.log.items + budget + 2 < 2 ^ 32 }
+        ensures turning { IsTurning problem.now query.now self.new }
+        ensures begins { self.new.begins ≡ self.old.begins }
+        ensures grown { IsGrown budget self.old self.new }
+        ensures verdict { IfOk result (IsDue problem.now query.now budget self.old.log.items self.new.log.items) }
+    {
+        for _ in 0..budget {
+            match self.descend(problem, query)? {
+                Descent::Verdict(verdict) => return Ok(verdict),
+                Descent::Conflict(conflict) => self.learn(problem, query, &conflict)?,
+            }
+        }
+        match self.descend(problem, query)? {
+            Descent::Verdict(verdict) => Ok(verdict),
+            Descent::Conflict(_) => Ok(Verdict::Spent {
+                from: self.begins as u32,
+                to: self.log.len() as u32,
+            }),
+        }
+    }
+
+    // Makes room for a query, and begins its turn at the end of the log.
+    fn begin(&mut self, problem: &Problem, query: &Query) -> Result<(), AllocError>
+        requires idle { IsIdle problem.now self.old }
+        requires valid { IsValidQuery problem.now query.now }
+        requires few { length problem.now.clauses + length self.old.log.items + 2 < 2 ^ 32 }
+        ensures whole { IsWhole problem.now query.now self.new }
+        ensures begins { self.new.begins ≡ length self.old.log.items }
+        ensures same { self.new.log.items ≡ self.old.log.items }
+        ensures turning { OnOk result (IsTurning problem.now query.now self.new) }
+    {
+        log_grows();
+        self.begins = self.log.len();
+        self.asserted = 0;
+        self.assumed = 0;
+        let variables = (problem.kinds.len() + query.locals.len()) as u32;
+        grow(&mut self.solver, variables)?;
+        self.graph.reserve(self.solver.variables())?;
+        let _ = self.solver.trail();
+        Ok(())
+    }
+
+    // Propagates and decides, up to a verdict or a conflict above the assumptions.
+    fn descend(&mut self, problem: &Problem, query: &Query) -> Result<Descent, AllocError>
+        requires { IsTurning problem.now query.now self.old }
+        ensures turning { IsTurning problem.now query.now self.new }
+        ensures same { KeepsLog self.old self.new }
+        ensures ended { IfOk result (IsEnded problem.now query.now self.new) }
+    {
+        loop {
+            if let Some(conflict) = self.propagate(problem, query)? {
+                if self.assumed < self.solver.level() {
+                    return Ok(Descent::Conflict(conflict));
+                }
+                let certificate = self.refute(problem, query, &conflict)?;
+                return Ok(Descent::Verdict(Verdict::Refuted(certificate)));
+            }
+            if let Some(verdict) = self.decide(problem, query)? {
+                return Ok(Descent::Verdict(verdict));
+            }
+        }
+    }
+
+    // Takes back every assignment and bound, and retires what the turn learned and is not pure. Takes no memory.
+    pub(crate) fn finish(&mut self, problem: &Problem, query: &Query)
+        requires { IsWhole problem.now query.now self.old }
+        ensures idle { IsIdle problem.now self.new }
+        ensures same { self.new.log.items ≡ self.old.log.items }
+    {
+        log_grows();
+        self.solver.clear();
+        self.graph.undo_to(0);
+        let bases = problem.clauses.len();
+        for place in self.begins..self.log.len() {
+            self.retire_unless_pure(bases, place);
+        }
+    }
+
+    // Retires the entry at a place, unless it is pure.
+    fn retire_unless_pure(&mut self, bases: usize, place: usize)
+        requires bottom { self.old.solver.level ≡ 0 }
+        requires marked { place < length self.old.pure.items }
+        requires given { bases + place < length self.old.solver.clauses }
+        requires few { bases + place < 2 ^ 32 }
+        ensures { self.new ≡ record self.old { solver = retired self.old.pure.items bases place self.old.solver } }
+    {
+        if !self.pure[place] {
+            self.solver.retire((bases + place) as u32);
+        }
+    }
+}
+
+// Makes room for so many variables, where there is less.
+fn grow(solver: &mut Solver, variables: u32) -> Result<(), AllocError>
+    ensures ok { OnOk result (solver.new ≡ grown solver.old variables) }
+    ensures err { OnErr result (solver.new ≡ solver.old) }
+{
+    if variables <= solver.variables() {
+        return Ok(());
+    }
+    solver.grow(variables)
+}

@@ -153,6 +153,10 @@ fn malformed_manifests_are_refused_at_their_line(rt: HostRuntime) -> Result<(), 
     for (manifest, text) in [
         ("", "refused manifest 1 badline\n"),
         (
+            "gptrace 1\nthreads 1\nepochs 0\nroots 1\n",
+            "refused manifest 3 badline\n",
+        ),
+        (
             "gptrace 1\nthreads 2\nepochs 1\n",
             "refused manifest 4 badline\n",
         ),

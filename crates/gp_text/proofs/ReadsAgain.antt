@@ -6,7 +6,8 @@ use Rattle.std.proofs.lemmas.Bool.Decides.{nat_tests}
 use Rattle.std.proofs.lemmas.List.Elements.{All-from_recursion}
 use Rattle.std.proofs.lemmas.List.Splits.{length-slice_split, slice_split_at, slice_split_none}
 use Rattle.gp_text.specs.Line.{is_word, words_of}
-use Rattle.gp_text.specs.Lines.{check_of, is_strange, lines_from, parts_of, with_line}
+use Rattle.gp_text.specs.Lines.{check_from, check_of, is_strange, kept_from, parts_of}
+use Rattle.gp_text.proofs.Checks.{step}
 use Rattle.gp_text.specs.Spelling.{is_plain, is_plain_word, IsPlainLine, joined, numbered, ReadsAgain, spelling}
 
 -- what a plain byte is not
@@ -88,21 +89,26 @@ line_checked : (n : ℕ) (words : List (List ℕ)) → IsPlainLine words → che
 line_checked n words is =
     rw (none_strange (joined words) (joined_usual words is.plain), le-ltb 4096 (length (joined words)) is.fits) refl
 
--- a line without fault before the parts of a text
-step : (n : ℕ) (line : List ℕ) (parts : List (List ℕ)) → 0 < length parts → check_of n line ≡ Ok tt → lines_from n (line ∷ parts) ≡ with_line n line (lines_from (n + 1) parts)
-step n line [] some ok = absurd (omega arith)
-step n line (part ∷ more) some ok = rw ok refl
+-- the first line of a text is cut off it
+first_cut : (words : List (List ℕ)) (lines : List (List (List ℕ))) → IsPlainLine words → parts_of (spelling (words ∷ lines)) ≡ joined words ∷ parts_of (spelling lines)
+first_cut words lines is =
+    slice_split_at (λ b. b == 10) (joined words) 10 (spelling lines) (All-from_recursion (λ b. (b == 10) ≡ false) (joined words) (usual_unbroken (joined words) (joined_usual words is.plain))) refl
 
-again : (n : ℕ) (lines : List (List (List ℕ))) → AllByRecursion IsPlainLine lines → lines_from n (parts_of (spelling lines)) ≡ Ok (numbered n lines)
-again n [] plain = refl
-again n (words ∷ lines) plain =
-    let cut : parts_of (spelling (words ∷ lines)) ≡ joined words ∷ parts_of (spelling lines) =
-    slice_split_at (λ b. b == 10) (joined words) 10 (spelling lines) (All-from_recursion (λ b. (b == 10) ≡ false) (joined words) (usual_unbroken (joined words) (joined_usual words plain.0.plain))) refl in
+-- plain lines have no fault
+checked : (n : ℕ) (lines : List (List (List ℕ))) → AllByRecursion IsPlainLine lines → check_from n (parts_of (spelling lines)) ≡ Ok tt
+checked n [] plain = refl
+checked n (words ∷ lines) plain =
     let some : 0 < length (parts_of (spelling lines)) = omega (arith, length-slice_split (λ b. b == 10) (spelling lines)) in
-    ap (lines_from n) cut
+    ap (check_from n) (first_cut words lines plain.0)
     ∙ step n (joined words) (parts_of (spelling lines)) some (line_checked n words plain.0)
-    ∙ ap (with_line n (joined words)) (again (n + 1) lines plain.1)
-    ∙ rw (words_again words plain.0.plain, plain.0.says) refl
+    ∙ checked (n + 1) lines plain.1
+
+-- and none of them is passed over
+kept : (n : ℕ) (lines : List (List (List ℕ))) → AllByRecursion IsPlainLine lines → kept_from n (parts_of (spelling lines)) ≡ numbered n lines
+kept n [] plain = refl
+kept n (words ∷ lines) plain =
+    ap (kept_from n) (first_cut words lines plain.0)
+    ∙ rw (words_again words plain.0.plain, plain.0.says) (ap (λ rest. record { number = n; words = words } ∷ rest) (kept (n + 1) lines plain.1))
 
 pub reads_again_lem : ReadsAgain
-reads_again_lem lines plain = again 1 lines plain
+reads_again_lem lines plain = rw (checked 1 lines plain) (ap Ok (kept 1 lines plain))

@@ -5,3 +5,7 @@ pub mod Numbers
 pub mod Padding
 pub mod Results
 pub mod Spelling
+pub mod Table
+pub mod LineLaws
+pub mod ResultLaws
+pub mod TableLaws

@@ -12,10 +12,15 @@ then_rest (Ok value) (Ok rest) = Ok (value ∷ rest)
 then_rest (Ok value) (Err refusal) = Err refusal
 then_rest (Err refusal) rest = Err refusal
 
--- what was read before, in front of what the rest gives
-abbrev pub with_front : {A E : Type 0} → List A → Result (List A) E → Result (List A) E
-with_front front (Ok rest) = Ok (front ++ rest)
-with_front front (Err refusal) = Err refusal
+-- what was read before, as a prefix of what the rest gives
+abbrev pub with_prefix : {A E : Type 0} → List A → Result (List A) E → Result (List A) E
+with_prefix prefix (Ok rest) = Ok (prefix ++ rest)
+with_prefix prefix (Err refusal) = Err refusal
+
+-- what was read before, as a prefix of what the rest spells, where it spells something
+abbrev pub some_prefix : {A : Type 0} → List A → Option (List A) → Option (List A)
+some_prefix prefix (Some rest) = Some (prefix ++ rest)
+some_prefix prefix None = None
 
 -- a value that must be there
 abbrev pub or_refusal : {A E : Type 0} → E → Option A → Result A E

@@ -40,8 +40,14 @@ numbered n (words ∷ lines) = record { number = n; words = words } ∷ numbered
 abbrev pub ReadsAgain : Type 0
 ReadsAgain = (lines : List (List (List ℕ))) → AllByRecursion IsPlainLine lines → lines_of (spelling lines) ≡ Ok (numbered 1 lines)
 
--- names and decimals are plain words, and short
+-- a plain word of at most 80 bytes
+pub record IsShortWord (word : List ℕ) : Type 0 where
+  pub plain : is_plain_word word ≡ true
+  pub short : length word ≤ 80
+
+-- names and decimals are plain words, and short; up to 50 short words make a line
 pub record PlainWords : Type 0 where
   pub names : (bytes : List ℕ) → is_name bytes ≡ true → (is_plain_word bytes ≡ true) × (length bytes ≤ 32)
   pub numbers : (n : ℕ) → n < 2 ^ 64 → (is_plain_word (decimal n) ≡ true) × (length (decimal n) ≤ 20)
   pub signed : (z : ℤ) → FitsSigned w64 z → (is_plain_word (signed_decimal z) ≡ true) × (length (signed_decimal z) ≤ 20)
+  pub lines : (words : List (List ℕ)) → AllByRecursion IsShortWord words → length words ≤ 50 → is_passed_over words ≡ false → IsPlainLine words

@@ -1,7 +1,6 @@
 ghost use Rattle.std.specs.Prelude.{◌≡◌, [], ◌∷◌, ◌++◌, filter, length, IfOk, OnOk};
-ghost use Rattle.gp_text.specs.Line.{is_word, words_of};
 
-use crate::parts::cut;
+use crate::cursor::Words;
 use crate::row::Row;
 use std::alloc::{AllocError, Global};
 use std::marker::Model;
@@ -45,25 +44,14 @@ pub struct Line {
     pub words: Row<Word>,
 }
 
-/// The words of a line, in order.
-pub(crate) fn split_words(alloc: Global, line: &[u8]) -> Result<Row<Word>, AllocError>
-    ensures { IfOk result (λ words. words ≡ words_of line.now) }
+/// The words that are left of a line, in order.
+pub(crate) fn collect_words(alloc: Global, rest: Words) -> Result<Row<Word>, AllocError>
+    ensures { IfOk result (λ words. words ≡ rest.entry) }
 {
+    let mut rest = rest;
     let mut words = Row::new(alloc);
-    let mut rest = line;
-    while let Some((word, after)) = cut(rest, b' ') {
-        add_word(alloc, &mut words, word)?;
-        rest = after;
+    while let Some(word) = rest.next() {
+        words.push(Word::copied(alloc, word)?)?;
     }
-    add_word(alloc, &mut words, rest)?;
     Ok(words)
-}
-
-fn add_word(alloc: Global, words: &mut Row<Word>, bytes: &[u8]) -> Result<(), AllocError>
-    ensures { OnOk result (words.new ≡ words.old ++ filter is_word (bytes.now ∷ [])) }
-{
-    if bytes.is_empty() {
-        return Ok(());
-    }
-    words.push(Word::copied(alloc, bytes)?)
 }

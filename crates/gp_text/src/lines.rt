@@ -1,8 +1,9 @@
-ghost use Rattle.std.specs.Prelude.{◌≡◌, ◌≢◌, ◌-◌, ◌^◌, ◌<◌, ◌++◌, length, OnOk};
+ghost use Rattle.std.specs.Prelude.{◌≡◌, ◌≢◌, ◌-◌, ◌^◌, ◌<◌, length};
 ghost use Rattle.std.specs.List.{list_any};
-ghost use Rattle.gp_text.specs.Lines.{check_of, is_passed_over, is_strange, kept_lines, lines_of};
+ghost use Rattle.gp_text.specs.Lines.{check_of, check_of_text, end_line_of, is_strange, lines_of};
 
-use crate::line::{Line, Word, split_words};
+use crate::cursor::Lines;
+use crate::line::{Line, collect_words};
 use crate::parts::cut;
 use crate::row::Row;
 use std::alloc::{AllocError, Global};
@@ -38,18 +39,15 @@ impl From<AllocError> for TextFault {
     }
 }
 
-/// Reads a text as its lines of words. Lines that are passed over are counted.
-pub fn read_lines(alloc: Global, bytes: &[u8]) -> Result<Row<Line>, TextFault>
+/// Tells the first fault of a text. It takes no memory, and its answer is never `Memory`.
+pub fn check_text(bytes: &[u8]) -> Result<(), TextFault>
     requires { length bytes.now < 2 ^ 32 - 1 }
-    ensures { result ≢ Err TextFault.Memory → result ≡ lines_of bytes.now }
+    ensures { result ≡ check_of_text bytes.now }
 {
-    let mut lines = Row::new(alloc);
     let mut rest = bytes;
     let mut number = 1u32;
     while let Some((line, after)) = cut(rest, b'\n') {
         check(number, line)?;
-        let words = split_words(alloc, line)?;
-        keep(&mut lines, number, words)?;
         rest = after;
         number += 1;
     }
@@ -57,7 +55,7 @@ pub fn read_lines(alloc: Global, bytes: &[u8]) -> Result<Row<Line>, TextFault>
     if !rest.is_empty() {
         return Err(TextFault::NoLastNewline(number));
     }
-    Ok(lines)
+    Ok(())
 }
 
 fn check(number: u32, line: &[u8]) -> Result<(), TextFault>
@@ -78,20 +76,34 @@ fn has_strange(line: &[u8]) -> bool
     line.iter().any(|byte| *byte < b' ' || *byte > b'~')
 }
 
-fn keep(lines: &mut Row<Line>, number: u32, words: Row<Word>) -> Result<(), AllocError>
-    ensures { OnOk result (lines.new ≡ lines.old ++ kept_lines number words) }
+/// The number of the line at which a text ends: one more than its newlines.
+pub fn end_line(bytes: &[u8]) -> u32
+    requires { length bytes.now < 2 ^ 32 - 1 }
+    ensures { result ≡ end_line_of bytes.now }
 {
-    if is_passed_over(words.as_slice()) {
-        return Ok(());
+    let mut line = 1;
+    for byte in bytes {
+        if *byte == b'\n' {
+            line += 1;
+        }
     }
-    lines.push(Line { number, words })
+    line
 }
 
-fn is_passed_over(words: &[Word]) -> bool
-    ensures { result ≡ is_passed_over words.now }
+/// Reads a text as its lines of words. Lines that are passed over are counted.
+pub fn read_lines(alloc: Global, bytes: &[u8]) -> Result<Row<Line>, TextFault>
+    requires { length bytes.now < 2 ^ 32 - 1 }
+    ensures { result ≢ Err TextFault.Memory → result ≡ lines_of bytes.now }
 {
-    match words {
-        [] => true,
-        [first, ..] => first.as_bytes().first() == Some(&b'#'),
+    check_text(bytes)?;
+    let mut lines = Row::new(alloc);
+    let mut rest = Lines::of(bytes);
+    while let Some(line) = rest.next() {
+        let words = collect_words(alloc, line.words)?;
+        lines.push(Line {
+            number: line.number,
+            words,
+        })?;
     }
+    Ok(lines)
 }

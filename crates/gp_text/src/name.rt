@@ -13,7 +13,7 @@ pub const LONGEST_NAME: usize = 32;
 #[derive(Clone, Copy, Debug)]
 pub struct Name {
     bytes: [u8; LONGEST_NAME],
-    len: usize,
+    len: u8,
 }
 
 impl Model for Name {
@@ -43,7 +43,7 @@ impl Name {
         row[..bytes.len()].copy_from_slice(bytes);
         Some(Name {
             bytes: row,
-            len: bytes.len(),
+            len: bytes.len() as u8,
         })
     }
 
@@ -52,7 +52,7 @@ impl Name {
         ensures value { result.now ≡ self.now }
         ensures named { IsTrue (is_name self.now) }
     {
-        &self.bytes[..self.len]
+        &self.bytes[..usize::from(self.len)]
     }
 }
 

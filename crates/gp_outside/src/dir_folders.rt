@@ -44,7 +44,7 @@ impl<R: Files> Folder for DirFolder<R> {
     fn read(&mut self, name: &str, limit: u64, out: &mut Vec<u8>) -> Result<(), ReadFault>
         ensures later { self.old ≤ self.new }
         ensures counted { self.new ≡ faults_after result self.old }
-        ensures front { BeginsWith out.new.items out.old.items }
+        ensures prefix { BeginsWith out.new.items out.old.items }
         ensures fits { OnOk result (length out.new.items ≤ length out.old.items + limit) }
         ensures one_more { result ≡ Err ReadFault.TooLong →
             length out.new.items ≡ length out.old.items + limit + 1 }
@@ -58,7 +58,7 @@ impl<R: Files> Folder for DirFolder<R> {
 }
 
 fn read_file<R: Files>(rt: &R, name: &str, limit: u64, out: &mut Vec<u8>) -> Result<(), ReadFault>
-    ensures front { BeginsWith out.new.items out.old.items }
+    ensures prefix { BeginsWith out.new.items out.old.items }
     ensures fits { OnOk result (length out.new.items ≤ length out.old.items + limit) }
     ensures one_more { result ≡ Err ReadFault.TooLong →
         length out.new.items ≡ length out.old.items + limit + 1 }
@@ -75,7 +75,7 @@ fn read_within<F: Read>(file: &mut F, limit: u64, out: &mut Vec<u8>) -> Result<(
     ensures moved { result ≢ Err ReadFault.Memory →
         Moves (F.remaining file.old) (F.remaining file.new) out.old.items out.new.items }
     ensures end { OnOk result (IsAtEnd (F.remaining file.new)) }
-    ensures front { BeginsWith out.new.items out.old.items }
+    ensures prefix { BeginsWith out.new.items out.old.items }
     ensures fits { OnOk result (length out.new.items ≤ length out.old.items + limit) }
     ensures one_more { result ≡ Err ReadFault.TooLong →
         length out.new.items ≡ length out.old.items + limit + 1 }
@@ -103,10 +103,10 @@ mod tests {
     use std::io;
     use std::io::Error;
 
-    // Gives two bytes at each read, and fails at the third.
+    // Gives the number of the read twice at each read, and fails at the third.
     #[derive(Drop)]
     struct Broken {
-        reads: u32,
+        reads: u8,
     }
 
     impl Read for Broken {
@@ -115,25 +115,23 @@ mod tests {
             if self.reads == 3 {
                 return Err(Error::from(ErrorKind::UnexpectedEof));
             }
-            Ok(buf.len().min(2))
+            let count = buf.len().min(2);
+            buf[..count].fill(self.reads);
+            Ok(count)
         }
     }
 
     #[test]
     fn a_read_that_fails_is_no_end(rt: HostRuntime) {
-        for (limit, answer, len) in [
-            (9, Err(ReadFault::Failed), 4usize),
-            (4, Err(ReadFault::Failed), 4),
-            (3, Err(ReadFault::TooLong), 4),
-            (0, Err(ReadFault::TooLong), 1),
+        for (limit, answer, bytes) in [
+            (9, Err(ReadFault::Failed), [1u8, 1, 2, 2].as_slice()),
+            (4, Err(ReadFault::Failed), &[1, 1, 2, 2]),
+            (3, Err(ReadFault::TooLong), &[1, 1, 2, 2]),
+            (0, Err(ReadFault::TooLong), &[1]),
         ] {
             let mut out = Vec::new(rt.alloc());
-            assert_eq!(rt;
-                read_within(&mut Broken { reads: 0 }, limit, &mut out),
-                answer,
-                "{limit}"
-            );
-            assert_eq!(rt; out.len(), len, "{limit}");
+            let given = read_within(&mut Broken { reads: 0 }, limit, &mut out);
+            assert!(rt; given == answer && out.as_slice() == bytes, "{limit}");
         }
     }
 }

@@ -45,7 +45,7 @@ pub trait Folder {
     fn read(&mut self, name: &str, limit: u64, out: &mut Vec<u8>) -> Result<(), ReadFault>
         ensures later { faults self.old ≤ faults self.new }
         ensures kept { files self.new ≡ files self.old }
-        ensures front { BeginsWith out.new.items out.old.items }
+        ensures prefix { BeginsWith out.new.items out.old.items }
 
         ensures whole { OnOk result
             (ReadWhole (files self.old) name.now limit out.old.items out.new.items) }

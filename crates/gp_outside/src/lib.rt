@@ -10,6 +10,7 @@ mod folders;
 mod gates;
 mod memory_folders;
 mod memory_sinks;
+mod outputs;
 mod sinks;
 mod std_sinks;
 
@@ -18,6 +19,7 @@ pub use folders::{Folder, ReadFault};
 pub use gates::{FreeGate, Gate};
 pub use memory_folders::MemoryFolder;
 pub use memory_sinks::MemorySink;
+pub use outputs::Output;
 pub use sinks::{PutFault, Sink};
 pub use std_sinks::StdSink;
 

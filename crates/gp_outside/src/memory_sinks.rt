@@ -62,7 +62,7 @@ fn allowance_of(failing: &[(u64, u64)], call: u64) -> Option<u64>
 }
 
 // At most so many bytes of the piece, from its beginning.
-fn front_of(piece: &[u8], bytes: u64) -> &[u8]
+fn prefix_of(piece: &[u8], bytes: u64) -> &[u8]
     ensures { result.now ≡ take bytes piece.now }
 {
     if bytes < piece.len() as u64 {
@@ -94,7 +94,7 @@ impl Sink for MemorySink {
                 Ok(())
             }
             Some(bytes) => {
-                self.written.extend_from_slice(front_of(piece, bytes))?;
+                self.written.extend_from_slice(prefix_of(piece, bytes))?;
                 self.faults = self.faults.saturating_add(1);
                 Err(PutFault::Failed)
             }

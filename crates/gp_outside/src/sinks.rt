@@ -8,7 +8,7 @@ use thiserror::Error;
 /// Why a piece was not written whole.
 #[derive(Debug, Clone, Copy, PartialEq, Eq, Error)]
 pub enum PutFault {
-    /// The write failed. A front part of the piece may have been written.
+    /// The write failed. A prefix of the piece may have been written.
     #[error("the bytes could not be written")]
     Failed,
     /// There was no memory for the piece, and none of it was written.

@@ -1,7 +1,8 @@
 use crate::{
     DirFolder, Folder, FreeGate, Gate, MemoryFolder, MemorySink, PutFault, ReadFault, Sink, StdSink,
 };
-use std::cell::Cell;
+use std::alloc::{AllocError, Global};
+use std::cell::{Cell, RefCell};
 use std::fmt::Display;
 use std::io::{Error, ErrorKind};
 use std::test::Fail;
@@ -9,6 +10,20 @@ use std::{fs, io};
 
 fn passes<G: Gate + Sync>(gate: &G) {
     gate.pass(1, 0);
+}
+
+// Whether the read has that answer, and puts those bytes and no others behind what the buffer had.
+fn reads<F: Folder>(
+    alloc: Global,
+    folder: &mut F,
+    (name, limit): (&str, u64),
+    answer: Result<(), ReadFault>,
+    bytes: &[u8],
+) -> Result<bool, AllocError> {
+    let mut out = Vec::from_slice(alloc, b"old")?;
+    let mut due = Vec::from_slice(alloc, b"old")?;
+    due.extend_from_slice(bytes)?;
+    Ok(folder.read(name, limit, &mut out) == answer && out == due)
 }
 
 #[test]
@@ -34,16 +49,47 @@ fn memory_folder_answers_by_name_limit_and_script(rt: HostRuntime) -> Result<(),
         ("two", 0, Err(ReadFault::TooLong), "x"),
         ("two", u64::MAX, Ok(()), "xyz"),
     ] {
-        let mut out = Vec::from_slice(rt.alloc(), b"old")?;
-        assert_eq!(rt;
-            folder.read(name, limit, &mut out),
+        let is_due = reads(
+            rt.alloc(),
+            &mut folder,
+            (name, limit),
             answer,
-            "{name} {limit}"
-        );
-        assert_eq!(rt; &out[..3], b"old".as_slice(), "{name} {limit}");
-        assert_eq!(rt; &out[3..], text.as_bytes(), "{name} {limit}");
+            text.as_bytes(),
+        )?;
+        assert!(rt; is_due, "{name} {limit}");
     }
-    assert_eq!(rt; folder.files().len(), 4);
+    Ok(())
+}
+
+#[test]
+fn dir_folder_reads_files_of_the_system(rt: HostRuntime) -> Result<(), Fail> {
+    let _ = fs::remove_dir_all(&rt, "outside_test");
+    fs::create_dir(&rt, "outside_test")?;
+    fs::write(&rt, "outside_test/text", "some text\n")?;
+    let mut long = [7u8; 5000];
+    long[4096] = 8;
+    fs::write(&rt, "outside_test/long", &long)?;
+    let mut folder = DirFolder::new(rt.clone()?);
+    for (name, limit, answer, bytes) in [
+        ("text", 10, Ok(()), b"some text\n".as_slice()),
+        ("text", 3, Err(ReadFault::TooLong), b"some"),
+        ("long", 5000, Ok(()), &long),
+        ("long", 4999, Err(ReadFault::TooLong), &long),
+        ("long", 4095, Err(ReadFault::TooLong), &long[..4096]),
+        ("other", 99, Err(ReadFault::Absent), b""),
+        ("text/other", 99, Err(ReadFault::Failed), b""),
+    ] {
+        let path = format!(in rt.alloc(); "outside_test/{name}")?;
+        let is_due = reads(
+            rt.alloc(),
+            &mut folder,
+            (path.as_str(), limit),
+            answer,
+            bytes,
+        )?;
+        assert!(rt; is_due, "{name} {limit}");
+    }
+    fs::remove_dir_all(&rt, "outside_test")?;
     Ok(())
 }
 
@@ -58,51 +104,33 @@ fn memory_sink_writes_what_its_script_lets_it(rt: HostRuntime) -> Result<(), Fai
         ("ef", Err(PutFault::Failed), "helabef"),
         ("", Ok(()), "helabef"),
     ] {
-        assert_eq!(rt; sink.put(piece.as_bytes()), answer, "{piece}");
-        assert_eq!(rt; sink.bytes(), text.as_bytes(), "{piece}");
+        let is_due = sink.put(piece.as_bytes()) == answer && sink.bytes() == text.as_bytes();
+        assert!(rt; is_due, "{piece}");
     }
     Ok(())
 }
 
-#[test]
-fn dir_folder_reads_files_of_the_system(rt: HostRuntime) -> Result<(), Fail> {
-    let _ = fs::remove_dir_all(&rt, "outside_test");
-    fs::create_dir(&rt, "outside_test")?;
-    fs::write(&rt, "outside_test/text", "some text\n")?;
-    let long = [7u8; 5000];
-    fs::write(&rt, "outside_test/long", &long)?;
-    let mut folder = DirFolder::new(rt.clone()?);
-    for (name, limit, answer, len) in [
-        ("outside_test/text", 10, Ok(()), 10usize),
-        ("outside_test/text", 9, Err(ReadFault::TooLong), 10),
-        ("outside_test/text", 3, Err(ReadFault::TooLong), 4),
-        ("outside_test/long", u64::MAX, Ok(()), 5000),
-        ("outside_test/long", 4999, Err(ReadFault::TooLong), 5000),
-        ("outside_test/long", 4095, Err(ReadFault::TooLong), 4096),
-        ("outside_test/other", 99, Err(ReadFault::Absent), 0),
-        ("outside_test/text/other", 99, Err(ReadFault::Failed), 0),
-        ("outside_test", 99, Err(ReadFault::Failed), 0),
-    ] {
-        let mut out = Vec::from_slice(rt.alloc(), b"old")?;
-        assert_eq!(rt;
-            folder.read(name, limit, &mut out),
-            answer,
-            "{name} {limit}"
-        );
-        assert_eq!(rt; &out[..3], b"old".as_slice(), "{name} {limit}");
-        assert_eq!(rt; out.len(), 3 + len, "{name} {limit}");
-    }
-    let mut out = Vec::new(rt.alloc());
-    assert_eq!(rt; folder.read("outside_test/text", 99, &mut out), Ok(()));
-    assert_eq!(rt; out.as_slice(), b"some text\n".as_slice());
-    fs::remove_dir_all(&rt, "outside_test")?;
-    Ok(())
-}
-
-// An output that takes three bytes at most, fails at its second write and takes nothing at its fourth.
+// An output that keeps two bytes of a write at most, fails at its second and takes nothing at its fifth.
 #[derive(Drop)]
 struct Narrow {
+    written: RefCell<Vec<u8>>,
     writes: Cell<u32>,
+}
+
+impl Narrow {
+    fn has(&self, text: &str) -> bool {
+        match self.written.try_borrow() {
+            Ok(written) => written.as_slice() == text.as_bytes(),
+            Err(_) => false,
+        }
+    }
+
+    fn keep(&self, bytes: &[u8]) -> io::Result<()> {
+        match self.written.try_borrow_mut() {
+            Ok(mut written) => Ok(written.extend_from_slice(bytes)?),
+            Err(_) => Err(Error::from(ErrorKind::Other)),
+        }
+    }
 }
 
 impl Print for Narrow {
@@ -122,31 +150,39 @@ impl Print for Narrow {
         self.writes.set(self.writes.get().saturating_add(1));
         match self.writes.get() {
             2 => Err(Error::from(ErrorKind::BrokenPipe)),
-            4 => Ok(0),
-            _ => Ok(bytes.len().min(3)),
+            5 => Ok(0),
+            _ => {
+                let part = &bytes[..bytes.len().min(2)];
+                self.keep(part)?;
+                Ok(part.len())
+            }
         }
     }
 }
 
 #[test]
-fn std_sink_fails_in_mid_piece(rt: HostRuntime) {
-    let mut sink = StdSink::new(Narrow {
+fn std_sink_writes_each_byte_of_a_piece(rt: HostRuntime) {
+    let narrow = Narrow {
+        written: RefCell::new(Vec::new(rt.alloc())),
         writes: Cell::new(0),
-    });
-    for (piece, answer) in [
-        ("three", Err(PutFault::Failed)),
-        ("seven", Err(PutFault::Failed)),
-        ("five", Ok(())),
+    };
+    let mut sink = StdSink::new(&narrow);
+    for (piece, answer, text) in [
+        ("three", Err(PutFault::Failed), "th"),
+        ("seven", Err(PutFault::Failed), "thseve"),
+        ("five", Ok(()), "thsevefive"),
+        ("odd", Ok(()), "thsevefiveodd"),
+        ("", Ok(()), "thsevefiveodd"),
     ] {
-        assert_eq!(rt; sink.put(piece.as_bytes()), answer, "{piece}");
+        let is_due = sink.put(piece.as_bytes()) == answer && narrow.has(text);
+        assert!(rt; is_due, "{piece}");
     }
+    passes(&FreeGate);
 }
 
 #[test]
-fn std_sink_writes_a_line(rt: HostRuntime) -> Result<(), Fail> {
+fn std_sink_writes_to_the_standard_output(rt: HostRuntime) -> Result<(), Fail> {
     let mut sink = StdSink::new(rt.clone()?);
-    assert_eq!(rt; sink.put(b"a line\n"), Ok(()));
-    assert_eq!(rt; sink.put(b""), Ok(()));
-    passes(&FreeGate);
+    assert!(rt; sink.put(b"a line\n") == Ok(()));
     Ok(())
 }

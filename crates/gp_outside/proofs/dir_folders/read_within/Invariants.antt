@@ -6,7 +6,7 @@ use Rattle.gp_outside.proofs.dir_folders.read_within.Given as goal
 abbrev pub invariant-loop-count : goal.invariant-loop-count
 invariant-loop-count g l = record {
   moved : Moves (g.F.Read.remaining l.initial.file) (g.F.Read.remaining l.file) l.initial.out.items l.out.items;
-  front : BeginsWith l.out.items l.initial.out.items;
+  prefix : BeginsWith l.out.items l.initial.out.items;
   room : length l.out.items + l.left ≡ length l.initial.out.items + l.limit;
 }
 

@@ -1,6 +1,9 @@
 pub mod Event
 pub mod Faults
+pub mod Grammar
+pub mod LockUse
 pub mod Printed
 pub mod Rules
+pub mod RulesLaws
 pub mod Trace
 pub mod Walk

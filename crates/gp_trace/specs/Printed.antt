@@ -3,8 +3,9 @@ use Rattle.std.specs.Prelude.{◌≡◌, ℕ, ◌+◌, ◌-◌, Bool, false, ◌
 use Rattle.std.specs.Fmt.{signed_decimal}
 use Rattle.gp_text.specs.Spelling.{spelling}
 use Rattle.gp_trace.specs.declared.event.Event.{Event}
-use Rattle.gp_trace.specs.declared.event.Event.TheVariants.{Read, Write, Acquire, Release, Start, Join, Op, Begin, End}
-use Rattle.gp_trace.specs.Trace.{IsLocalTrace, Trace}
+use Rattle.gp_trace.specs.declared.event.Event.TheVariants.{Read, Write, Acquire, Release, RAcquire, RRelease, Start, Join, Op, Begin, End}
+use Rattle.gp_trace.specs.Trace.{in_order, IsLocalTrace, LocalTraceForm}
+use Rattle.gp_trace.specs.LockUse.{AreOfFormat}
 use Rattle.gp_trace.specs.Walk.{trace_of}
 
 -- the words of an event
@@ -13,6 +14,8 @@ event_words (Read name value) = codes "read" ∷ name ∷ signed_decimal value �
 event_words (Write name value) = codes "write" ∷ name ∷ signed_decimal value ∷ []
 event_words (Acquire lock) = codes "acquire" ∷ lock ∷ []
 event_words (Release lock) = codes "release" ∷ lock ∷ []
+event_words (RAcquire lock) = codes "racquire" ∷ lock ∷ []
+event_words (RRelease lock) = codes "rrelease" ∷ lock ∷ []
 event_words (Start thread) = codes "start" ∷ decimal thread ∷ []
 event_words (Join thread) = codes "join" ∷ decimal thread ∷ []
 event_words (Op name objects) = codes "op" ∷ name ∷ objects
@@ -45,9 +48,9 @@ segment_lines exit_in (segment ∷ segments) =
     event_lines segment ++ (exit_lines exit_in 1 ++ later_lines exit_in 2 segments)
 
 -- the text of a trace
-abbrev pub trace_text : Trace → List ℕ
+abbrev pub trace_text : LocalTraceForm → List ℕ
 trace_text trace = spelling (segment_lines trace.exit_in trace.segments)
 
--- the text of a trace is read as the trace, with a mark fewer than there are segments
+-- the text of a trace is read as the trace in each format that its events belong to, with a mark fewer than there are segments
 abbrev pub TraceReadsAgain : Type 0
-TraceReadsAgain = (trace : Trace) → IsLocalTrace trace → trace_of trace.thread (length trace.segments - 1) (trace_text trace) ≡ Ok trace
+TraceReadsAgain = (format : ℕ) (trace : LocalTraceForm) → IsLocalTrace trace → AreOfFormat format (in_order trace.segments) → trace_of format trace.thread (length trace.segments - 1) (trace_text trace) ≡ Ok trace

@@ -4,11 +4,11 @@ use Rattle.std.specs.Int.{w64}
 use Rattle.std.specs.List.{AllByRecursion}
 use Rattle.gp_text.specs.Name.{is_name}
 use Rattle.gp_trace.specs.declared.event.Event.{Event}
-use Rattle.gp_trace.specs.declared.event.Event.TheVariants.{Read, Write, Acquire, Release, Start, Join, Op, Begin, End}
+use Rattle.gp_trace.specs.declared.event.Event.TheVariants.{Read, Write, Acquire, Release, RAcquire, RRelease, Start, Join, Op, Begin, End}
 use Rattle.gp_trace.specs.Rules.{at_first, AreWellFormed}
 
 -- a thread's number, its events in segments, and the segment, from 1, in which it ended
-pub record Trace : Type 0 where
+pub record LocalTraceForm : Type 0 where
   pub thread : ℕ
   pub segments : List (List Event)
   pub exit_in : Option ℕ
@@ -24,6 +24,8 @@ IsEvent (Read name value) = (is_name name ≡ true) × FitsSigned w64 value
 IsEvent (Write name value) = (is_name name ≡ true) × FitsSigned w64 value
 IsEvent (Acquire lock) = is_name lock ≡ true
 IsEvent (Release lock) = is_name lock ≡ true
+IsEvent (RAcquire lock) = is_name lock ≡ true
+IsEvent (RRelease lock) = is_name lock ≡ true
 IsEvent (Start other) = other < 2 ^ 32
 IsEvent (Join other) = other < 2 ^ 32
 IsEvent (Op name objects) = (is_name name ≡ true) × AllByRecursion (λ object. is_name object ≡ true) objects × (length objects ≤ 4)
@@ -37,7 +39,7 @@ IsExit (Some number) segments =
     (1 ≤ number) × (number ≤ length segments) × AllByRecursion (λ segment. segment ≡ []) (drop number segments)
 
 -- what is true of every trace
-pub record IsLocalTrace (trace : Trace) : Type 0 where
+pub record IsLocalTrace (trace : LocalTraceForm) : Type 0 where
   pub some : 1 ≤ length trace.segments
   pub few : length (in_order trace.segments) < 2 ^ 32
   pub events : AllByRecursion IsEvent (in_order trace.segments)

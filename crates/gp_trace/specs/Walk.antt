@@ -1,8 +1,8 @@
 -- How the lines of a trace are read, one after another.
-use Rattle.std.specs.Prelude.{◌≡◌, ℕ, ◌+◌, ◌-◌, ◌^◌, ◌<◌, ◌==◌, if◌then◌else◌, List, [], ◌∷◌, ◌++◌, length, count_by, is_some, Option, Some, None, Result, Ok, Err}
+use Rattle.std.specs.Prelude.{◌≡◌, ℕ, ◌+◌, ◌-◌, ◌^◌, ◌<◌, ◌==◌, if◌then◌else◌, List, [], ◌∷◌, ◌++◌, length, is_some, Option, Some, None, Result, Ok, Err}
 use Rattle.gp_text.specs.declared.line.Line.{Line}
 use Rattle.gp_text.specs.declared.lines.TextFault.{TextFault}
-use Rattle.gp_text.specs.Lines.{lines_of}
+use Rattle.gp_text.specs.Lines.{end_line_of, lines_of}
 use Rattle.gp_text.specs.Results.{and_then}
 use Rattle.gp_trace.specs.declared.event.Event.{Event}
 use Rattle.gp_trace.specs.declared.fault.TraceFault.{TraceFault}
@@ -12,7 +12,8 @@ use Rattle.gp_trace.specs.declared.line.Entry.TheVariants.{Did, Mark, Exit}
 use Rattle.gp_trace.specs.declared.walk.Walk.{Walk}
 use Rattle.gp_trace.specs.Event.{entry_of}
 use Rattle.gp_trace.specs.Rules.{after, at_first, check}
-use Rattle.gp_trace.specs.Trace.{IsLocalTrace, Trace}
+use Rattle.gp_trace.specs.Trace.{in_order, IsLocalTrace, LocalTraceForm}
+use Rattle.gp_trace.specs.LockUse.{AreOfFormat}
 
 -- before the first line: no segment has ended, and the first is empty
 abbrev pub at_start : Walk
@@ -48,42 +49,39 @@ after_exit marks n walk (Some Mark) = at_mark marks n walk
 after_exit marks n walk (Some Exit) = Err (AfterExit n)
 
 -- one line further
-abbrev pub next : ℕ → ℕ → Walk → Line → Result Walk TraceFault
-next thread marks walk line =
-    if is_some walk.exit_in then after_exit marks line.number walk (entry_of line.words)
-    else before_exit thread marks line.number walk (entry_of line.words)
+abbrev pub next : ℕ → ℕ → ℕ → Walk → Line → Result Walk TraceFault
+next format thread marks walk line =
+    if is_some walk.exit_in then after_exit marks line.number walk (entry_of format line.words)
+    else before_exit thread marks line.number walk (entry_of format line.words)
 
 -- the lines one after another, up to the first that breaks a rule
-abbrev pub after_lines : ℕ → ℕ → Walk → List Line → Result Walk TraceFault
-after_lines thread marks walk [] = Ok walk
-after_lines thread marks walk (line ∷ lines) = and_then (next thread marks walk line) (λ mid. after_lines thread marks mid lines)
+abbrev pub after_lines : ℕ → ℕ → ℕ → Walk → List Line → Result Walk TraceFault
+after_lines format thread marks walk [] = Ok walk
+after_lines format thread marks walk (line ∷ lines) = and_then (next format thread marks walk line) (λ mid. after_lines format thread marks mid lines)
 
 -- the trace at the end of the text, in line n, where all marks came
-abbrev pub at_end : ℕ → ℕ → ℕ → Result Walk TraceFault → Result Trace TraceFault
+abbrev pub at_end : ℕ → ℕ → ℕ → Result Walk TraceFault → Result LocalTraceForm TraceFault
 at_end thread marks n (Ok walk) =
     if length walk.ended == marks then Ok (record { thread = thread; segments = walk.ended ++ walk.segment ∷ []; exit_in = walk.exit_in })
     else Err (MarkCount n)
 at_end thread marks n (Err fault) = Err fault
 
--- the line at which a text ends: one more than its newlines
-abbrev pub last_line : List ℕ → ℕ
-last_line bytes = count_by (λ b. b == 10) bytes + 1
-
 -- the trace in the lines of a text that ends at line n
-abbrev pub trace_in : ℕ → ℕ → ℕ → Result (List Line) TextFault → Result Trace TraceFault
-trace_in thread marks n (Ok lines) = at_end thread marks n (after_lines thread marks at_start lines)
-trace_in thread marks n (Err fault) = Err (Text fault)
+abbrev pub trace_in : ℕ → ℕ → ℕ → ℕ → Result (List Line) TextFault → Result LocalTraceForm TraceFault
+trace_in format thread marks n (Ok lines) = at_end thread marks n (after_lines format thread marks at_start lines)
+trace_in format thread marks n (Err fault) = Err (Text fault)
 
--- the trace of this thread, with so many marks, that a text spells, or its first fault
-abbrev pub trace_of : ℕ → ℕ → List ℕ → Result Trace TraceFault
-trace_of thread marks bytes = trace_in thread marks (last_line bytes) (lines_of bytes)
+-- the trace of this thread, with so many marks, that a text spells in a format, or its first fault
+abbrev pub trace_of : ℕ → ℕ → ℕ → List ℕ → Result LocalTraceForm TraceFault
+trace_of format thread marks bytes = trace_in format thread marks (end_line_of bytes) (lines_of bytes)
 
--- a trace of the thread of this number, with a segment more than there are marks
-pub record IsTraceOf (thread marks : ℕ) (trace : Trace) : Type 0 where
+-- a trace of the thread of this number, with a segment more than there are marks, in this format
+pub record IsTraceOf (format thread marks : ℕ) (trace : LocalTraceForm) : Type 0 where
   pub formed : IsLocalTrace trace
   pub numbered : trace.thread ≡ thread
   pub whole : length trace.segments ≡ marks + 1
+  pub belongs : AreOfFormat format (in_order trace.segments)
 
 -- what a text spells is a trace of the thread, with these marks
 abbrev pub TracesFit : Type 0
-TracesFit = (thread marks : ℕ) (bytes : List ℕ) (trace : Trace) → length bytes < 2 ^ 32 - 1 → trace_of thread marks bytes ≡ Ok trace → IsTraceOf thread marks trace
+TracesFit = (format thread marks : ℕ) (bytes : List ℕ) (trace : LocalTraceForm) → length bytes < 2 ^ 32 - 1 → trace_of format thread marks bytes ≡ Ok trace → IsTraceOf format thread marks trace

@@ -7,7 +7,9 @@
 
 mod event;
 mod fault;
+mod grammar;
 mod line;
+mod lock_use;
 mod printing;
 mod rules;
 #[cfg(test)]
@@ -17,5 +19,7 @@ mod walk;
 
 pub use event::Event;
 pub use fault::TraceFault;
+pub use grammar::traces_are_spelled;
+pub use lock_use::{LockMode, LockUse};
 pub use printing::{print_trace, trace_reads_again};
 pub use trace::{LocalTrace, read_trace, traces_fit};

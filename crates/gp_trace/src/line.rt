@@ -1,13 +1,15 @@
 ghost use Rattle.std.specs.Prelude.{◌≡◌, IfOk};
-ghost use Rattle.gp_trace.specs.declared.event.Event.TheVariants.{Acquire, Release, Start, Join, Begin, End};
-ghost use Rattle.gp_trace.specs.Event.{alone, did, entry_of, event_of, named_of, names_of, op_of, read_of, thread_of, write_of};
+ghost use Rattle.gp_trace.specs.Event.{alone, at_most_four, did, entry_of, event_of, name_alone, name_and_objects, name_and_value, names_of, number_alone, shared_of};
 
 use crate::event::Event;
-use gp_text::{Name, Row, Word, read_i64, read_u32};
+use gp_text::{Name, Row, Words, read_i64, read_u32};
 use std::alloc::{AllocError, Global};
 
 /// The most objects that an operation has.
 const MOST_OBJECTS: usize = 4;
+
+/// The format whose lines name shared locks too.
+const SHARED_LOCKS: u32 = 2;
 
 /// What a line of a trace says.
 #[derive(Debug, Drop)]
@@ -20,29 +22,30 @@ pub enum Entry {
     Exit,
 }
 
-/// The entry that a line's words spell, and `None` where they spell none.
-pub fn entry_of(alloc: Global, words: &[Word]) -> Result<Option<Entry>, AllocError>
-    ensures { IfOk result (λ entry. entry ≡ entry_of words.now) }
+/// The entry that a line's words spell in a format, and `None` where they spell none.
+pub fn entry_of(alloc: Global, format: u32, words: Words) -> Result<Option<Entry>, AllocError>
+    ensures { IfOk result (λ entry. entry ≡ entry_of format words.entry) }
 {
-    let Some((first, rest)) = words.split_first() else {
+    let mut words = words;
+    let Some(keyword) = words.next() else {
         return Ok(None);
     };
-    let keyword = first.as_bytes();
     if keyword == b"mark".as_slice() {
-        Ok(alone(Entry::Mark, rest))
+        Ok(alone(Entry::Mark, words))
     } else if keyword == b"exit".as_slice() {
-        Ok(alone(Entry::Exit, rest))
+        Ok(alone(Entry::Exit, words))
     } else {
-        Ok(did(event_of(alloc, keyword, rest)?))
+        Ok(did(event_of(alloc, format, keyword, words)?))
     }
 }
 
-fn alone(entry: Entry, words: &[Word]) -> Option<Entry>
-    ensures { result ≡ alone entry words.now }
+fn alone(entry: Entry, words: Words) -> Option<Entry>
+    ensures { result ≡ alone entry words.entry }
 {
-    match words {
-        [] => Some(entry),
-        _ => None,
+    let mut words = words;
+    match words.next() {
+        None => Some(entry),
+        Some(_) => None,
     }
 }
 
@@ -55,131 +58,117 @@ fn did(event: Option<Event>) -> Option<Entry>
     }
 }
 
-fn event_of(alloc: Global, keyword: &[u8], words: &[Word]) -> Result<Option<Event>, AllocError>
-    ensures { IfOk result (λ event. event ≡ event_of keyword.now words.now) }
+fn event_of(
+    alloc: Global,
+    format: u32,
+    keyword: &[u8],
+    words: Words,
+) -> Result<Option<Event>, AllocError>
+    ensures { IfOk result (λ event. event ≡ event_of format keyword.now words.entry) }
 {
     if keyword == b"read".as_slice() {
-        Ok(read_of(words))
+        Ok(name_and_value(words).map(|(name, value)| Event::Read(name, value)))
     } else if keyword == b"write".as_slice() {
-        Ok(write_of(words))
+        Ok(name_and_value(words).map(|(name, value)| Event::Write(name, value)))
     } else if keyword == b"acquire".as_slice() {
-        Ok(acquire_of(words))
+        Ok(name_alone(words).map(|lock| Event::Acquire(lock)))
     } else if keyword == b"release".as_slice() {
-        Ok(release_of(words))
+        Ok(name_alone(words).map(|lock| Event::Release(lock)))
     } else if keyword == b"start".as_slice() {
-        Ok(start_of(words))
+        Ok(number_alone(words).map(|thread| Event::Start(thread)))
     } else if keyword == b"join".as_slice() {
-        Ok(join_of(words))
+        Ok(number_alone(words).map(|thread| Event::Join(thread)))
     } else if keyword == b"op".as_slice() {
-        op_of(alloc, words)
+        Ok(name_and_objects(alloc, words)?.map(|(name, objects)| Event::Op(name, objects)))
     } else if keyword == b"begin".as_slice() {
-        Ok(begin_of(words))
+        Ok(name_alone(words).map(|region| Event::Begin(region)))
     } else if keyword == b"end".as_slice() {
-        Ok(end_of(words))
+        Ok(name_alone(words).map(|region| Event::End(region)))
+    } else if format == SHARED_LOCKS {
+        Ok(shared_of(keyword, words))
     } else {
         Ok(None)
     }
 }
 
-fn read_of(words: &[Word]) -> Option<Event>
-    ensures { result ≡ read_of words.now }
+fn shared_of(keyword: &[u8], words: Words) -> Option<Event>
+    ensures { result ≡ shared_of keyword.now words.entry }
 {
-    match words {
-        [name, value] => Some(Event::Read(Name::of(name.as_bytes())?, read_i64(value.as_bytes())?)),
-        _ => None,
+    if keyword == b"racquire".as_slice() {
+        name_alone(words).map(|lock| Event::RAcquire(lock))
+    } else if keyword == b"rrelease".as_slice() {
+        name_alone(words).map(|lock| Event::RRelease(lock))
+    } else {
+        None
     }
 }
 
-fn write_of(words: &[Word]) -> Option<Event>
-    ensures { result ≡ write_of words.now }
+fn name_alone(words: Words) -> Option<Name>
+    ensures { result ≡ name_alone words.entry }
 {
-    match words {
-        [name, value] => Some(Event::Write(
-            Name::of(name.as_bytes())?,
-            read_i64(value.as_bytes())?,
-        )),
-        _ => None,
+    let mut words = words;
+    let name = words.next()?;
+    if words.next().is_some() {
+        return None;
     }
+    Name::of(name)
 }
 
-fn acquire_of(words: &[Word]) -> Option<Event>
-    ensures { result ≡ named_of Acquire words.now }
+fn number_alone(words: Words) -> Option<u32>
+    ensures { result ≡ number_alone words.entry }
 {
-    match words {
-        [name] => Some(Event::Acquire(Name::of(name.as_bytes())?)),
-        _ => None,
+    let mut words = words;
+    let number = words.next()?;
+    if words.next().is_some() {
+        return None;
     }
+    read_u32(number)
 }
 
-fn release_of(words: &[Word]) -> Option<Event>
-    ensures { result ≡ named_of Release words.now }
+fn name_and_value(words: Words) -> Option<(Name, i64)>
+    ensures { result ≡ name_and_value words.entry }
 {
-    match words {
-        [name] => Some(Event::Release(Name::of(name.as_bytes())?)),
-        _ => None,
+    let mut words = words;
+    let name = words.next()?;
+    let value = words.next()?;
+    if words.next().is_some() {
+        return None;
     }
+    Some((Name::of(name)?, read_i64(value)?))
 }
 
-fn begin_of(words: &[Word]) -> Option<Event>
-    ensures { result ≡ named_of Begin words.now }
+fn name_and_objects(alloc: Global, words: Words) -> Result<Option<(Name, Row<Name>)>, AllocError>
+    ensures { IfOk result (λ operation. operation ≡ name_and_objects words.entry) }
 {
-    match words {
-        [name] => Some(Event::Begin(Name::of(name.as_bytes())?)),
-        _ => None,
-    }
-}
-
-fn end_of(words: &[Word]) -> Option<Event>
-    ensures { result ≡ named_of End words.now }
-{
-    match words {
-        [name] => Some(Event::End(Name::of(name.as_bytes())?)),
-        _ => None,
-    }
-}
-
-fn start_of(words: &[Word]) -> Option<Event>
-    ensures { result ≡ thread_of Start words.now }
-{
-    match words {
-        [thread] => Some(Event::Start(read_u32(thread.as_bytes())?)),
-        _ => None,
-    }
-}
-
-fn join_of(words: &[Word]) -> Option<Event>
-    ensures { result ≡ thread_of Join words.now }
-{
-    match words {
-        [thread] => Some(Event::Join(read_u32(thread.as_bytes())?)),
-        _ => None,
-    }
-}
-
-fn op_of(alloc: Global, words: &[Word]) -> Result<Option<Event>, AllocError>
-    ensures { IfOk result (λ event. event ≡ op_of words.now) }
-{
-    let Some((name, objects)) = words.split_first() else {
+    let mut words = words;
+    let Some(name) = words.next() else {
         return Ok(None);
     };
-    if objects.len() > MOST_OBJECTS {
-        return Ok(None);
-    }
-    let Some(name) = Name::of(name.as_bytes()) else {
+    let Some(objects) = at_most_four(names_of(alloc, words)?) else {
         return Ok(None);
     };
-    match names_of(alloc, objects)? {
-        Some(objects) => Ok(Some(Event::Op(name, objects))),
+    match Name::of(name) {
+        Some(name) => Ok(Some((name, objects))),
         None => Ok(None),
     }
 }
 
-fn names_of(alloc: Global, words: &[Word]) -> Result<Option<Row<Name>>, AllocError>
-    ensures { IfOk result (λ names. names ≡ names_of words.now) }
+fn at_most_four(names: Option<Row<Name>>) -> Option<Row<Name>>
+    ensures { result ≡ at_most_four names }
 {
+    match names {
+        Some(names) if names.len() <= MOST_OBJECTS => Some(names),
+        _ => None,
+    }
+}
+
+fn names_of(alloc: Global, words: Words) -> Result<Option<Row<Name>>, AllocError>
+    ensures { IfOk result (λ names. names ≡ names_of words.entry) }
+{
+    let mut words = words;
     let mut names = Row::new(alloc);
-    for word in words {
-        match Name::of(word.as_bytes()) {
+    while let Some(word) = words.next() {
+        match Name::of(word) {
             Some(name) => names.push(name)?,
             None => return Ok(None),
         }

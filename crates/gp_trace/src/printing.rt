@@ -1,8 +1,10 @@
-ghost use Rattle.std.specs.Prelude.{◌≡◌, ◌+◌, ◌-◌, ◌<◌, ◌++◌, ◌∷◌, [], length, decimal, codes, Ok, IfOk, OnOk};
+ghost use Rattle.std.specs.Prelude.{◌≡◌, ℕ, ◌+◌, ◌-◌, ◌<◌, ◌++◌, ◌∷◌, [], length, decimal, codes, Ok, IfOk, OnOk};
 ghost use Rattle.std.specs.Fmt.{signed_decimal};
 ghost use Rattle.std.specs.List.{flat_map};
 ghost use Rattle.gp_text.specs.Spelling.{spelling};
 ghost use Rattle.gp_trace.specs.Printed.{TraceReadsAgain, ends_in, event_lines, event_words, exit_lines, later_lines, segment_lines, trace_text};
+ghost use Rattle.gp_trace.specs.Trace.{in_order};
+ghost use Rattle.gp_trace.specs.LockUse.{AreOfFormat};
 ghost use Rattle.gp_trace.specs.Walk.{trace_of};
 
 use crate::event::Event;
@@ -13,7 +15,7 @@ use std::alloc::{AllocError, Global};
 /// The canonical text of the trace: one space between words, and a newline after each line.
 pub fn print_trace(alloc: Global, trace: &LocalTrace) -> Result<Row<u8>, AllocError>
     ensures text { IfOk result (λ bytes. bytes ≡ trace_text trace.now) }
-    ensures again { IfOk result (λ bytes. trace_of trace.now.thread (length trace.now.segments - 1) bytes ≡ Ok trace.now) }
+    ensures again { (format : ℕ) → AreOfFormat format (in_order trace.now.segments) → IfOk result (λ bytes. trace_of format trace.now.thread (length trace.now.segments - 1) bytes ≡ Ok trace.now) }
 {
     trace_reads_again();
     let mut out = Vec::new(alloc);
@@ -96,6 +98,8 @@ fn put_event(out: &mut Vec<u8>, event: &Event) -> Result<(), AllocError>
         Event::Write(name, value) => put_valued(out, b"write", name, *value),
         Event::Acquire(lock) => put_named(out, b"acquire", lock),
         Event::Release(lock) => put_named(out, b"release", lock),
+        Event::RAcquire(lock) => put_named(out, b"racquire", lock),
+        Event::RRelease(lock) => put_named(out, b"rrelease", lock),
         Event::Start(thread) => put_numbered(out, b"start", *thread),
         Event::Join(thread) => put_numbered(out, b"join", *thread),
         Event::Op(name, objects) => put_op(out, name, objects.as_slice()),

@@ -1,15 +1,17 @@
-ghost use Rattle.std.specs.Prelude.{◌≡◌, ◌++◌, ◌∷◌, [], ◌-◌, ◌==◌, length, take, IfOk, Ok, Err, if◌then◌else◌};
-ghost use Rattle.gp_trace.specs.Rules.{after, check, is_among, is_innermost, without};
+ghost use Rattle.std.specs.Prelude.{◌≡◌, ◌++◌, ◌∷◌, [], ◌-◌, ◌==◌, length, take, IfOk, Ok, Err, Some, is_some, if◌then◌else◌, OnOk};
+ghost use Rattle.gp_trace.specs.LockUse.{held_after_use};
+ghost use Rattle.gp_trace.specs.Rules.{after, check, in_line, is_held_as, is_innermost, lock_fault};
 
 use crate::event::Event;
 use crate::fault::TraceFault;
-use gp_text::{Name, Row};
+use crate::lock_use::{LockMode, LockUse};
+use gp_text::{Name, Row, Table};
 use std::alloc::AllocError;
 
 /// The locks that a thread holds, and the regions that it has begun and not ended, innermost last.
-#[derive(Debug, Drop)]
+#[derive(Drop)]
 pub struct Standing {
-    pub held: Row<Name>,
+    pub held: Table<Name, LockMode>,
     pub begun: Row<Name>,
 }
 
@@ -19,10 +21,8 @@ pub fn check(thread: u32, line: u32, standing: &Standing, event: &Event) -> Resu
 {
     match event {
         Event::Start(other) | Event::Join(other) => check_other(thread, line, *other),
-        Event::Release(lock) => check_release(line, standing, lock),
-        Event::Acquire(lock) => check_acquire(line, standing, lock),
         Event::End(region) => check_end(line, standing, region),
-        Event::Read(..) | Event::Write(..) | Event::Op(..) | Event::Begin(_) => Ok(()),
+        _ => check_lock(line, &standing.held, event.lock_use()),
     }
 }
 
@@ -31,24 +31,6 @@ fn check_other(thread: u32, line: u32, other: u32) -> Result<(), TraceFault>
 {
     if other == thread {
         return Err(TraceFault::NameSelf(line));
-    }
-    Ok(())
-}
-
-fn check_release(line: u32, standing: &Standing, lock: &Name) -> Result<(), TraceFault>
-    ensures { result ≡ (if is_among standing.now.held lock.now then Ok tt else Err (TraceFault.ReleaseUnheld line)) }
-{
-    if is_among(standing.held.as_slice(), lock) {
-        return Ok(());
-    }
-    Err(TraceFault::ReleaseUnheld(line))
-}
-
-fn check_acquire(line: u32, standing: &Standing, lock: &Name) -> Result<(), TraceFault>
-    ensures { result ≡ (if is_among standing.now.held lock.now then Err (TraceFault.AcquireHeld line) else Ok tt) }
-{
-    if is_among(standing.held.as_slice(), lock) {
-        return Err(TraceFault::AcquireHeld(line));
     }
     Ok(())
 }
@@ -62,12 +44,6 @@ fn check_end(line: u32, standing: &Standing, region: &Name) -> Result<(), TraceF
     Err(TraceFault::RegionUnmatched(line))
 }
 
-fn is_among(names: &[Name], name: &Name) -> bool
-    ensures { result ≡ is_among names.now name.now }
-{
-    names.iter().any(|other| other == name)
-}
-
 fn is_innermost(begun: &[Name], region: &Name) -> bool
     ensures { result ≡ is_innermost begun.now region.now }
 {
@@ -77,27 +53,78 @@ fn is_innermost(begun: &[Name], region: &Name) -> bool
     }
 }
 
+fn check_lock(
+    line: u32,
+    held: &Table<Name, LockMode>,
+    lock_use: Option<LockUse>,
+) -> Result<(), TraceFault>
+    ensures { result ≡ in_line line (lock_fault held.now lock_use) }
+{
+    match lock_use {
+        Some(lock_use) => check_use(line, held, &lock_use),
+        None => Ok(()),
+    }
+}
+
+fn check_use(line: u32, held: &Table<Name, LockMode>, lock_use: &LockUse) -> Result<(), TraceFault>
+    ensures { result ≡ in_line line (lock_fault held.now (Some lock_use.now)) }
+{
+    match lock_use {
+        LockUse::Take(_, lock) => check_take(line, held.get(lock).copied()),
+        LockUse::GiveBack(mode, lock) => check_give_back(line, *mode, held.get(lock).copied()),
+    }
+}
+
+fn check_take(line: u32, held: Option<LockMode>) -> Result<(), TraceFault>
+    ensures { result ≡ (if is_some held then Err (TraceFault.AcquireHeld line) else Ok tt) }
+{
+    if held.is_some() {
+        return Err(TraceFault::AcquireHeld(line));
+    }
+    Ok(())
+}
+
+fn check_give_back(line: u32, mode: LockMode, held: Option<LockMode>) -> Result<(), TraceFault>
+    ensures { result ≡ (if is_held_as mode held then Ok tt else Err (TraceFault.ReleaseUnheld line)) }
+{
+    match (mode, held) {
+        (LockMode::Exclusive, Some(LockMode::Exclusive)) => Ok(()),
+        (LockMode::Shared, Some(LockMode::Shared)) => Ok(()),
+        _ => Err(TraceFault::ReleaseUnheld(line)),
+    }
+}
+
 /// Where the thread stands after the event.
 pub fn after(standing: Standing, event: &Event) -> Result<Standing, AllocError>
     ensures { IfOk result (λ next. next ≡ after standing event.now) }
 {
     match event {
-        Event::Acquire(lock) => with_lock(standing, lock),
-        Event::Release(lock) => Ok(without_lock(standing, lock)),
         Event::Begin(region) => with_region(standing, region),
         Event::End(_) => Ok(without_innermost(standing)),
-        Event::Read(..) | Event::Write(..) | Event::Op(..) | Event::Start(_) | Event::Join(_) => {
-            Ok(standing)
-        }
+        _ => after_use(standing, event.lock_use()),
     }
 }
 
-fn with_lock(standing: Standing, lock: &Name) -> Result<Standing, AllocError>
-    ensures { IfOk result (λ next. next ≡ record standing { held = standing.held ++ lock.now ∷ [] }) }
+fn after_use(standing: Standing, lock_use: Option<LockUse>) -> Result<Standing, AllocError>
+    ensures { IfOk result (λ next. next ≡ record standing { held = held_after_use standing.held lock_use }) }
 {
     let Standing { mut held, begun } = standing;
-    held.push(*lock)?;
+    if let Some(lock_use) = lock_use {
+        use_lock(&mut held, &lock_use)?;
+    }
     Ok(Standing { held, begun })
+}
+
+fn use_lock(held: &mut Table<Name, LockMode>, lock_use: &LockUse) -> Result<(), AllocError>
+    ensures { OnOk result (held.new ≡ held_after_use held.old (Some lock_use.now)) }
+{
+    match lock_use {
+        LockUse::Take(mode, lock) => held.put(*lock, *mode),
+        LockUse::GiveBack(_, lock) => {
+            held.remove(lock);
+            Ok(())
+        }
+    }
 }
 
 fn with_region(standing: Standing, region: &Name) -> Result<Standing, AllocError>
@@ -106,18 +133,6 @@ fn with_region(standing: Standing, region: &Name) -> Result<Standing, AllocError
     let Standing { held, mut begun } = standing;
     begun.push(*region)?;
     Ok(Standing { held, begun })
-}
-
-fn without_lock(standing: Standing, lock: &Name) -> Standing
-    ensures { result ≡ record standing { held = without standing.held lock.now } }
-{
-    let Standing { held, begun } = standing;
-    let mut held = held.into_vec();
-    held.retain(|other| other != lock);
-    Standing {
-        held: Row::from_vec(held),
-        begun,
-    }
 }
 
 fn without_innermost(standing: Standing) -> Standing

@@ -1,12 +1,11 @@
-ghost use Rattle.std.specs.Prelude.{◌≡◌, ◌≢◌, ◌<◌, ◌≤◌, ◌+◌, ◌-◌, ◌^◌, ◌==◌, length, count_by, Ok, Err};
-ghost use Rattle.gp_text.specs.Lines.{lines_of};
+ghost use Rattle.std.specs.Prelude.{◌≡◌, ◌≢◌, ◌<◌, ◌≤◌, ◌+◌, ◌-◌, ◌^◌, length, Ok, Err};
 ghost use Rattle.gp_trace.specs.Trace.{IsLocalTrace};
-ghost use Rattle.gp_trace.specs.Walk.{after_lines, at_end, at_start, last_line, TracesFit, trace_in, trace_of};
+ghost use Rattle.gp_trace.specs.Walk.{after_lines, at_end, at_start, TracesFit, trace_of};
 
 use crate::event::Event;
 use crate::fault::TraceFault;
-use crate::walk::{Walk, walk_lines};
-use gp_text::{Line, Row, read_lines};
+use crate::walk::{Walk, shrunk, walk_lines};
+use gp_text::{Lines, Row, check_text, end_line};
 use std::alloc::Global;
 use std::marker::Model;
 
@@ -19,9 +18,9 @@ pub struct LocalTrace {
 }
 
 impl Model for LocalTrace {
-    ghost use Rattle.gp_trace.specs.Trace.{IsLocalTrace, Trace};
+    ghost use Rattle.gp_trace.specs.Trace.{IsLocalTrace, LocalTraceForm};
 
-    ghost Value = { Trace };
+    ghost Value = { LocalTraceForm };
 
     ghost view = { λ t. record { thread = t.thread; segments = t.segments; exit_in = t.exit_in } };
 
@@ -53,19 +52,21 @@ impl LocalTrace {
 }
 
 /// Reads the trace that a recorder wrote of the thread of this number, with so many marks: a line for
-/// each event, in the order in which the thread did them.
+/// each event, in the order in which the thread did them. Format 2 has lines of shared locks, and any
+/// other has none.
 pub fn read_trace(
     alloc: Global,
+    format: u32,
     thread: u32,
     marks: u32,
     bytes: &[u8],
 ) -> Result<LocalTrace, TraceFault>
     requires { length bytes.now < 2 ^ 32 - 1 }
-    ensures { result ≢ Err TraceFault.Memory → result ≡ trace_of thread marks bytes.now }
+    ensures { result ≢ Err TraceFault.Memory → result ≡ trace_of format thread marks bytes.now }
 {
-    let last = last_line(bytes);
-    let lines = read_lines(alloc, bytes)?;
-    read_entries(alloc, thread, marks, last, lines.as_slice())
+    check_text(bytes)?;
+    let last = end_line(bytes);
+    read_entries(alloc, format, thread, marks, last, Lines::of(bytes))
 }
 
 /// What a text spells is a trace of the thread, with these marks.
@@ -73,40 +74,27 @@ pub fn traces_fit()
     ensures { TracesFit }
 {}
 
-fn last_line(bytes: &[u8]) -> u32
-    requires { length bytes.now < 2 ^ 32 - 1 }
-    ensures { result ≡ last_line bytes.now }
-{
-    newlines(bytes) as u32 + 1
-}
-
-fn newlines(bytes: &[u8]) -> usize
-    ensures count { result ≡ count_by (λ b. b == 10) bytes.now }
-    ensures fits { result ≤ length bytes.now }
-{
-    bytes.iter().filter(|byte| **byte == b'\n').count()
-}
-
 fn read_entries(
     alloc: Global,
+    format: u32,
     thread: u32,
     marks: u32,
     last: u32,
-    lines: &[Line],
+    lines: Lines,
 ) -> Result<LocalTrace, TraceFault>
-    requires { length lines.now < 2 ^ 32 }
-    ensures { result ≢ Err TraceFault.Memory → result ≡ at_end thread marks last (after_lines thread marks at_start lines.now) }
+    requires { length lines < 2 ^ 32 }
+    ensures { result ≢ Err TraceFault.Memory → result ≡ at_end thread marks last (after_lines format thread marks at_start lines.entry) }
 {
     let Walk {
         standing: _,
         mut ended,
         segment,
         exit_in,
-    } = walk_lines(alloc, thread, marks, lines)?;
+    } = walk_lines(alloc, format, thread, marks, lines)?;
     if ended.len() != marks as usize {
         return Err(TraceFault::MarkCount(last));
     }
-    ended.push(segment)?;
+    ended.push(shrunk(segment))?;
     Ok(LocalTrace {
         thread,
         segments: ended,

@@ -6,12 +6,12 @@ use crate::event::Event;
 use crate::fault::TraceFault;
 use crate::line::{Entry, entry_of};
 use crate::rules::{Standing, after, check};
-use gp_text::{Line, Row};
+use gp_text::{Lines, Row, Table, TextLine};
 use std::alloc::Global;
 
 /// What was read of a trace: where the thread stands, the segments that have ended, the segment that
 /// goes on, and the number of the segment with the `exit`.
-#[derive(Debug, Drop)]
+#[derive(Drop)]
 pub struct Walk {
     pub standing: Standing,
     pub ended: Row<Row<Event>>,
@@ -22,16 +22,18 @@ pub struct Walk {
 /// Reads the lines up to the first that breaks a rule.
 pub fn walk_lines(
     alloc: Global,
+    format: u32,
     thread: u32,
     marks: u32,
-    lines: &[Line],
+    lines: Lines,
 ) -> Result<Walk, TraceFault>
-    requires { length lines.now < 2 ^ 32 }
-    ensures { result ≢ Err TraceFault.Memory → result ≡ after_lines thread marks at_start lines.now }
+    requires { length lines < 2 ^ 32 }
+    ensures { result ≢ Err TraceFault.Memory → result ≡ after_lines format thread marks at_start lines.entry }
 {
+    let mut lines = lines;
     let mut walk = at_start(alloc);
-    for line in lines {
-        walk = next(alloc, thread, marks, walk, line)?;
+    while let Some(line) = lines.next() {
+        walk = next(alloc, format, thread, marks, walk, line)?;
     }
     Ok(walk)
 }
@@ -40,7 +42,7 @@ fn at_start(alloc: Global) -> Walk
     ensures { result ≡ at_start }
 {
     let standing = Standing {
-        held: Row::new(alloc),
+        held: Table::new(alloc),
         begun: Row::new(alloc),
     };
     Walk {
@@ -51,16 +53,24 @@ fn at_start(alloc: Global) -> Walk
     }
 }
 
-fn next(alloc: Global, thread: u32, marks: u32, walk: Walk, line: &Line) -> Result<Walk, TraceFault>
+fn next(
+    alloc: Global,
+    format: u32,
+    thread: u32,
+    marks: u32,
+    walk: Walk,
+    line: TextLine,
+) -> Result<Walk, TraceFault>
     requires { length walk.ended < 2 ^ 32 - 1 }
-    ensures next { result ≢ Err TraceFault.Memory → result ≡ next thread marks walk line.now }
+    ensures next { result ≢ Err TraceFault.Memory → result ≡ next format thread marks walk (record { number = line.entry.number; words = line.entry.words }) }
     ensures ended { IfOk result (λ after. length after.ended ≤ length walk.ended + 1) }
 {
-    let entry = entry_of(alloc, line.words.as_slice())?;
+    let TextLine { number, words } = line;
+    let entry = entry_of(alloc, format, words)?;
     if walk.exit_in.is_some() {
-        after_exit(alloc, marks, line.number, walk, entry)
+        after_exit(alloc, marks, number, walk, entry)
     } else {
-        before_exit(alloc, thread, marks, line.number, walk, entry)
+        before_exit(alloc, thread, marks, number, walk, entry)
     }
 }
 
@@ -134,13 +144,22 @@ fn at_mark(alloc: Global, marks: u32, line: u32, walk: Walk) -> Result<Walk, Tra
     if ended.len() == marks as usize {
         return Err(TraceFault::MarkCount(line));
     }
-    ended.push(segment)?;
+    ended.push(shrunk(segment))?;
     Ok(Walk {
         standing,
         ended,
         segment: Row::new(alloc),
         exit_in,
     })
+}
+
+/// The same events, with no room left over.
+pub fn shrunk(segment: Row<Event>) -> Row<Event>
+    ensures { result ≡ segment }
+{
+    let mut events = segment.into_vec();
+    events.shrink_to_fit();
+    Row::from_vec(events)
 }
 
 fn at_exit(mut walk: Walk) -> Walk

@@ -1,9 +1,10 @@
+pub mod Carried
 pub mod Contents
-pub mod Fronts
+pub mod Counts
+pub mod EventIds
 pub mod Heads
-pub mod Marks
 pub mod Parsed
+pub mod PassedMarks
 pub mod Places
-pub mod StartValues
-pub mod Tables
+pub mod Suspects
 pub mod Threads

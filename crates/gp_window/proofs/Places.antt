@@ -1,9 +1,8 @@
 -- The places of values, as keys and in the values themselves.
-use Rattle.std.proofs.Common.{◌≡◌, refl, ℕ, ◌≤◌, ℤ, Bool, true, false, List, [], ◌∷◌, map, ap, sym, arith}
+use Rattle.std.proofs.Common.{◌≡◌, refl, ℕ, ℤ, Bool, true, false, List, [], ◌∷◌, map, ap, arith}
 use Rattle.std.specs.Prelude.{All, Option, Some, None, Result, Ok, Err, ◌&&◌, nat_le, if◌then◌else◌, is_some, codes}
 use Rattle.std.specs.Str.{bytes_eq}
 use Rattle.std.proofs.lemmas.Bool.Decides.{nat_tests}
-use Rattle.std.proofs.lemmas.List.Elements.{All-nil}
 use Rattle.std.proofs.lemmas.Map.Views.{All-keys-insert_entry}
 use Rattle.gp_text.specs.declared.line.Line.{Line}
 use Rattle.gp_text.specs.Name.{name_of}
@@ -15,7 +14,7 @@ use Rattle.gp_window.specs.Manifest.{Values, start_value, value_of, value_with, 
 use Rattle.gp_window.specs.ManifestForm.{IsInside, place_cmp, place_of}
 use Rattle.gp_text.specs.Numbers.{between}
 use Rattle.gp_text.specs.Results.{and_then, or_refusal}
-use Rattle.gp_window.specs.Table.{value_at, with_entry}
+use Rattle.gp_text.specs.Table.{value_at, with_entry}
 
 -- the values made of the entries have the entries' keys as their places
 pub places_kept : (entries : Values) → map place_of (map start_value entries) ≡ map (λ entry. entry.0) entries

@@ -1,10 +1,10 @@
 -- Which lines are which manifest: the form's name, the number of threads, the number of epochs, the
 -- roots, and then values of variables at the beginning of windows, in any order.
-use Rattle.std.specs.Prelude.{ℕ, ℤ, zero, suc, Bool, true, false, ◌==◌, ◌&&◌, List, [], ◌∷◌, Option, Some, None, is_some, Result, Ok, Err, if◌then◌else◌, codes, drop, length, map, slice_get}
+use Rattle.std.specs.Prelude.{ℕ, ℤ, List, [], ◌∷◌, Option, Some, None, is_some, Result, Ok, Err, if◌then◌else◌, codes, drop, map, slice_get}
 use Rattle.std.specs.Str.{bytes_eq}
 use Rattle.gp_text.specs.declared.line.Line.{Line}
 use Rattle.gp_text.specs.declared.lines.TextFault.{TextFault}
-use Rattle.gp_text.specs.Lines.{lines_of, parts_of}
+use Rattle.gp_text.specs.Lines.{end_line_of, lines_of}
 use Rattle.gp_text.specs.Name.{name_of}
 use Rattle.gp_text.specs.Numbers.{signed_of, small_number_of}
 use Rattle.gp_window.specs.declared.manifest.StartValue.{StartValue}
@@ -14,16 +14,16 @@ use Rattle.gp_text.specs.Numbers.{between, number_after}
 use Rattle.gp_window.specs.Number.{numbers_of, is_rising}
 use Rattle.gp_window.specs.ManifestForm.{ManifestForm, place_cmp}
 use Rattle.gp_text.specs.Results.{and_then, or_refusal}
-use Rattle.gp_window.specs.Table.{value_at, with_entry}
+use Rattle.gp_text.specs.Table.{value_at, with_entry}
 
 -- what a line spells; else it is a bad line, and where there is no line the end is
 abbrev pub field_of : {A : Type 0} → ℕ → (List (List ℕ) → Option A) → Option Line → Result A ManifestFault
 field_of last spells None = Err (bad.Line last)
 field_of last spells (Some line) = or_refusal (bad.Line line.number) (spells line.words)
 
--- `gptrace 1`: the form of the text
-abbrev pub form_of : List (List ℕ) → Option ℕ
-form_of words = between 1 1 (number_after (codes "gptrace") words)
+-- `gptrace F`: format 1 or 2
+abbrev pub format_of : List (List ℕ) → Option ℕ
+format_of words = between 1 2 (number_after (codes "gptrace") words)
 
 -- `threads T`: 1 to 64 threads
 abbrev pub threads_of : List (List ℕ) → Option ℕ
@@ -86,31 +86,31 @@ start_value entry = record { window = entry.0.0; variable = entry.0.1; value = e
 abbrev pub values_of : ℕ → List Line → Result (List StartValue) ManifestFault
 values_of epochs lines = and_then (values_from epochs [] lines) (λ values. Ok (map start_value values))
 
--- the manifest of so many threads and epochs with these roots and the values of further lines
-abbrev pub with_roots : ℕ → ℕ → List ℕ → List Line → Result ManifestForm ManifestFault
-with_roots threads epochs roots lines =
+-- the manifest of this format and so many threads and epochs, with these roots and the values of further lines
+abbrev pub with_roots : ℕ → ℕ → ℕ → List ℕ → List Line → Result ManifestForm ManifestFault
+with_roots format threads epochs roots lines =
     and_then (values_of epochs lines) (λ values.
-    Ok (record { threads = threads; epochs = epochs; roots = roots; values = values }))
+    Ok (record { format = format; threads = threads; epochs = epochs; roots = roots; values = values }))
 
--- the manifest of so many threads, where the third line and those after it spell one
-abbrev pub with_threads : ℕ → ℕ → List Line → Result ManifestForm ManifestFault
-with_threads last threads lines =
+-- the manifest of this format and so many threads, where the third line and those after it spell one
+abbrev pub with_threads : ℕ → ℕ → ℕ → List Line → Result ManifestForm ManifestFault
+with_threads last format threads lines =
     and_then (field_of last epochs_of (slice_get lines 2)) (λ epochs.
     and_then (field_of last (roots_of threads) (slice_get lines 3)) (λ roots.
-    with_roots threads epochs roots (drop 4 lines)))
+    with_roots format threads epochs roots (drop 4 lines)))
 
 -- the manifest that the lines spell, or the first bad line; `last` is the number of the text's end
 abbrev pub manifest_of : ℕ → List Line → Result ManifestForm ManifestFault
 manifest_of last lines =
-    and_then (field_of last form_of (slice_get lines 0)) (λ form.
+    and_then (field_of last format_of (slice_get lines 0)) (λ format.
     and_then (field_of last threads_of (slice_get lines 1)) (λ threads.
-    with_threads last threads lines))
+    with_threads last format threads lines))
 
 -- the manifest of a text, where it has lines
 abbrev pub manifest_in : ℕ → Result (List Line) TextFault → Result ManifestForm ManifestFault
 manifest_in last (Ok lines) = manifest_of last lines
 manifest_in last (Err fault) = Err (bad.Text fault)
 
--- the manifest that a text spells, or its first fault; the text's end has the number of its newlines and one
+-- the manifest that a text spells, or its first fault
 abbrev pub manifest_of_text : List ℕ → Result ManifestForm ManifestFault
-manifest_of_text bytes = manifest_in (length (parts_of bytes)) (lines_of bytes)
+manifest_of_text bytes = manifest_in (end_line_of bytes) (lines_of bytes)

@@ -1,5 +1,5 @@
 -- How a fault of a manifest stands against what is due, and how a text's fault becomes one.
-use Rattle.std.specs.Prelude.{ℕ, ◌≡◌, Bool, true, false, Option, Some, None, Result, Ok, Err}
+use Rattle.std.specs.Prelude.{◌≡◌, Bool, true, false, Option, Some, None, Result, Err}
 use Rattle.gp_text.specs.declared.lines.TextFault.{TextFault}
 use Rattle.gp_text.specs.declared.lines.TextFault.TheVariants as text
 use Rattle.gp_window.specs.declared.manifest.ManifestFault.{ManifestFault}

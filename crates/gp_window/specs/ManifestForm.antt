@@ -1,5 +1,5 @@
 -- What a manifest says, and the rules that it keeps.
-use Rattle.std.specs.Prelude.{ℕ, ℤ, ◌≡◌, ◌<◌, ◌≤◌, true, List, length, map, All}
+use Rattle.std.specs.Prelude.{ℕ, ◌≡◌, ◌<◌, ◌≤◌, true, List, length, map, All}
 use Rattle.std.specs.Cmp.Lexicographic.{slice_cmp}
 use Rattle.std.specs.List.Sorted.{IsStrictlySortedBy}
 use Rattle.std.specs.Ordering.{nat_cmp, ordering_then}
@@ -7,9 +7,10 @@ use Rattle.std.specs.declared.cmp.Ordering.{Ordering}
 use Rattle.gp_window.specs.declared.manifest.StartValue.{StartValue}
 use Rattle.gp_window.specs.Number.{is_rising}
 
--- what a manifest says: how many threads and epochs, which threads nobody has to start, and the
+-- what a manifest says: the format of the traces, how many threads and epochs, which threads nobody has to start, and the
 -- values of variables at the beginning of windows
 pub record ManifestForm : Type 0 where
+  pub format : ℕ
   pub threads : ℕ
   pub epochs : ℕ
   pub roots : List ℕ
@@ -29,6 +30,8 @@ IsInside epochs place = (1 ≤ place.0) × (place.0 ≤ epochs)
 
 -- the rules of a manifest
 pub record IsManifest (m : ManifestForm) : Type 0 where
+  -- format 1 or 2
+  pub format : (1 ≤ m.format) × (m.format ≤ 2)
   -- 1 to 64 threads
   pub threads : (1 ≤ m.threads) × (m.threads ≤ 64)
   -- 1 to 4,096 epochs

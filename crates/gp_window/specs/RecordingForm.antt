@@ -1,17 +1,17 @@
 -- A recording: what its manifest says, and the trace of each of its threads.
-use Rattle.std.specs.Prelude.{ℕ, ◌≡◌, ◌+◌, Bool, true, List, [], ◌∷◌, length, is_ok, Ok, All}
-use Rattle.gp_trace.specs.Trace.{Trace, IsLocalTrace}
+use Rattle.std.specs.Prelude.{ℕ, ◌≡◌, ◌+◌, true, List, [], ◌∷◌, length, is_ok, Ok, All}
+use Rattle.gp_trace.specs.Trace.{LocalTraceForm, IsLocalTrace}
 use Rattle.gp_window.specs.ManifestForm.{ManifestForm, IsManifest}
 use Rattle.gp_window.specs.Starts.{after_traces}
-use Rattle.gp_window.specs.Holders.{after_marks}
+use Rattle.gp_window.specs.Marks.{after_marks}
 
 -- a manifest and the traces of its threads, in order
 pub record RecordingForm : Type 0 where
   pub manifest : ManifestForm
-  pub traces : List Trace
+  pub traces : List LocalTraceForm
 
 -- the traces are those of the threads from this number on, each of so many segments
-abbrev pub AreNumbered : ℕ → ℕ → List Trace → Type 0
+abbrev pub AreNumbered : ℕ → ℕ → List LocalTraceForm → Type 0
 AreNumbered epochs thread [] = Unit {0}
 AreNumbered epochs thread (trace ∷ traces) =
     (trace.thread ≡ thread) × (length trace.segments ≡ epochs) × AreNumbered epochs (thread + 1) traces

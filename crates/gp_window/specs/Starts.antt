@@ -2,8 +2,8 @@
 use Rattle.std.specs.Prelude.{ℕ, Bool, ◌==◌, ◌&&◌, ◌++◌, List, [], ◌∷◌, Result, Ok, Err, if◌then◌else◌, nat_le}
 use Rattle.std.specs.List.{list_any}
 use Rattle.gp_trace.specs.declared.event.Event.{Event}
-use Rattle.gp_trace.specs.declared.event.Event.TheVariants.{Read, Write, Acquire, Release, Start, Join, Op, Begin, End}
-use Rattle.gp_trace.specs.Trace.{Trace}
+use Rattle.gp_trace.specs.declared.event.Event.TheVariants.{Start, Join}
+use Rattle.gp_trace.specs.Trace.{LocalTraceForm}
 use Rattle.gp_window.specs.declared.fault.RecordingFault.{RecordingFault}
 use Rattle.gp_window.specs.declared.fault.RecordingFault.TheVariants.{UnknownThread, StartsRoot, TwoStarts}
 use Rattle.gp_text.specs.Results.{and_then}
@@ -33,13 +33,7 @@ after_join threads started thread = if is_thread threads thread then Ok started 
 abbrev pub after_event : ℕ → List ℕ → List ℕ → Event → Result (List ℕ) RecordingFault
 after_event threads roots started (Start thread) = after_start threads roots started thread
 after_event threads roots started (Join thread) = after_join threads started thread
-after_event threads roots started (Read name value) = Ok started
-after_event threads roots started (Write name value) = Ok started
-after_event threads roots started (Acquire name) = Ok started
-after_event threads roots started (Release name) = Ok started
-after_event threads roots started (Op name objects) = Ok started
-after_event threads roots started (Begin name) = Ok started
-after_event threads roots started (End name) = Ok started
+after_event threads roots started _ = Ok started
 
 -- the started threads after the events of a segment
 abbrev pub after_events : ℕ → List ℕ → List ℕ → List Event → Result (List ℕ) RecordingFault
@@ -54,7 +48,7 @@ after_segments threads roots started (segment ∷ segments) =
     and_then (after_events threads roots started segment) (λ more. after_segments threads roots more segments)
 
 -- the started threads after the traces, or the first fault of a walk by thread and by event
-abbrev pub after_traces : ℕ → List ℕ → List ℕ → List Trace → Result (List ℕ) RecordingFault
+abbrev pub after_traces : ℕ → List ℕ → List ℕ → List LocalTraceForm → Result (List ℕ) RecordingFault
 after_traces threads roots started [] = Ok started
 after_traces threads roots started (trace ∷ traces) =
     and_then (after_segments threads roots started trace.segments) (λ more. after_traces threads roots more traces)

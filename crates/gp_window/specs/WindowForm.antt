@@ -1,15 +1,15 @@
 -- A window of a recording, read off the recording.
-use Rattle.std.specs.Prelude.{ℕ, ℤ, pos, zero, suc, ◌≡◌, ◌≤◌, ◌+◌, ◌-◌, Bool, false, not, ◌==◌, ◌||◌, List, [], ◌∷◌, Option, Some, None, if◌then◌else◌, filter, flat_map, map, nat_le, take}
+use Rattle.std.specs.Prelude.{ℕ, ℤ, pos, zero, suc, ◌≡◌, ◌≤◌, ◌+◌, ◌-◌, ◌++◌, Bool, false, not, ◌==◌, ◌||◌, List, [], ◌∷◌, Option, Some, None, filter, flat_map, map, nat_le}
 use Rattle.std.specs.Cmp.Lexicographic.{slice_cmp}
 use Rattle.std.specs.Ordering.{int_eq, nat_cmp}
 use Rattle.gp_trace.specs.declared.event.Event.{Event}
-use Rattle.gp_trace.specs.declared.event.Event.TheVariants.{Read, Write, Acquire, Release, Start, Join, Op, Begin, End}
-use Rattle.gp_trace.specs.Trace.{Trace}
+use Rattle.gp_trace.specs.declared.event.Event.TheVariants.{Start}
+use Rattle.gp_trace.specs.Trace.{LocalTraceForm}
 use Rattle.gp_window.specs.declared.manifest.StartValue.{StartValue}
-use Rattle.gp_window.specs.Holders.{held_over, segment_after}
+use Rattle.gp_window.specs.Holders.{held_over, holders_among, readers_among, segment_after}
 use Rattle.gp_window.specs.RecordingForm.{RecordingForm, IsRecording}
 use Rattle.gp_window.specs.Starts.{is_among}
-use Rattle.gp_window.specs.Table.{with_entry}
+use Rattle.gp_text.specs.Table.{with_entry}
 
 -- a window: its number, the events of each thread in it, and what holds when it begins
 pub record WindowForm : Type 0 where
@@ -17,6 +17,7 @@ pub record WindowForm : Type 0 where
   pub segments : List (List Event)
   pub start_values : List (List ℕ × ℤ)
   pub holders : List (List ℕ × ℕ)
+  pub readers : List (List ℕ × ℕ)
   pub started : List ℕ
   pub exited : List ℕ
 
@@ -41,22 +42,16 @@ start_values_of given k = filter is_kept (values_at given k)
 -- the thread that an event starts
 abbrev pub started_by : Event → List ℕ
 started_by (Start thread) = thread ∷ []
-started_by (Read name value) = []
-started_by (Write name value) = []
-started_by (Acquire name) = []
-started_by (Release name) = []
-started_by (Join thread) = []
-started_by (Op name objects) = []
-started_by (Begin name) = []
-started_by (End name) = []
+started_by _ = []
 
--- the threads that a thread starts in its first segments
-abbrev pub started_in : ℕ → Trace → List ℕ
-started_in before trace = flat_map (λ segment. flat_map started_by segment) (take before trace.segments)
+-- the threads that are started in the segment of each trace that has so many before it
+abbrev pub started_in : ℕ → List LocalTraceForm → List ℕ
+started_in before traces = flat_map (λ trace. flat_map started_by (segment_after before trace)) traces
 
--- the threads that are started in so many first segments
-abbrev pub started_before : ℕ → List Trace → List ℕ
-started_before before traces = flat_map (started_in before) traces
+-- the threads that are started in so many first segments, segment after segment
+abbrev pub started_before : ℕ → List LocalTraceForm → List ℕ
+started_before zero traces = []
+started_before (suc before) traces = started_before before traces ++ started_in before traces
 
 -- so many numbers, from this one on
 abbrev pub numbers_from : ℕ → ℕ → List ℕ
@@ -78,7 +73,7 @@ has_exited k None = false
 has_exited k (Some segment) = nat_le segment k
 
 -- the threads that end in window k or in an earlier one, in order
-abbrev pub exited_of : ℕ → List Trace → List ℕ
+abbrev pub exited_of : ℕ → List LocalTraceForm → List ℕ
 exited_of k traces = map (λ trace. trace.thread) (filter (λ trace. has_exited k trace.exit_in) traces)
 
 -- window k of a recording: the segments of that number, and what holds after all earlier ones
@@ -87,7 +82,8 @@ window_of r k = record {
   number = k;
   segments = map (segment_after (k - 1)) r.traces;
   start_values = start_values_of r.manifest.values k;
-  holders = held_over r.traces (k - 1);
+  holders = holders_among (held_over r.traces (k - 1));
+  readers = readers_among (held_over r.traces (k - 1));
   started = started_of r (k - 1);
   exited = exited_of k r.traces;
 }

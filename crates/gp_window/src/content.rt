@@ -1,63 +1,62 @@
-ghost use Rattle.std.specs.Prelude.{ℕ, ◌≡◌, ◌≤◌, All, List, Some, Err, IfOk, length, string_bytes};
+ghost use Rattle.std.specs.Prelude.{ℕ, ◌≡◌, ◌≤◌, All, List, Some, Err, IfOk, length};
 ghost use Rattle.gp_outside.specs.Faults.{Rose};
 ghost use Rattle.gp_outside.specs.Folders.{File};
-ghost use Rattle.gp_window.specs.FileNames.{limit_of, path_of};
-ghost use Rattle.gp_window.specs.Recording.{content_of, contents_from};
-ghost use Rattle.gp_window.specs.RecordingFaults.{Gives};
+ghost use Rattle.gp_window.specs.Contents.{content_cause, content_of, contents_from};
+ghost use Rattle.gp_window.specs.FileNames.{limit_of};
+ghost use Rattle.gp_window.specs.Gives.{Gives};
 
-use crate::fault::{FileName, RecordingFault};
+use crate::file_name::FileName;
 use gp_outside::{Folder, ReadFault};
 use gp_text::Row;
 use std::alloc::{AllocError, Global};
 
-/// The most bytes of a manifest.
-const MANIFEST_LIMIT: u64 = 1_048_576;
+/// Why the bytes of a file are not told.
+#[derive(Clone, Copy, Debug, PartialEq, Eq)]
+pub enum ContentFault {
+    /// The file is not there.
+    Absent(FileName),
+    /// The file has more bytes than its limit.
+    TooLong(FileName),
+    /// The folder failed.
+    ReadFailed,
+    /// Want of memory.
+    Memory,
+}
 
-/// The most bytes of a trace.
-const TRACE_LIMIT: u64 = 2_097_152;
+impl From<AllocError> for ContentFault {
+    ghost use Rattle.std.specs.Prelude.{◌≡◌};
+    ghost use Rattle.gp_window.specs.declared.content.ContentFault.TheVariants.{Memory};
 
-/// The bytes of a file of the recording in this directory, where it is there and not too long.
+    ghost from_gives = { λ _ e. e ≡ Memory };
+
+    fn from(_error: AllocError) -> ContentFault {
+        ContentFault::Memory
+    }
+}
+
+/// The bytes of a file in this directory, where it is there and not too long.
 pub fn content_of<F: Folder>(
     alloc: Global,
     folder: &mut F,
     directory: &str,
     file: &FileName,
-) -> Result<Row<u8>, RecordingFault>
+) -> Result<Row<u8>, ContentFault>
     ensures later { F.faults folder.old ≤ F.faults folder.new }
     ensures kept { F.files folder.new ≡ F.files folder.old }
     ensures told { (files : List File) → F.files folder.old ≡ Some files
-        → Gives result (content_of files directory.now file.now) }
+        → Gives content_cause result (content_of files directory.now file.now) }
     ensures fits { IfOk result (λ bytes. length bytes ≤ limit_of file.now) }
-    ensures fault { result ≡ Err RecordingFault.ReadFailed → Rose (F.faults folder.old) (F.faults folder.new) }
+    ensures fault { result ≡ Err ContentFault.ReadFailed → Rose (F.faults folder.old) (F.faults folder.new) }
 {
-    let path = path_of(alloc, directory, file)?;
+    let path = file.path(alloc, directory)?;
     let mut bytes = Vec::new(alloc);
-    match folder.read(path.as_str(), limit_of(file), &mut bytes) {
+    match folder.read(path.as_str(), file.limit(), &mut bytes) {
         Ok(()) => Ok(Row::from_vec(bytes)),
-        Err(ReadFault::Absent) => Err(RecordingFault::Absent(*file)),
-        Err(ReadFault::TooLong) => Err(RecordingFault::TooLong(*file)),
-        Err(ReadFault::Failed) => Err(RecordingFault::ReadFailed),
-        Err(ReadFault::Memory) => Err(RecordingFault::Memory),
+        Err(ReadFault::Absent) => Err(ContentFault::Absent(*file)),
+        Err(ReadFault::TooLong) => Err(ContentFault::TooLong(*file)),
+        Err(ReadFault::Failed) => Err(ContentFault::ReadFailed),
+        Err(ReadFault::Memory) => Err(ContentFault::Memory),
     }
-}
-
-fn limit_of(file: &FileName) -> u64
-    ensures { result ≡ limit_of file.now }
-{
-    match file {
-        FileName::Manifest => MANIFEST_LIMIT,
-        FileName::Trace(_) => TRACE_LIMIT,
-    }
-}
-
-fn path_of(alloc: Global, directory: &str, file: &FileName) -> Result<String, AllocError>
-    ensures { IfOk result (λ path. string_bytes path ≡ path_of directory.now file.now) }
-{
-    let name = file.name(alloc)?;
-    let mut path = String::from_str(alloc, directory)?;
-    path.push_str("/")?;
-    path.push_str(name.as_str())?;
-    Ok(path)
 }
 
 /// The bytes of the traces of so many threads.
@@ -66,12 +65,12 @@ pub fn contents_of<F: Folder>(
     folder: &mut F,
     directory: &str,
     threads: u32,
-) -> Result<Row<Row<u8>>, RecordingFault>
+) -> Result<Row<Row<u8>>, ContentFault>
     ensures later { F.faults folder.old ≤ F.faults folder.new }
     ensures kept { F.files folder.new ≡ F.files folder.old }
     ensures told { (files : List File) → F.files folder.old ≡ Some files
-        → Gives result (contents_from files directory.now 1 threads) }
-    ensures fault { result ≡ Err RecordingFault.ReadFailed → Rose (F.faults folder.old) (F.faults folder.new) }
+        → Gives content_cause result (contents_from files directory.now 1 threads) }
+    ensures fault { result ≡ Err ContentFault.ReadFailed → Rose (F.faults folder.old) (F.faults folder.new) }
     ensures count { IfOk result (λ contents. length contents ≡ threads) }
     ensures fits { IfOk result (All (λ bytes. length bytes ≤ 2097152)) }
 {

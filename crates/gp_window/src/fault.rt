@@ -1,35 +1,10 @@
-ghost use Rattle.std.specs.Prelude.{◌≡◌, IfOk, string_bytes};
-ghost use Rattle.gp_window.specs.FileNames.{name_of};
-
+use crate::content::ContentFault;
+use crate::file_name::FileName;
 use crate::manifest::ManifestFault;
 use gp_text::{Name, TextFault};
 use gp_trace::TraceFault;
-use std::alloc::{AllocError, Global};
+use std::alloc::AllocError;
 use thiserror::Error;
-
-/// A file of a recording.
-#[derive(Clone, Copy, Debug, PartialEq, Eq)]
-pub enum FileName {
-    /// The manifest.
-    Manifest,
-    /// The trace of the thread of this number.
-    Trace(u32),
-}
-
-impl FileName {
-    /// The name of the file in its directory.
-    pub fn name(&self, alloc: Global) -> Result<String, AllocError>
-        ensures { IfOk result (λ name. string_bytes name ≡ name_of self.now) }
-    {
-        match self {
-            FileName::Manifest => String::from_str(alloc, "manifest"),
-            FileName::Trace(thread) => {
-                let thread = *thread;
-                format!(in alloc; "t{thread}.trace")
-            }
-        }
-    }
-}
 
 /// Why the files of a folder are no recording. The first cause in the order of reading is told.
 #[derive(Clone, Copy, Debug, PartialEq, Eq, Error)]
@@ -80,6 +55,22 @@ impl From<ManifestFault> for RecordingFault {
             ManifestFault::Text(text) => RecordingFault::ManifestText(text),
             ManifestFault::Line(line) => RecordingFault::ManifestLine(line),
             ManifestFault::Memory => RecordingFault::Memory,
+        }
+    }
+}
+
+impl From<ContentFault> for RecordingFault {
+    ghost use Rattle.std.specs.Prelude.{◌≡◌};
+    ghost use Rattle.gp_window.specs.Recording.{from_content};
+
+    ghost from_gives = { λ f e. e ≡ from_content f };
+
+    fn from(fault: ContentFault) -> RecordingFault {
+        match fault {
+            ContentFault::Absent(file) => RecordingFault::Absent(file),
+            ContentFault::TooLong(file) => RecordingFault::TooLong(file),
+            ContentFault::ReadFailed => RecordingFault::ReadFailed,
+            ContentFault::Memory => RecordingFault::Memory,
         }
     }
 }

@@ -1,26 +1,38 @@
-ghost use Rattle.std.specs.Prelude.{ℕ, ◌≡◌, ◌≢◌, ◌≤◌, ◌<◌, ◌∷◌, ◌+◌, [], Err, IfOk, OnOk, OnErr};
-ghost use Rattle.gp_window.specs.Holders.{after_marks, first_shared, held_after, held_after_all, held_after_window, held_over, segment_after};
+ghost use Rattle.std.specs.Prelude.{◌≡◌, ◌∷◌, ◌++◌, [], if◌then◌else◌, IfOk, OnOk};
+ghost use Rattle.gp_text.specs.Table.{with_entry, without_entry};
+ghost use Rattle.gp_trace.specs.LockUse.{lock_use_of};
+ghost use Rattle.gp_window.specs.Holders.{held_after, held_after_events, held_after_window, holder_cmp, holders_among, is_exclusive, readers_among, segment_after};
+ghost use Rattle.gp_window.specs.Contested.{first_contested, is_contested};
 
-use crate::fault::RecordingFault;
-use gp_text::{Name, Row};
-use gp_trace::{Event, LocalTrace};
+use crate::contested::{is_contested, is_exclusive};
+use crate::users::{Users, suspect, users_at};
+use gp_text::{Name, Row, Table};
+use gp_trace::{Event, LocalTrace, LockMode, LockUse};
 use std::alloc::{AllocError, Global};
-use std::collections::BTreeSet;
 use std::marker::Model;
 
-/// Locks with the threads that hold them, which contracts see as a list in the order of the locks'
-/// names and then of the threads.
+/// A lock, a thread that holds it, and how.
+pub type Holding = ((Name, u32), LockMode);
+
+/// Who holds which lock, which contracts see as a list in the order of the locks' names and then of
+/// the threads. Beside it stands how many threads hold each lock, so that the locks that may be
+/// contested are known without a look at all holdings.
 #[derive(Drop)]
 pub struct Holders {
-    set: BTreeSet<(Name, u32)>,
+    held: Table<(Name, u32), LockMode>,
+    users: Table<Name, Users>,
+    suspects: Table<Name, ()>,
 }
 
 impl Model for Holders {
-    ghost use Rattle.std.specs.Prelude.{List, ℕ};
+    ghost use Rattle.gp_window.specs.Holders.{Holdings};
+    ghost use Rattle.gp_window.specs.Users.{IsCounted, IsListed};
 
-    ghost Value = { List (List ℕ × ℕ) };
+    ghost Value = { Holdings };
 
-    ghost view = { λ holders. holders.set.keys };
+    ghost view = { λ holders. holders.held };
+
+    ghost invariant = { λ holders. IsCounted holders.held holders.users × IsListed holders.users holders.suspects };
 }
 
 impl Holders {
@@ -28,66 +40,157 @@ impl Holders {
         ensures { result ≡ [] }
     {
         Holders {
-            set: BTreeSet::new(alloc),
+            held: Table::new(alloc),
+            users: Table::new(alloc),
+            suspects: Table::new(alloc),
         }
     }
 
     /// The holders after one more segment of each trace, the one with so many before it.
-    pub fn pass(&mut self, before: usize, traces: &[LocalTrace]) -> Result<(), AllocError>
-        ensures { OnOk result (self.new ≡ held_after_window before self.old traces.now) }
+    pub fn pass(self, before: usize, traces: &[LocalTrace]) -> Result<Holders, AllocError>
+        ensures { IfOk result (λ next. next ≡ held_after_window before self traces.now) }
     {
+        let mut holders = self;
         for trace in traces {
-            self.follow_all(trace.thread(), segment_after(before, trace))?;
+            holders = holders.follow_all(trace.thread(), segment_after(before, trace))?;
         }
-        Ok(())
+        Ok(holders)
     }
 
-    fn follow_all(&mut self, thread: u32, events: &[Event]) -> Result<(), AllocError>
-        ensures { OnOk result (self.new ≡ held_after_all thread self.old events.now) }
+    fn follow_all(self, thread: u32, events: &[Event]) -> Result<Holders, AllocError>
+        ensures { IfOk result (λ next. next ≡ held_after_events thread self events.now) }
     {
+        let mut holders = self;
         for event in events {
-            self.follow(thread, event)?;
+            holders = holders.follow(thread, event.lock_use())?;
         }
-        Ok(())
+        Ok(holders)
     }
 
-    fn follow(&mut self, thread: u32, event: &Event) -> Result<(), AllocError>
-        ensures { OnOk result (self.new ≡ held_after thread self.old event.now) }
+    fn follow(self, thread: u32, lock_use: Option<LockUse>) -> Result<Holders, AllocError>
+        ensures { IfOk result (λ next. next ≡ held_after thread self lock_use) }
     {
-        match event {
-            Event::Acquire(lock) => {
-                self.set.insert((*lock, thread))?;
-            }
-            Event::Release(lock) => {
-                let _ = self.set.remove(&(*lock, thread));
-            }
-            _ => {}
+        let Some(lock_use) = lock_use else {
+            return Ok(self);
+        };
+        match lock_use {
+            LockUse::Take(mode, lock) => self.take(thread, mode, lock),
+            LockUse::GiveBack(_, lock) => self.give_back(thread, lock),
         }
-        Ok(())
     }
 
-    /// The least lock that has two holders.
-    fn first_shared(&self) -> Option<Name>
-        ensures { result ≡ first_shared self.now }
+    fn take(self, thread: u32, mode: LockMode, lock: Name) -> Result<Holders, AllocError>
+        ensures { IfOk result (λ next. next ≡ with_entry holder_cmp self (lock, thread) mode) }
     {
-        let mut holders = self.set.iter();
-        let mut lock = holders.next()?.0;
-        for holder in holders {
-            if holder.0 == lock {
-                return Some(lock);
+        let Holders {
+            mut held,
+            mut users,
+            mut suspects,
+        } = self;
+        held.put((lock, thread), mode)?;
+        let more = users_at(&users, &lock).with(mode)?;
+        users.put(lock, more)?;
+        suspect(&mut suspects, lock, more)?;
+        Ok(Holders {
+            held,
+            users,
+            suspects,
+        })
+    }
+
+    fn give_back(self, thread: u32, lock: Name) -> Result<Holders, AllocError>
+        ensures { IfOk result (λ next. next ≡ without_entry holder_cmp self (lock, thread)) }
+    {
+        let Holders {
+            mut held,
+            mut users,
+            mut suspects,
+        } = self;
+        let mode = held.get(&(lock, thread)).copied();
+        held.remove(&(lock, thread));
+        let fewer = users_at(&users, &lock).without(mode);
+        users.put(lock, fewer)?;
+        suspect(&mut suspects, lock, fewer)?;
+        Ok(Holders {
+            held,
+            users,
+            suspects,
+        })
+    }
+
+    /// The least lock that is contested. Where none is a suspect, no holding is looked at.
+    pub fn first_contested(&self, alloc: Global) -> Result<Option<Name>, AllocError>
+        ensures { IfOk result (λ found. found ≡ first_contested self.now) }
+    {
+        let suspects = self.suspects.to_row(alloc)?;
+        if suspects.as_slice().is_empty() {
+            return Ok(None);
+        }
+        let held = self.held.to_row(alloc)?;
+        Ok(self.first_suspected(held.as_slice()))
+    }
+
+    /// The least lock that is contested among the suspects, of these holdings, which are the holders'.
+    fn first_suspected(&self, held: &[Holding]) -> Option<Name>
+        requires { held.now ≡ self.now }
+        ensures { result ≡ first_contested held.now }
+    {
+        for one in held {
+            if self.is_contested(held, one.0.0) {
+                return Some(one.0.0);
             }
-            lock = holder.0;
         }
         None
     }
 
-    /// The locks and their holders, in order.
-    pub fn into_row(self, alloc: Global) -> Result<Row<(Name, u32)>, AllocError>
-        ensures { IfOk result (λ row. row ≡ self) }
+    /// Whether a lock is contested among these holdings, which are the holders'.
+    fn is_contested(&self, held: &[Holding], lock: Name) -> bool
+        requires { held.now ≡ self.now }
+        ensures { result ≡ is_contested held.now lock }
     {
-        let holders: Vec<(Name, u32)> = self.set.into_iter().collect(alloc)?;
-        Ok(Row::from_vec(holders))
+        match self.suspects.get(&lock) {
+            Some(_) => is_contested(held, lock),
+            None => false,
+        }
     }
+
+    /// Who holds which lock, in order.
+    pub fn to_row(&self, alloc: Global) -> Result<Row<Holding>, AllocError>
+        ensures { IfOk result (λ row. row ≡ self.now) }
+    {
+        self.held.to_row(alloc)
+    }
+}
+
+/// The locks that are held by an acquire, with their threads.
+pub fn holders_among(alloc: Global, held: &[Holding]) -> Result<Row<(Name, u32)>, AllocError>
+    ensures { IfOk result (λ row. row ≡ holders_among held.now) }
+{
+    let mut holders = Row::new(alloc);
+    for one in held {
+        keep_where(&mut holders, is_exclusive(one.1), one.0)?;
+    }
+    Ok(holders)
+}
+
+/// The locks that are held by a racquire, with their threads.
+pub fn readers_among(alloc: Global, held: &[Holding]) -> Result<Row<(Name, u32)>, AllocError>
+    ensures { IfOk result (λ row. row ≡ readers_among held.now) }
+{
+    let mut readers = Row::new(alloc);
+    for one in held {
+        keep_where(&mut readers, !is_exclusive(one.1), one.0)?;
+    }
+    Ok(readers)
+}
+
+fn keep_where(row: &mut Row<(Name, u32)>, keep: bool, one: (Name, u32)) -> Result<(), AllocError>
+    ensures { OnOk result (row.new ≡ row.old ++ (if keep then one ∷ [] else [])) }
+{
+    if !keep {
+        return Ok(());
+    }
+    row.push(one)
 }
 
 /// The segment of a trace that has so many before it; no events where there is none.
@@ -98,31 +201,4 @@ pub fn segment_after(before: usize, trace: &LocalTrace) -> &[Event]
         Some(segment) => segment.as_slice(),
         None => &[],
     }
-}
-
-/// The holders after so many segments of each trace.
-pub fn held_over(alloc: Global, traces: &[LocalTrace], before: usize) -> Result<Holders, AllocError>
-    ensures { IfOk result (λ holders. holders ≡ held_over traces.now before) }
-{
-    let mut holders = Holders::new(alloc);
-    for passed in 0..before {
-        holders.pass(passed, traces)?;
-    }
-    Ok(holders)
-}
-
-/// Looks for a lock that two threads hold over a mark, at the marks in order.
-pub fn check_marks(alloc: Global, epochs: u32, traces: &[LocalTrace]) -> Result<(), RecordingFault>
-    requires { 1 ≤ epochs }
-    ensures due { result ≢ Err RecordingFault.Memory → result ≡ after_marks epochs traces.now }
-    ensures no_fault { result ≢ Err RecordingFault.ReadFailed }
-{
-    let mut holders = Holders::new(alloc);
-    for before in 0..epochs - 1 {
-        holders.pass(before as usize, traces)?;
-        if let Some(lock) = holders.first_shared() {
-            return Err(RecordingFault::TwoHolders(lock, before + 2));
-        }
-    }
-    Ok(())
 }

@@ -7,23 +7,34 @@
 #![tactic(auto)]
 
 mod content;
+mod contested;
+mod event_id;
 mod fault;
+mod file_name;
 mod holders;
 mod manifest;
+mod marks;
 mod numbers;
 mod reading;
 mod recording;
 mod schedule;
 mod starts;
-mod table;
 #[cfg(test)]
 mod tests;
+mod users;
+mod walk;
 mod window;
 
-pub use fault::{FileName, RecordingFault};
-pub use manifest::{MOST_EPOCHS, MOST_THREADS, Manifest, ManifestFault, StartValue, read_manifest};
+pub use content::{ContentFault, content_of};
+pub use event_id::{event_id_of, event_ids_read_exactly, put_event_id};
+pub use fault::RecordingFault;
+pub use file_name::FileName;
+pub use manifest::{
+    MOST_EPOCHS, MOST_FORMAT, MOST_THREADS, Manifest, ManifestFault, StartValue, read_manifest,
+};
 pub use reading::read_recording;
 pub use recording::Recording;
 pub use schedule::{EventId, Schedule};
-pub use table::Table;
-pub use window::{Window, cut};
+pub use starts::is_among;
+pub use walk::{WindowWalk, cut};
+pub use window::Window;

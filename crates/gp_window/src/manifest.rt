@@ -1,20 +1,22 @@
 ghost use Rattle.std.specs.Prelude.{◌≡◌, ◌≢◌, ◌<◌, ◌≤◌, ◌-◌, ◌^◌, true, [], All, drop, length, map, slice_get, Some, Ok, Err, IfSome, IfOk, IfErr, OnOk, option_copied};
 ghost use Rattle.std.specs.List.Sorted.{IsStrictlySortedBy};
-ghost use Rattle.gp_text.specs.Lines.{parts_of};
-ghost use Rattle.gp_window.specs.Manifest.{epochs_of, field_of, form_of, manifest_of, manifest_of_text, roots_of, start_value, threads_of, value_of, values_after, values_from, values_of, with_roots, with_threads, with_value};
+ghost use Rattle.gp_window.specs.Manifest.{epochs_of, field_of, format_of, manifest_of, manifest_of_text, roots_of, start_value, threads_of, value_of, values_after, values_from, values_of, with_roots, with_threads, with_value};
 ghost use Rattle.gp_window.specs.ManifestFaults.{IsDueFault, PutGives};
 ghost use Rattle.gp_window.specs.ManifestForm.{IsInside, IsManifest, place_cmp, place_of};
 ghost use Rattle.gp_text.specs.Numbers.{number_after};
 ghost use Rattle.gp_window.specs.Number.{is_rising};
 
 use crate::numbers::{is_rising, numbers_of};
-use crate::table::Table;
 use gp_text::{
-    Line, Name, Row, TextFault, Word, between, cut, number_after, read_i64, read_lines, read_u32,
+    Line, Name, Row, Table, TextFault, Word, between, end_line, number_after, read_i64, read_lines,
+    read_u32,
 };
 use std::alloc::{AllocError, Global};
 use std::marker::Model;
 use thiserror::Error;
+
+/// The greatest number of a format.
+pub const MOST_FORMAT: u32 = 2;
 
 /// The most threads of a recording.
 pub const MOST_THREADS: u32 = 64;
@@ -30,10 +32,11 @@ pub struct StartValue {
     pub value: i64,
 }
 
-/// What a recording is made of: 1 to 64 threads, 1 to 4,096 epochs, the threads that nobody has to
+/// What a recording is made of: the format of its traces, 1 to 64 threads, 1 to 4,096 epochs, the threads that nobody has to
 /// start, and values of variables at the beginning of windows.
 #[derive(Debug, Drop)]
 pub struct Manifest {
+    format: u32,
     threads: u32,
     epochs: u32,
     roots: Row<u32>,
@@ -45,12 +48,20 @@ impl Model for Manifest {
 
     ghost Value = { ManifestForm };
 
-    ghost view = { λ m. record { threads = m.threads; epochs = m.epochs; roots = m.roots; values = m.values } };
+    ghost view = { λ m. record { format = m.format; threads = m.threads; epochs = m.epochs; roots = m.roots; values = m.values } };
 
-    ghost invariant = { λ m. IsManifest (record { threads = m.threads; epochs = m.epochs; roots = m.roots; values = m.values }) };
+    ghost invariant = { λ m. IsManifest (record { format = m.format; threads = m.threads; epochs = m.epochs; roots = m.roots; values = m.values }) };
 }
 
 impl Manifest {
+    /// The format of the traces: 1, or 2 where they may have lines of shared locks.
+    pub fn format(&self) -> u32
+        ensures value { result ≡ self.now.format }
+        ensures rules { IsManifest self.now }
+    {
+        self.format
+    }
+
     /// The number of threads; they are numbered from 1.
     pub fn threads(&self) -> u32
         ensures value { result ≡ self.now.threads }
@@ -123,50 +134,38 @@ impl From<TextFault> for ManifestFault {
     }
 }
 
-/// Reads a manifest: the lines `gptrace 1`, `threads T`, `epochs E` and `roots U U ..` in this order,
+/// Reads a manifest: the lines `gptrace F`, `threads T`, `epochs E` and `roots U U ..` in this order,
 /// and then lines `value K name V` in any order, no two of them for one window and one variable.
 pub fn read_manifest(alloc: Global, bytes: &[u8]) -> Result<Manifest, ManifestFault>
     requires { length bytes.now < 2 ^ 32 - 1 }
     ensures { result ≢ Err ManifestFault.Memory → result ≡ manifest_of_text bytes.now }
 {
     let lines = read_lines(alloc, bytes)?;
-    manifest_of(alloc, end_of(bytes), lines.as_slice())
-}
-
-/// The number of the line at which a text ends.
-fn end_of(bytes: &[u8]) -> u32
-    requires { length bytes.now < 2 ^ 32 - 1 }
-    ensures { result ≡ length (parts_of bytes.now) }
-{
-    let mut rest = bytes;
-    let mut number = 1u32;
-    while let Some((_, after)) = cut(rest, b'\n') {
-        rest = after;
-        number += 1;
-    }
-    number
+    manifest_of(alloc, end_line(bytes), lines.as_slice())
 }
 
 fn manifest_of(alloc: Global, last: u32, lines: &[Line]) -> Result<Manifest, ManifestFault>
     ensures { result ≢ Err ManifestFault.Memory → result ≡ manifest_of last lines.now }
 {
-    check_form(last, line_at(lines, 0))?;
+    let format = format_of(last, line_at(lines, 0))?;
     let threads = threads_of(last, line_at(lines, 1))?;
-    with_threads(alloc, last, threads, lines)
+    with_threads(alloc, last, format, threads, lines)
 }
 
 fn with_threads(
     alloc: Global,
     last: u32,
+    format: u32,
     threads: u32,
     lines: &[Line],
 ) -> Result<Manifest, ManifestFault>
-    requires { (1 ≤ threads) × (threads ≤ 64) }
-    ensures { result ≢ Err ManifestFault.Memory → result ≡ with_threads last threads lines.now }
+    requires format { (1 ≤ format) × (format ≤ 2) }
+    requires threads { (1 ≤ threads) × (threads ≤ 64) }
+    ensures { result ≢ Err ManifestFault.Memory → result ≡ with_threads last format threads lines.now }
 {
     let epochs = epochs_of(last, line_at(lines, 2))?;
     let roots = roots_of(alloc, last, threads, line_at(lines, 3))?;
-    with_roots(alloc, threads, epochs, roots, after_head(lines))
+    with_roots(alloc, format, threads, epochs, roots, after_head(lines))
 }
 
 fn line_at(lines: &[Line], place: usize) -> Option<&Line>
@@ -187,18 +186,21 @@ fn after_head(lines: &[Line]) -> &[Line]
 
 fn with_roots(
     alloc: Global,
+    format: u32,
     threads: u32,
     epochs: u32,
     roots: Row<u32>,
     lines: &[Line],
 ) -> Result<Manifest, ManifestFault>
+    requires format { (1 ≤ format) × (format ≤ 2) }
     requires threads { (1 ≤ threads) × (threads ≤ 64) }
     requires epochs { (1 ≤ epochs) × (epochs ≤ 4096) }
     requires roots { (0 < length roots) × (is_rising 1 threads roots ≡ true) }
-    ensures { result ≢ Err ManifestFault.Memory → result ≡ with_roots threads epochs roots lines.now }
+    ensures { result ≢ Err ManifestFault.Memory → result ≡ with_roots format threads epochs roots lines.now }
 {
     let values = values_of(alloc, epochs, lines)?;
     Ok(Manifest {
+        format,
         threads,
         epochs,
         roots,
@@ -206,12 +208,13 @@ fn with_roots(
     })
 }
 
-fn check_form(last: u32, line: Option<&Line>) -> Result<u32, ManifestFault>
-    ensures { result ≡ field_of last form_of (option_copied line.entry) }
+fn format_of(last: u32, line: Option<&Line>) -> Result<u32, ManifestFault>
+    ensures due { result ≡ field_of last format_of (option_copied line.entry) }
+    ensures range { IfOk result (λ format. (1 ≤ format) × (format ≤ 2)) }
 {
     let line = line.ok_or(ManifestFault::Line(last))?;
-    let form = number_after(b"gptrace", line.words.as_slice());
-    between(1, 1, form).ok_or(ManifestFault::Line(line.number))
+    let format = number_after(b"gptrace", line.words.as_slice());
+    between(1, MOST_FORMAT, format).ok_or(ManifestFault::Line(line.number))
 }
 
 fn threads_of(last: u32, line: Option<&Line>) -> Result<u32, ManifestFault>

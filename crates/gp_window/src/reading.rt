@@ -2,14 +2,15 @@ ghost use Rattle.std.specs.Prelude.{ℕ, ◌≡◌, ◌≢◌, ◌≤◌, ◌<�
 ghost use Rattle.gp_outside.specs.Faults.{Rose};
 ghost use Rattle.gp_outside.specs.Folders.{File};
 ghost use Rattle.gp_trace.specs.declared.fault.TraceFault.{TraceFault};
-ghost use Rattle.gp_trace.specs.Trace.{Trace};
+ghost use Rattle.gp_trace.specs.Trace.{LocalTraceForm};
 ghost use Rattle.gp_window.specs.ManifestForm.{IsManifest};
 ghost use Rattle.gp_window.specs.Parsed.{AreTraces, IsRead, gathered};
-ghost use Rattle.gp_window.specs.Recording.{manifest_at, recording_of, recording_with, trace_or_fault, traces_from};
-ghost use Rattle.gp_window.specs.RecordingFaults.{Gives};
+ghost use Rattle.gp_window.specs.Gives.{Gives};
+ghost use Rattle.gp_window.specs.Recording.{manifest_at, recording_cause, recording_of, recording_with, trace_or_fault, traces_from};
 
 use crate::content::{content_of, contents_of};
-use crate::fault::{FileName, RecordingFault};
+use crate::fault::RecordingFault;
+use crate::file_name::FileName;
 use crate::manifest::{Manifest, read_manifest};
 use crate::recording::{Recording, checked};
 use gp_outside::Folder;
@@ -31,7 +32,7 @@ pub fn read_recording<R: Threads + Sync, F: Folder>(
     ensures later { F.faults folder.old ≤ F.faults folder.new }
     ensures kept { F.files folder.new ≡ F.files folder.old }
     ensures told { (files : List File) → F.files folder.old ≡ Some files
-        → Gives result (recording_of files directory.now) }
+        → Gives recording_cause result (recording_of files directory.now) }
     ensures fault { result ≡ Err RecordingFault.ReadFailed → Rose (F.faults folder.old) (F.faults folder.new) }
 {
     let manifest = manifest_at(alloc, folder, directory)?;
@@ -47,7 +48,7 @@ fn manifest_at<F: Folder>(
     ensures later { F.faults folder.old ≤ F.faults folder.new }
     ensures kept { F.files folder.new ≡ F.files folder.old }
     ensures told { (files : List File) → F.files folder.old ≡ Some files
-        → Gives result (manifest_at files directory.now) }
+        → Gives recording_cause result (manifest_at files directory.now) }
     ensures fault { result ≡ Err RecordingFault.ReadFailed → Rose (F.faults folder.old) (F.faults folder.new) }
 {
     let bytes = content_of(alloc, folder, directory, &FileName::Manifest)?;
@@ -69,25 +70,26 @@ fn recording_with<R: Threads + Sync>(
     ensures due { result ≢ Err RecordingFault.Memory → result ≡ recording_with manifest contents.now }
     ensures no_fault { result ≢ Err RecordingFault.ReadFailed }
 {
-    let traces = traces_from(rt, alloc, manifest.epochs(), contents)?;
+    let traces = traces_from(rt, alloc, manifest.format(), manifest.epochs(), contents)?;
     checked(alloc, manifest, traces)
 }
 
 fn traces_from<R: Threads + Sync>(
     rt: &R,
     alloc: Global,
+    format: u32,
     epochs: u32,
     contents: &[Row<u8>],
 ) -> Result<Row<LocalTrace>, RecordingFault>
     requires epochs { 1 ≤ epochs }
     requires count { length contents.now < 2 ^ 32 - 1 }
     requires fits { All (λ bytes. length bytes ≤ 2097152) contents.now }
-    ensures due { result ≢ Err RecordingFault.Memory → result ≡ traces_from (epochs - 1) 1 contents.now }
+    ensures due { result ≢ Err RecordingFault.Memory → result ≡ traces_from format (epochs - 1) 1 contents.now }
     ensures traces { IfOk result (AreTraces epochs 1 contents.now) }
     ensures no_fault { result ≢ Err RecordingFault.ReadFailed }
 {
     traces_fit();
-    let read = read_all(rt, alloc, epochs - 1, contents)?;
+    let read = read_all(rt, alloc, format, epochs - 1, contents)?;
     gathered(alloc, read)
 }
 
@@ -95,20 +97,21 @@ fn traces_from<R: Threads + Sync>(
 fn read_all<R: Threads + Sync>(
     rt: &R,
     alloc: Global,
+    format: u32,
     marks: u32,
     contents: &[Row<u8>],
 ) -> Result<Vec<Result<LocalTrace, TraceFault>>, AllocError>
     requires count { length contents.now < 2 ^ 32 - 1 }
     requires fits { All (λ bytes. length bytes ≤ 2097152) contents.now }
     ensures len { IfOk result (λ read. length read.items ≡ length contents.now) }
-    ensures each { IfOk result (λ read. (i : ℕ) (d : Result Trace TraceFault) → i < length contents.now
-        → IsRead marks (i + 1) (slice_index_or contents.now i []) (slice_index_or read.items i d)) }
+    ensures each { IfOk result (λ read. (i : ℕ) (d : Result LocalTraceForm TraceFault) → i < length contents.now
+        → IsRead format marks (i + 1) (slice_index_or contents.now i []) (slice_index_or read.items i d)) }
 {
     thread::map_indices(
         rt,
         alloc,
         contents.len(),
-        &|i| { read_trace(alloc, i as u32 + 1, marks, contents[i].as_slice()) },
+        &|i| { read_trace(alloc, format, i as u32 + 1, marks, contents[i].as_slice()) },
     )
 }
 

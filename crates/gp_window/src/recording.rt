@@ -4,8 +4,8 @@ ghost use Rattle.gp_window.specs.RecordingForm.{AreNumbered, IsRecording};
 ghost use Rattle.gp_window.specs.Recording.{checked};
 
 use crate::fault::RecordingFault;
-use crate::holders::check_marks;
 use crate::manifest::Manifest;
+use crate::marks::check_marks;
 use crate::starts::walk_traces;
 use gp_text::Row;
 use gp_trace::LocalTrace;

@@ -1,14 +1,14 @@
-ghost use Rattle.std.specs.Prelude.{ℕ, ◌≡◌, ◌<◌, ◌≤◌, ◌-◌, ◌^◌, ◌++◌, ◌∷◌, ◌||◌, [], map, filter, flat_map, if◌then◌else◌, nat_le, IfOk, OnOk};
+ghost use Rattle.std.specs.Prelude.{ℕ, ◌≡◌, ◌<◌, ◌-◌, ◌^◌, ◌++◌, ◌∷◌, ◌||◌, [], map, filter, if◌then◌else◌, IfOk, OnOk, option_copied};
+ghost use Rattle.gp_window.specs.Events.{event_at, has_thread, segment_of};
 ghost use Rattle.gp_window.specs.Holders.{segment_after};
 ghost use Rattle.gp_window.specs.Starts.{is_among};
-ghost use Rattle.gp_window.specs.WindowForm.{IsWindow, chosen, exited_of, given_all, has_exited, is_kept, numbers_from, started_before, started_by, started_in, started_of, start_values_of, window_of};
+ghost use Rattle.gp_window.specs.WindowForm.{IsWindow, chosen, exited_of, has_exited, is_kept, numbers_from};
 
-use crate::holders::{held_over, segment_after};
-use crate::manifest::{Manifest, StartValue};
-use crate::recording::Recording;
+use crate::holders::segment_after;
+use crate::manifest::Manifest;
+use crate::schedule::EventId;
 use crate::starts::is_among;
-use crate::table::Table;
-use gp_text::{Name, Row};
+use gp_text::{Name, Row, Table};
 use gp_trace::{Event, LocalTrace};
 use std::alloc::{AllocError, Global};
 use std::marker::Model;
@@ -17,12 +17,13 @@ use std::marker::Model;
 /// it begins.
 #[derive(Debug, Drop)]
 pub struct Window {
-    number: u32,
-    segments: Row<Row<Event>>,
-    start_values: Row<(Name, i64)>,
-    holders: Row<(Name, u32)>,
-    started: Row<u32>,
-    exited: Row<u32>,
+    pub(crate) number: u32,
+    pub(crate) segments: Row<Row<Event>>,
+    pub(crate) start_values: Row<(Name, i64)>,
+    pub(crate) holders: Row<(Name, u32)>,
+    pub(crate) readers: Row<(Name, u32)>,
+    pub(crate) started: Row<u32>,
+    pub(crate) exited: Row<u32>,
 }
 
 impl Model for Window {
@@ -30,9 +31,9 @@ impl Model for Window {
 
     ghost Value = { WindowForm };
 
-    ghost view = { λ w. record { number = w.number; segments = w.segments; start_values = w.start_values; holders = w.holders; started = w.started; exited = w.exited } };
+    ghost view = { λ w. record { number = w.number; segments = w.segments; start_values = w.start_values; holders = w.holders; readers = w.readers; started = w.started; exited = w.exited } };
 
-    ghost invariant = { λ w. IsWindow (record { number = w.number; segments = w.segments; start_values = w.start_values; holders = w.holders; started = w.started; exited = w.exited }) };
+    ghost invariant = { λ w. IsWindow (record { number = w.number; segments = w.segments; start_values = w.start_values; holders = w.holders; readers = w.readers; started = w.started; exited = w.exited }) };
 }
 
 impl Window {
@@ -52,6 +53,33 @@ impl Window {
         self.segments.as_slice()
     }
 
+    /// Whether there is a thread of this number in the window.
+    pub fn has_thread(&self, thread: u32) -> bool
+        ensures { result ≡ has_thread self.now thread }
+    {
+        1 <= thread && thread as usize <= self.segments.len()
+    }
+
+    /// The events of a thread in this window; none where there is no such thread.
+    pub fn segment(&self, thread: u32) -> &[Event]
+        ensures { result.now ≡ segment_of self.now thread }
+    {
+        let Some(place) = thread.checked_sub(1) else {
+            return &[];
+        };
+        match self.segments.as_slice().get(place as usize) {
+            Some(segment) => segment.as_slice(),
+            None => &[],
+        }
+    }
+
+    /// The event that an id names, where there is one.
+    pub fn event(&self, id: EventId) -> Option<&Event>
+        ensures { option_copied result ≡ event_at self.now id }
+    {
+        self.segment(id.thread).get(id.index as usize)
+    }
+
     /// The variables whose value is not 0 when the window begins, by name.
     pub fn start_values(&self) -> &[(Name, i64)]
         ensures value { result.now ≡ self.now.start_values }
@@ -60,12 +88,21 @@ impl Window {
         self.start_values.as_slice()
     }
 
-    /// The locks that are held when the window begins, by name, with their holders.
+    /// The locks that are held by an acquire when the window begins, by name, with their holders.
     pub fn holders(&self) -> &[(Name, u32)]
         ensures value { result.now ≡ self.now.holders }
         ensures window { IsWindow self.now }
     {
         self.holders.as_slice()
+    }
+
+    /// The locks that are held by a racquire when the window begins, with their readers, by name and
+    /// thread.
+    pub fn readers(&self) -> &[(Name, u32)]
+        ensures value { result.now ≡ self.now.readers }
+        ensures window { IsWindow self.now }
+    {
+        self.readers.as_slice()
     }
 
     /// The threads that were started before the window begins, rising.
@@ -85,25 +122,8 @@ impl Window {
     }
 }
 
-/// Window `k` of a recording.
-pub fn cut(alloc: Global, recording: &Recording, k: u32) -> Result<Window, AllocError>
-    requires first { 1 ≤ k }
-    requires last { k ≤ recording.now.manifest.epochs }
-    ensures { IfOk result (λ window. window ≡ window_of recording.now k) }
-{
-    let before = k as usize - 1;
-    let traces = recording.traces();
-    Ok(Window {
-        number: k,
-        segments: segments_of(alloc, traces, before)?,
-        start_values: start_values_of(alloc, recording.manifest(), k)?,
-        holders: held_over(alloc, traces, before)?.into_row(alloc)?,
-        started: started_of(alloc, recording, before)?,
-        exited: exited_of(alloc, traces, k)?,
-    })
-}
-
-fn segments_of(
+/// The segment of each trace that has so many before it.
+pub fn segments_of(
     alloc: Global,
     traces: &[LocalTrace],
     before: usize,
@@ -122,53 +142,20 @@ fn copied_events(alloc: Global, events: &[Event]) -> Result<Row<Event>, AllocErr
 {
     let mut copy = Row::new(alloc);
     for event in events {
-        copy.push(copied_event(alloc, event)?)?;
+        copy.push(event.copied(alloc)?)?;
     }
     Ok(copy)
 }
 
-fn copied_event(alloc: Global, event: &Event) -> Result<Event, AllocError>
-    ensures { IfOk result (λ copy. copy ≡ event.now) }
-{
-    match event {
-        Event::Read(name, value) => Ok(Event::Read(*name, *value)),
-        Event::Write(name, value) => Ok(Event::Write(*name, *value)),
-        Event::Acquire(name) => Ok(Event::Acquire(*name)),
-        Event::Release(name) => Ok(Event::Release(*name)),
-        Event::Start(thread) => Ok(Event::Start(*thread)),
-        Event::Join(thread) => Ok(Event::Join(*thread)),
-        Event::Op(name, objects) => {
-            let objects = Vec::from_slice(alloc, objects.as_slice())?;
-            Ok(Event::Op(*name, Row::from_vec(objects)))
-        }
-        Event::Begin(name) => Ok(Event::Begin(*name)),
-        Event::End(name) => Ok(Event::End(*name)),
-    }
-}
-
-fn start_values_of(
+/// The values of a window without those that are 0.
+pub fn start_values_of(
     alloc: Global,
-    manifest: &Manifest,
-    k: u32,
+    values: &Table<Name, i64>,
 ) -> Result<Row<(Name, i64)>, AllocError>
-    ensures { IfOk result (λ values. values ≡ start_values_of manifest.now.values k) }
+    ensures { IfOk result (λ kept. kept ≡ filter is_kept values.now) }
 {
-    let values = values_until(alloc, manifest.values(), k)?;
-    let values = values.into_row(alloc)?;
+    let values = values.to_row(alloc)?;
     kept_values(alloc, values.as_slice())
-}
-
-/// The values after those that were given for windows up to `k`.
-fn values_until(alloc: Global, given: &[StartValue], k: u32) -> Result<Table<Name, i64>, AllocError>
-    ensures { IfOk result (λ values. values ≡ given_all [] (filter (λ value. nat_le value.window k) given.now)) }
-{
-    let mut values = Table::new(alloc);
-    for value in given {
-        if value.window <= k {
-            values.put(value.variable, value.value)?;
-        }
-    }
-    Ok(values)
 }
 
 fn kept_values(alloc: Global, values: &[(Name, i64)]) -> Result<Row<(Name, i64)>, AllocError>
@@ -191,18 +178,15 @@ fn keep_value(kept: &mut Row<(Name, i64)>, value: &(Name, i64)) -> Result<(), Al
     kept.push((*name, *number))
 }
 
-/// The roots and the threads that were started in so many first segments, rising.
-fn started_of(alloc: Global, recording: &Recording, before: usize) -> Result<Row<u32>, AllocError>
-    ensures { IfOk result (λ started. started ≡ started_of recording.now before) }
+/// The roots and those that were started, rising.
+pub fn started_of(
+    alloc: Global,
+    manifest: &Manifest,
+    started: &[u32],
+) -> Result<Row<u32>, AllocError>
+    ensures { IfOk result (λ row. row ≡ chosen manifest.now.roots started.now (numbers_from 1 manifest.now.threads)) }
 {
-    let manifest = recording.manifest();
-    let started = started_before(alloc, recording.traces(), before)?;
-    among(
-        alloc,
-        manifest.threads(),
-        manifest.roots(),
-        started.as_slice(),
-    )
+    among(alloc, manifest.threads(), manifest.roots(), started)
 }
 
 /// The threads that are among the first numbers or among the second, rising.
@@ -237,44 +221,8 @@ fn keep_thread(row: &mut Row<u32>, thread: u32, keep: bool) -> Result<(), AllocE
     row.push(thread)
 }
 
-fn started_before(
-    alloc: Global,
-    traces: &[LocalTrace],
-    before: usize,
-) -> Result<Row<u32>, AllocError>
-    ensures { IfOk result (λ started. started ≡ started_before before traces.now) }
-{
-    let mut started = Row::new(alloc);
-    for trace in traces {
-        add_trace(&mut started, trace, before)?;
-    }
-    Ok(started)
-}
-
-fn add_trace(started: &mut Row<u32>, trace: &LocalTrace, before: usize) -> Result<(), AllocError>
-    ensures { OnOk result (started.new ≡ started.old ++ started_in before trace.now) }
-{
-    let segments = trace.segments();
-    let first = &segments[..before.min(segments.len())];
-    for segment in first {
-        add_events(started, segment.as_slice())?;
-    }
-    Ok(())
-}
-
-fn add_events(started: &mut Row<u32>, events: &[Event]) -> Result<(), AllocError>
-    ensures { OnOk result (started.new ≡ started.old ++ flat_map started_by events.now) }
-{
-    for event in events {
-        if let Event::Start(thread) = event {
-            started.push(*thread)?;
-        }
-    }
-    Ok(())
-}
-
 /// The threads that end in window `k` or in an earlier one.
-fn exited_of(alloc: Global, traces: &[LocalTrace], k: u32) -> Result<Row<u32>, AllocError>
+pub fn exited_of(alloc: Global, traces: &[LocalTrace], k: u32) -> Result<Row<u32>, AllocError>
     ensures { IfOk result (λ exited. exited ≡ exited_of k traces.now) }
 {
     let mut exited = Row::new(alloc);

@@ -1,8 +1,8 @@
 use Rattle.std.proofs.Common.{◌≡◌, ◌+◌, ◌-◌, ◌≤◌, List, length, Some}
 use Rattle.std.specs.Prelude.{All}
 use Rattle.gp_outside.specs.Folders.{File}
-use Rattle.gp_window.specs.Recording.{contents_from}
-use Rattle.gp_text.specs.Results.{with_front}
+use Rattle.gp_window.specs.Contents.{contents_from}
+use Rattle.gp_text.specs.Results.{with_prefix}
 use Rattle.gp_window.proofs.content.contents_of.Given as goal
 
 abbrev pub invariant-loop-before : goal.invariant-loop-before
@@ -12,4 +12,4 @@ invariant-loop-before g l =
     × (length l.contents ≡ l.before)
     × All (λ bytes. length bytes ≤ 2097152) l.contents
     × ((files : List File) → g.F.Folder.files l.initial.folder ≡ Some files
-    → with_front l.contents (contents_from files l.directory (l.before + 1) (l.threads - l.before)) ≡ contents_from files l.directory 1 l.threads)
+    → with_prefix l.contents (contents_from files l.directory (l.before + 1) (l.threads - l.before)) ≡ contents_from files l.directory 1 l.threads)

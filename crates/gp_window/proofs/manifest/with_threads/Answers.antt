@@ -12,5 +12,5 @@ returns c = λ other.
     let fourth : field_of c.args.last (roots_of c.args.threads) (slice_get c.args.lines.now 3) ≡ Ok c.in_ok-roots.roots =
     ap (field_of c.args.last (roots_of c.args.threads)) (sym c.line_at-2.ensures) ∙ sym (c.in_ok-roots.ensures.due (λ memory. (cc))) in
     c.with_roots.ensures other
-    ∙ ap (with_roots c.args.threads c.in_ok-epochs.epochs c.in_ok-roots.roots) c.after_head.ensures
-    ∙ with_both c.args.last c.args.threads c.in_ok-epochs.epochs c.in_ok-roots.roots c.args.lines.now third fourth
+    ∙ ap (with_roots c.args.format c.args.threads c.in_ok-epochs.epochs c.in_ok-roots.roots) c.after_head.ensures
+    ∙ with_both c.args.last c.args.format c.args.threads c.in_ok-epochs.epochs c.in_ok-roots.roots c.args.lines.now third fourth

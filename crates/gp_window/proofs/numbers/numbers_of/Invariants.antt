@@ -1,7 +1,7 @@
 use Rattle.std.proofs.Common.{◌≡◌, drop}
 use Rattle.gp_window.specs.Number.{numbers_of}
-use Rattle.gp_window.proofs.Fronts.{some_front}
+use Rattle.gp_text.specs.Results.{some_prefix}
 use Rattle.gp_window.proofs.numbers.numbers_of.Given as goal
 
 abbrev pub invariant-loop-word : goal.invariant-loop-word
-invariant-loop-word l = some_front l.numbers (numbers_of (drop l.word-index l.words)) ≡ numbers_of l.words
+invariant-loop-word l = some_prefix l.numbers (numbers_of (drop l.word-index l.words)) ≡ numbers_of l.words

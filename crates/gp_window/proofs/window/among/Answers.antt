@@ -1,5 +1,5 @@
 -- One more thread is kept where it is chosen.
-use Rattle.std.proofs.Common.{◌≡◌, ◌+◌, ◌<◌, rules}
+use Rattle.std.proofs.Common.{◌+◌, ◌<◌, rules}
 use Rattle.gp_window.proofs.Threads.{one_thread}
 use Rattle.gp_window.specs.WindowForm.{chosen, numbers_from}
 use Rattle.gp_window.proofs.window.among.Goals as goal

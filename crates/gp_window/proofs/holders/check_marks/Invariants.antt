@@ -1,8 +1,0 @@
-use Rattle.std.proofs.Common.{◌≡◌, ◌-◌}
-use Rattle.gp_window.specs.Holders.{after_marks, after_marks_from, held_over}
-use Rattle.gp_window.proofs.holders.check_marks.Given as goal
-
-abbrev pub invariant-loop-before : goal.invariant-loop-before
-invariant-loop-before l =
-    (l.holders ≡ held_over l.traces l.before)
-    × (after_marks_from l.traces l.before (l.epochs - 1 - l.before) ≡ after_marks l.epochs l.traces)

@@ -1,36 +1,23 @@
 -- How the counts of a state go up, so that no event happens twice.
 use Rattle.std.proofs.Common.{ℕ, zero, suc, ◌≡◌, ◌≢◌, ◌+◌, ◌<◌, ◌≤◌, ap, sym, ◌∙◌, refl, subst, inl, inr, List, [], ◌∷◌, length, get_or, set, arith, length-set}
-use Rattle.std.specs.Prelude.{Ok, slice_get}
+use Rattle.std.specs.Prelude.{Option, None, Some, Ok, slice_get, unwrap_or}
 use Rattle.std.specs.List.{AllPairs}
 use Rattle.std.proofs.lemmas.Option.{slice_get_within}
 use Rattle.std.proofs.lemmas.Bool.{cases_eq}
 use Rattle.std.proofs.lemmas.List.{get_or-set_same, get_or-set_other}
 use Rattle.gp_trace.specs.declared.event.Event.{Event}
-use Rattle.gp_trace.specs.declared.event.Event.TheVariants.{Read, Write, Acquire, Release, Start, Join, Op, Begin, End}
 use Rattle.gp_window.specs.declared.schedule.EventId.{EventId}
 use Rattle.gp_window.specs.WindowForm.{WindowForm}
 use Rattle.gp_replay.specs.declared.state.State.{State}
-use Rattle.gp_replay.specs.Step.{count_of, effect, next}
+use Rattle.gp_replay.specs.Step.{count_of, next}
 use Rattle.gp_replay.specs.Feasible.{Runs}
-use Rattle.gp_replay.specs.Part.{size_of}
+use Rattle.gp_window.specs.Events.{size_of}
 use Rattle.gp_replay.proofs.Sizes.{event_inside}
 use Rattle.gp_replay.proofs.Steps.{Stepped, stepped}
 
 -- the state counts so many threads as the window has
 abbrev pub CountsThreads : WindowForm → State → Type 0
 CountsThreads window state = length state.counts ≡ length window.segments
-
--- no effect counts an event
-pub effect_keeps_counts : (thread : ℕ) (event : Event) (state : State) → (effect thread event state).counts ≡ state.counts
-effect_keeps_counts thread (Read variable value) state = refl
-effect_keeps_counts thread (Write variable value) state = refl
-effect_keeps_counts thread (Acquire lock) state = refl
-effect_keeps_counts thread (Release lock) state = refl
-effect_keeps_counts thread (Start other) state = refl
-effect_keeps_counts thread (Join other) state = refl
-effect_keeps_counts thread (Op name objects) state = refl
-effect_keeps_counts thread (Begin region) state = refl
-effect_keeps_counts thread (End region) state = refl
 
 -- what a step says of the counts before it and after it
 pub record Counted (window : WindowForm) (before after : List ℕ) (id : EventId) : Type 0 where
@@ -41,24 +28,26 @@ pub record Counted (window : WindowForm) (before after : List ℕ) (id : EventId
   pub inside : id.index < size_of window id.thread
   pub counts : after ≡ set before place (id.index + 1)
 
+-- a segment in which an event is found is one of the segments
+within_segments : (segments : List (List Event)) (place index : ℕ) (event : Event) (found : Option (List Event))
+    → slice_get segments place ≡ found → slice_get (unwrap_or found []) index ≡ Some event → place < length segments
+within_segments segments place index event None is e = cc
+within_segments segments place index event (Some segment) is e = slice_get_within segments place segment is
+
 counted_at : (window : WindowForm) (state middle : State) (thread index : ℕ)
     → Stepped window state middle (record { thread = thread; index = index })
     → Counted window state.counts middle.counts (record { thread = thread; index = index })
-counted_at window state middle zero index s = let there = s.there in cc
+counted_at window state middle zero index s =
+    let there : ◌≡◌ {A = Option Event} None (Some s.event) = s.there in cc
 counted_at window state middle (suc place) index s =
-    let found = event_inside (slice_get window.segments place) index s.event s.there in
     let turn : get_or state.counts place 0 ≡ index = s.turn in
-    let kept : (effect (suc place) s.event state).counts ≡ state.counts = effect_keeps_counts (suc place) s.event state in
     record {
       place = place;
       thread = refl;
-      within = slice_get_within window.segments place found.0 found.1;
+      within = within_segments window.segments place index s.event (slice_get window.segments place) refl s.there;
       turn = turn;
-      inside = rw found.1 found.2;
-      counts =
-          ap (λ (t : State). t.counts) s.gives
-          ∙ ap (λ (counts : List ℕ). set counts place (get_or counts place 0 + 1)) kept
-          ∙ ap (λ n. set state.counts place (n + 1)) turn;
+      inside = event_inside window (record { thread = suc place; index = index }) s.event s.there;
+      counts = ap (λ (t : State). t.counts) s.gives ∙ ap (λ n. set state.counts place (n + 1)) turn;
     }
 
 -- a step counts its event for its thread

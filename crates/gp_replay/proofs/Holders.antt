@@ -1,88 +1,80 @@
 -- Which thread holds a lock after events that happen.
-use Rattle.std.proofs.Common.{ℕ, zero, suc, ◌≡◌, ◌⊎◌, ap, sym, ◌∙◌, refl, subst, inl, inr, List, [], ◌∷◌, ◌++◌}
-use Rattle.std.specs.Prelude.{Some, None, Option, Result, Ok, Err, is_some, if◌then◌else◌}
-use Rattle.gp_trace.specs.declared.event.Event.{Event}
-use Rattle.gp_trace.specs.declared.event.Event.TheVariants.{Read, Write, Acquire, Release, Start, Join, Op, Begin, End}
-use Rattle.gp_window.specs.declared.schedule.EventId.{EventId}
+use Rattle.std.proofs.Common.{ℕ, ◌≡◌, ◌⊎◌, ap, sym, ◌∙◌, refl, subst, inl, inr, Bool, false, List, [], ◌∷◌, ◌++◌}
+use Rattle.std.specs.Prelude.{Some, None, Option, Ok, ◌||◌, is_some}
+use Rattle.std.specs.Cmp.Lexicographic.{slice_cmp}
+use Rattle.std.specs.Ordering.{nat_cmp}
+use Rattle.gp_text.specs.Table.{value_at}
+use Rattle.gp_text.specs.TableLaws.{dropped_apart, dropped_here, put_apart, put_here, same_or_apart}
+use Rattle.gp_trace.specs.declared.lock_use.LockMode.TheVariants.{Exclusive, Shared}
+use Rattle.gp_trace.specs.declared.lock_use.LockUse.{LockUse}
+use Rattle.gp_trace.specs.declared.lock_use.LockUse.TheVariants.{Take, GiveBack}
 use Rattle.gp_window.specs.WindowForm.{WindowForm}
-use Rattle.gp_replay.specs.declared.state.State.{State}
-use Rattle.gp_replay.specs.declared.rule.Rule.{Rule}
-use Rattle.gp_replay.specs.declared.rule.Rule.TheVariants.{LockHeld}
-use Rattle.gp_replay.specs.Step.{allowed_in, counted, effect, event_at, holder_of, next}
+use Rattle.gp_window.specs.declared.schedule.EventId.{EventId}
 use Rattle.gp_replay.specs.Feasible.{Runs}
-use Rattle.gp_replay.specs.Holder.{Acquires, Holds, IsAcquiredLast, NoneReleases, Releases}
-use Rattle.gp_replay.proofs.Runs.{runs_split}
-use Rattle.gp_replay.proofs.Steps.{stepped}
-use Rattle.gp_replay.proofs.Tables.{dropped_apart, dropped_here, put_apart, put_here, same_or_apart}
+use Rattle.gp_replay.specs.Holder.{Holds, IsAcquiredLast, NoneReleases}
+use Rattle.gp_replay.specs.LockUses.{GivesBack, Takes}
+use Rattle.gp_replay.specs.Step.{allowed_use, holder_of, holders_after, next}
+use Rattle.gp_replay.specs.declared.state.State.{State}
+use Rattle.gp_replay.specs.RunLaws.{runs_split}
+use Rattle.gp_replay.proofs.Uses.{take_finds_free, used}
 
--- counting an event changes no holder
-counted_keeps_holder : (thread : ℕ) (state : State) (lock : List ℕ) → holder_of (counted thread state) lock ≡ holder_of state lock
-counted_keeps_holder zero state lock = refl
-counted_keeps_holder (suc place) state lock = refl
+-- the holder of a lock among these
+abbrev holder_in : List (List ℕ × ℕ) → List ℕ → Option ℕ
+holder_in holders lock = value_at (slice_cmp nat_cmp) holders lock
 
--- an event acquires the lock for its thread, or releases it, or leaves it to whoever has it
-abbrev pub Turns : Event → List ℕ → ℕ → Option ℕ → Option ℕ → Type 0
-Turns event lock thread before later =
-    ((event ≡ Acquire lock) × (later ≡ Some thread))
-    ⊎ (((event ≡ Release lock) × (later ≡ None)) ⊎ ((event ≡ Acquire lock → ⊥) × (event ≡ Release lock → ⊥) × (later ≡ before)))
+-- a use acquires the lock for its thread, or releases it, or leaves it to whoever has it
+abbrev pub Turns : Option LockUse → List ℕ → ℕ → Option ℕ → Option ℕ → Type 0
+Turns how lock thread before later =
+    ((how ≡ Some (Take Exclusive lock)) × (later ≡ Some thread))
+    ⊎ (((how ≡ Some (GiveBack Exclusive lock)) × (later ≡ None))
+    ⊎ ((how ≡ Some (Take Exclusive lock) → ⊥) × (how ≡ Some (GiveBack Exclusive lock) → ⊥) × (later ≡ before)))
 
-effect_turns : (thread : ℕ) (event : Event) (state : State) (lock : List ℕ)
-    → Turns event lock thread (holder_of state lock) (holder_of (effect thread event state) lock)
-effect_turns thread (Acquire name) state lock =
+use_turns : (thread : ℕ) (how : Option LockUse) (holders : List (List ℕ × ℕ)) (lock : List ℕ)
+    → Turns how lock thread (holder_in holders lock) (holder_in (holders_after thread how holders) lock)
+use_turns thread (Some (Take Exclusive name)) holders lock =
     elim (same_or_apart lock name) [
       | inl same ↦ inl (
-        ap Acquire (sym same),
-        subst (λ n. holder_of (effect thread (Acquire name) state) n ≡ Some thread) (sym same) (put_here state.holders name thread),
+        ap (λ n. Some (Take Exclusive n)) (sym same),
+        subst (λ n. holder_in (holders_after thread (Some (Take Exclusive name)) holders) n ≡ Some thread) (sym same) (put_here holders name thread),
       )
-      | inr apart ↦ inr (inr ((λ e. apart (let is : name ≡ lock = cc in sym is)), (λ e. cc), put_apart state.holders name lock thread apart))
+      | inr apart ↦ inr (inr ((λ e. apart (let is : name ≡ lock = cc in sym is)), (λ e. cc), put_apart holders name lock thread apart))
     ]
-effect_turns thread (Release name) state lock =
+use_turns thread (Some (GiveBack Exclusive name)) holders lock =
     elim (same_or_apart lock name) [
       | inl same ↦ inr (inl (
-        ap Release (sym same),
-        subst (λ n. holder_of (effect thread (Release name) state) n ≡ None) (sym same) (dropped_here state.holders name),
+        ap (λ n. Some (GiveBack Exclusive n)) (sym same),
+        subst (λ n. holder_in (holders_after thread (Some (GiveBack Exclusive name)) holders) n ≡ None) (sym same) (dropped_here holders name),
       ))
-      | inr apart ↦ inr (inr ((λ e. cc), (λ e. apart (let is : name ≡ lock = cc in sym is)), dropped_apart state.holders name lock apart))
+      | inr apart ↦ inr (inr ((λ e. cc), (λ e. apart (let is : name ≡ lock = cc in sym is)), dropped_apart holders name lock apart))
     ]
-effect_turns thread (Read name value) state lock = inr (inr ((λ e. cc), (λ e. cc), refl))
-effect_turns thread (Write name value) state lock = inr (inr ((λ e. cc), (λ e. cc), refl))
-effect_turns thread (Start other) state lock = inr (inr ((λ e. cc), (λ e. cc), refl))
-effect_turns thread (Join other) state lock = inr (inr ((λ e. cc), (λ e. cc), refl))
-effect_turns thread (Op name objects) state lock = inr (inr ((λ e. cc), (λ e. cc), refl))
-effect_turns thread (Begin region) state lock = inr (inr ((λ e. cc), (λ e. cc), refl))
-effect_turns thread (End region) state lock = inr (inr ((λ e. cc), (λ e. cc), refl))
+use_turns thread (Some (Take Shared name)) holders lock = inr (inr ((λ e. cc), (λ e. cc), refl))
+use_turns thread (Some (GiveBack Shared name)) holders lock = inr (inr ((λ e. cc), (λ e. cc), refl))
+use_turns thread None holders lock = inr (inr ((λ e. cc), (λ e. cc), refl))
 
--- a free lock has no holder
-free : (holder : Option ℕ) → ◌≡◌ {A = Result (Unit {0}) Rule} (if is_some holder then Err LockHeld else Ok tt) (Ok tt) → holder ≡ None
-free None e = refl
-free (Some thread) e = cc
+-- no holder, of two tests that fail together
+pub no_holder : (holder : Option ℕ) (b : Bool) → (is_some holder || b) ≡ false → holder ≡ None
+no_holder None b e = refl
+no_holder (Some thread) b e = cc
 
--- an acquire that happens finds its lock free
-acquire_finds_free : (window : WindowForm) (state : State) (event : Event) (lock : List ℕ)
-    → event ≡ Acquire lock → allowed_in window state event ≡ Ok tt → holder_of state lock ≡ None
-acquire_finds_free window state event lock is allowed =
-    free (holder_of state lock) (subst (λ e. allowed_in window state e ≡ Ok tt) is allowed)
+-- an acquire that happens finds its lock without a holder
+acquire_finds_free : (state : State) (how : Option LockUse) (lock : List ℕ)
+    → how ≡ Some (Take Exclusive lock) → allowed_use state how ≡ Ok tt → holder_of state lock ≡ None
+acquire_finds_free state how lock is allowed =
+    no_holder _ _ (take_finds_free state Exclusive lock (subst (λ (u : Option LockUse). allowed_use state u ≡ Ok tt) is allowed))
 
--- what a step does with a lock
-step_turns : (window : WindowForm) (state middle : State) (id : EventId) (lock : List ℕ)
+-- a step acquires the lock, which was free, for its thread, or releases it, or leaves it
+pub step_turns : (window : WindowForm) (state middle : State) (id : EventId) (lock : List ℕ)
     → next window state id ≡ Ok middle
-    → (Acquires window id lock × (holder_of state lock ≡ None) × (holder_of middle lock ≡ Some id.thread))
-    ⊎ ((Releases window id lock × (holder_of middle lock ≡ None))
-    ⊎ ((Acquires window id lock → ⊥) × (Releases window id lock → ⊥) × (holder_of middle lock ≡ holder_of state lock)))
+    → (Takes window Exclusive id lock × (holder_of state lock ≡ None) × (holder_of middle lock ≡ Some id.thread))
+    ⊎ ((GivesBack window Exclusive id lock × (holder_of middle lock ≡ None))
+    ⊎ ((Takes window Exclusive id lock → ⊥) × (GivesBack window Exclusive id lock → ⊥) × (holder_of middle lock ≡ holder_of state lock)))
 step_turns window state middle id lock e =
-    let s = stepped window state middle id e in
-    let event : Event = s.event in
-    let there : event_at window id ≡ Some event = s.there in
-    let effected : holder_of middle lock ≡ holder_of (effect id.thread event state) lock =
-    ap (λ t. holder_of t lock) s.gives ∙ counted_keeps_holder id.thread (effect id.thread event state) lock in
-    elim (effect_turns id.thread event state lock) [
-      | inl took ↦ inl (there ∙ ap Some took.0, acquire_finds_free window state event lock took.0 s.allowed, effected ∙ took.1)
-      | inr (inl freed) ↦ inr (inl (there ∙ ap Some freed.0, effected ∙ freed.1))
-      | inr (inr left) ↦ inr (inr (
-        (λ acquires. left.0 (let found : ◌≡◌ {A = Option Event} (Some event) (Some (Acquire lock)) = sym there ∙ acquires in cc)),
-        (λ releases. left.1 (let found : ◌≡◌ {A = Option Event} (Some event) (Some (Release lock)) = sym there ∙ releases in cc)),
-        effected ∙ left.2,
-      ))
+    let s = used window state middle id e in
+    let now : holder_of middle lock ≡ holder_in (holders_after id.thread s.how state.holders) lock = ap (λ holders. holder_in holders lock) s.holders in
+    elim (use_turns id.thread s.how state.holders lock) [
+      | inl took ↦ inl (s.at ∙ took.0, acquire_finds_free state s.how lock took.0 s.allowed, now ∙ took.1)
+      | inr (inl freed) ↦ inr (inl (s.at ∙ freed.0, now ∙ freed.1))
+      | inr (inr left) ↦ inr (inr ((λ takes. left.0 (sym s.at ∙ takes)), (λ gives. left.1 (sym s.at ∙ gives)), now ∙ left.2))
     ]
 
 -- a thread that acquired the lock later on
@@ -117,20 +109,20 @@ kept_holder window before last (id ∷ ids) lock thread r held none =
 
 -- a thread that acquires a lock holds it after its step
 acquirer_holds : (window : WindowForm) (state middle : State) (id : EventId) (lock : List ℕ)
-    → next window state id ≡ Ok middle → Acquires window id lock → holder_of middle lock ≡ Some id.thread
+    → next window state id ≡ Ok middle → Takes window Exclusive id lock → holder_of middle lock ≡ Some id.thread
 acquirer_holds window state middle id lock e acquires =
     elim (step_turns window state middle id lock e) [
       | inl took ↦ took.2
-      | inr (inl freed) ↦ (let bad : ◌≡◌ {A = Option Event} (Some (Acquire lock)) (Some (Release lock)) = sym acquires ∙ freed.0 in cc)
+      | inr (inl freed) ↦ (let bad : ◌≡◌ {A = Option LockUse} (Some (Take Exclusive lock)) (Some (GiveBack Exclusive lock)) = sym acquires ∙ freed.0 in cc)
       | inr (inr left) ↦ absurd (left.0 acquires)
     ]
 
 -- a thread that acquired the lock, or held it before, and has not released it, is the holder
-pub acquirer_is_holder : (window : WindowForm) (before last : State) (ids front : List EventId) (id : EventId) (back : List EventId) (lock : List ℕ) (thread : ℕ)
-    → Runs window before ids last → ids ≡ front ++ id ∷ back → id.thread ≡ thread → Acquires window id lock → NoneReleases window back lock
+pub acquirer_is_holder : (window : WindowForm) (before last : State) (ids prefix : List EventId) (id : EventId) (back : List EventId) (lock : List ℕ) (thread : ℕ)
+    → Runs window before ids last → ids ≡ prefix ++ id ∷ back → id.thread ≡ thread → Takes window Exclusive id lock → NoneReleases window back lock
     → holder_of last lock ≡ Some thread
-acquirer_is_holder window before last ids front id back lock thread r is own acquires none =
-    let split = runs_split window before last front (id ∷ back) (subst (λ all. Runs window before all last) is r) in
+acquirer_is_holder window before last ids prefix id back lock thread r is own acquires none =
+    let split = runs_split window before last prefix (id ∷ back) (subst (λ all. Runs window before all last) is r) in
     let held = acquirer_holds window split.0 split.2.0 id lock split.2.1 acquires in
     kept_holder window split.2.0 last back lock thread split.2.2 (held ∙ ap Some own) none
 

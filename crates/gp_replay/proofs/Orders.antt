@@ -1,21 +1,24 @@
 -- What comes before an event of a started thread, and before a join.
-use Rattle.std.proofs.Common.{ℕ, zero, suc, ◌≡◌, ◌⊎◌, ap, sym, ◌∙◌, refl, subst, inl, inr, List, [], ◌∷◌, ◌++◌, Bool, true, false, eqb-true, length}
-use Rattle.std.specs.Prelude.{Some, None, Option, Result, Ok, Err, if◌then◌else◌, ◌==◌, ◌&&◌}
+use Rattle.std.proofs.Common.{ℕ, ◌≡◌, ◌⊎◌, ap, sym, ◌∙◌, refl, subst, inl, inr, List, [], ◌∷◌, ◌++◌, Bool, true, false, eqb-true}
+use Rattle.std.specs.Prelude.{Some, Option, Result, Ok, Err, if◌then◌else◌, ◌==◌, ◌&&◌}
 use Rattle.std.proofs.lemmas.Bool.{and_parts, cases_Bool}
 use Rattle.gp_trace.specs.declared.event.Event.{Event}
-use Rattle.gp_trace.specs.declared.event.Event.TheVariants.{Read, Write, Acquire, Release, Start, Join, Op, Begin, End}
+use Rattle.gp_trace.specs.declared.event.Event.TheVariants.{Start, Join}
 use Rattle.gp_window.specs.declared.schedule.EventId.{EventId}
 use Rattle.gp_window.specs.WindowForm.{WindowForm}
 use Rattle.gp_replay.specs.declared.state.State.{State}
 use Rattle.gp_replay.specs.declared.rule.Rule.{Rule}
 use Rattle.gp_replay.specs.declared.rule.Rule.TheVariants.{NotExited}
-use Rattle.gp_replay.specs.Step.{allowed_in, count_of, counted, effect, event_at, has_ended, is_among, is_whole, next, segment_of, start_state}
+use Rattle.gp_window.specs.Events.{event_at}
+use Rattle.gp_window.specs.Starts.{is_among}
+use Rattle.gp_replay.specs.Step.{allowed_in, count_of, effect, has_ended, next, start_state}
 use Rattle.gp_replay.specs.Feasible.{Runs}
 use Rattle.gp_replay.specs.Order.{IsStartedBy, Joins, Starts}
-use Rattle.gp_replay.specs.Part.{events_from, part_of, size_in, size_of}
-use Rattle.gp_replay.proofs.Parts.{front_from_start}
-use Rattle.gp_replay.proofs.Runs.{runs_split}
-use Rattle.gp_replay.proofs.Steps.{Stepped, stepped}
+use Rattle.gp_window.specs.Events.{size_of}
+use Rattle.gp_replay.specs.Part.{events_from, part_of}
+use Rattle.gp_replay.proofs.Parts.{prefix_from_start}
+use Rattle.gp_replay.specs.RunLaws.{runs_split}
+use Rattle.gp_replay.proofs.Steps.{stepped}
 
 -- a thread that is among some with one more is among them, or that one
 among_added : (threads : List ℕ) (other thread : ℕ) → is_among (threads ++ other ∷ []) thread ≡ true → (is_among threads thread ≡ true) ⊎ (other ≡ thread)
@@ -41,19 +44,7 @@ effect_starts doer (Start other) state thread e =
       | inl among ↦ inl among
       | inr added ↦ inr (ap Start added)
     ]
-effect_starts doer (Read name value) state thread e = inl e
-effect_starts doer (Write name value) state thread e = inl e
-effect_starts doer (Acquire lock) state thread e = inl e
-effect_starts doer (Release lock) state thread e = inl e
-effect_starts doer (Join other) state thread e = inl e
-effect_starts doer (Op name objects) state thread e = inl e
-effect_starts doer (Begin region) state thread e = inl e
-effect_starts doer (End region) state thread e = inl e
-
--- counting an event starts no thread
-counted_keeps_started : (thread : ℕ) (state : State) → (counted thread state).started ≡ state.started
-counted_keeps_started zero state = refl
-counted_keeps_started (suc place) state = refl
+effect_starts doer event state thread e = inl e
 
 step_starts : (window : WindowForm) (state middle : State) (id : EventId) (thread : ℕ)
     → next window state id ≡ Ok middle → is_among middle.started thread ≡ true
@@ -62,8 +53,7 @@ step_starts window state middle id thread e among =
     let s = stepped window state middle id e in
     let event : Event = s.event in
     let there : event_at window id ≡ Some event = s.there in
-    let started : middle.started ≡ (effect id.thread event state).started =
-    ap (λ (t : State). t.started) s.gives ∙ counted_keeps_started id.thread (effect id.thread event state) in
+    let started : middle.started ≡ (effect id.thread event state).started = ap (λ (t : State). t.started) s.gives in
     elim (effect_starts id.thread event state thread (subst (λ threads. is_among threads thread ≡ true) started among)) [
       | inl before ↦ inl before
       | inr starts ↦ inr (there ∙ ap Some starts)
@@ -84,23 +74,18 @@ started_by_run window before last (id ∷ ids) thread r among =
     ]
 
 -- the thread of an event that happens is started before it
-pub started_first : (window : WindowForm) (last : State) (front : List EventId) (id : EventId) (back : List EventId)
-    → Runs window (start_state window) (front ++ id ∷ back) last
-    → (is_among window.started id.thread ≡ true) ⊎ IsStartedBy window front id.thread
-started_first window last front id back r =
-    let parts = runs_split window (start_state window) last front (id ∷ back) r in
+pub started_first : (window : WindowForm) (last : State) (prefix : List EventId) (id : EventId) (back : List EventId)
+    → Runs window (start_state window) (prefix ++ id ∷ back) last
+    → (is_among window.started id.thread ≡ true) ⊎ IsStartedBy window prefix id.thread
+started_first window last prefix id back r =
+    let parts = runs_split window (start_state window) last prefix (id ∷ back) r in
     let s = stepped window parts.0 parts.2.0 id parts.2.1 in
-    started_by_run window (start_state window) parts.0 front id.thread parts.1 s.started
+    started_by_run window (start_state window) parts.0 prefix id.thread parts.1 s.started
 
 -- a test that an allowed event passed
 passed : (b : Bool) (rule : Rule) → ◌≡◌ {A = Result (Unit {0}) Rule} (if b then Ok tt else Err rule) (Ok tt) → b ≡ true
 passed true rule e = refl
 passed false rule e = cc
-
--- as many events as a whole segment has
-whole_is_size : (segment : Option (List Event)) (count : ℕ) → is_whole segment count ≡ true → count ≡ size_in segment
-whole_is_size None count e = cc
-whole_is_size (Some events) count e = sym (eqb-true (length events) count e)
 
 -- a thread that is joined has ended
 join_finds_ended : (window : WindowForm) (state : State) (event : Event) (thread : ℕ)
@@ -109,17 +94,18 @@ join_finds_ended window state event thread is allowed =
     passed (has_ended window state thread) NotExited (subst (λ e. allowed_in window state e ≡ Ok tt) is allowed)
 
 -- a join that happens comes after its thread's last event
-pub joined_last : (window : WindowForm) (last : State) (front : List EventId) (id : EventId) (back : List EventId) (thread : ℕ)
-    → Runs window (start_state window) (front ++ id ∷ back) last → Joins window id thread
-    → (is_among window.exited thread ≡ true) × (part_of thread front ≡ events_from thread 0 (size_of window thread))
-joined_last window last front id back thread r joins =
-    let parts = runs_split window (start_state window) last front (id ∷ back) r in
+pub joined_last : (window : WindowForm) (last : State) (prefix : List EventId) (id : EventId) (back : List EventId) (thread : ℕ)
+    → Runs window (start_state window) (prefix ++ id ∷ back) last → Joins window id thread
+    → (is_among window.exited thread ≡ true) × (part_of thread prefix ≡ events_from thread 0 (size_of window thread))
+joined_last window last prefix id back thread r joins =
+    let parts = runs_split window (start_state window) last prefix (id ∷ back) r in
     let s = stepped window parts.0 parts.2.0 id parts.2.1 in
     let event : Event = s.event in
     let there : event_at window id ≡ Some event = s.there in
     let is : event ≡ Join thread = (let found : ◌≡◌ {A = Option Event} (Some event) (Some (Join thread)) = sym there ∙ joins in cc) in
     let ended = join_finds_ended window parts.0 event thread is s.allowed in
-    let tests = and_parts (is_among parts.0.started thread) (is_among window.exited thread && is_whole (segment_of window thread) (count_of parts.0 thread)) ended in
-    let ends = and_parts (is_among window.exited thread) (is_whole (segment_of window thread) (count_of parts.0 thread)) tests.1 in
-    let whole : count_of parts.0 thread ≡ size_of window thread = whole_is_size (segment_of window thread) (count_of parts.0 thread) ends.1 in
-    (ends.0, (front_from_start window parts.0 front thread parts.1).0 ∙ ap (λ count. events_from thread 0 count) whole)
+    let size : ℕ = size_of window thread in
+    let tests = and_parts (is_among parts.0.started thread) (is_among window.exited thread && size == count_of parts.0 thread) ended in
+    let ends = and_parts (is_among window.exited thread) (size == count_of parts.0 thread) tests.1 in
+    let whole : size ≡ count_of parts.0 thread = eqb-true size (count_of parts.0 thread) ends.1 in
+    (ends.0, (prefix_from_start window parts.0 prefix thread parts.1).0 ∙ ap (λ count. events_from thread 0 count) (sym whole))

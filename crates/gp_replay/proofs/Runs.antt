@@ -1,5 +1,5 @@
 -- Where a replay ends, and what that says of the events that happened.
-use Rattle.std.proofs.Common.{ℕ, zero, suc, ◌≡◌, ◌+◌, ◌⊎◌, inl, inr, refl, subst, List, [], ◌∷◌, ◌++◌, arith}
+use Rattle.std.proofs.Common.{ℕ, zero, suc, ◌≡◌, ◌+◌, ◌⊎◌, inl, inr, refl, subst, List, [], ◌∷◌, arith}
 use Rattle.std.specs.Prelude.{Result, Ok, Err}
 use Rattle.gp_window.specs.declared.schedule.EventId.{EventId}
 use Rattle.gp_window.specs.WindowForm.{WindowForm}
@@ -69,17 +69,3 @@ from_stuck window place zero at rule state (id ∷ ids) is s =
 from_stuck window place (suc later) at rule state (id ∷ ids) is s =
     let there : at ≡ (place + 1) + later = omega arith in
     rw s.2.1 (from_stuck window (place + 1) later at rule s.2.0 ids there (s.0, s.1, s.2.2, s.3, s.4))
-
--- a beginning of what happens happens
-pub runs_front : (window : WindowForm) (state last : State) (front back : List EventId)
-    → Runs window state (front ++ back) last → (middle : State) × Runs window state front middle
-runs_front window state last [] back r = (state, refl)
-runs_front window state last (id ∷ front) back r =
-    let s = runs_front window r.0 last front back r.2 in (s.0, (r.0, r.1, s.1))
-
--- what happens is its beginning, and then the rest
-pub runs_split : (window : WindowForm) (state last : State) (front back : List EventId)
-    → Runs window state (front ++ back) last → (middle : State) × Runs window state front middle × Runs window middle back last
-runs_split window state last [] back r = (state, refl, r)
-runs_split window state last (id ∷ front) back r =
-    let s = runs_split window r.0 last front back r.2 in (s.0, (r.0, r.1, s.1), s.2)

@@ -1,50 +1,89 @@
 -- Entries that are put into a table in the order of their keys.
-use Rattle.std.proofs.Common.{◌≡◌, ◌∙◌, sym, ap, refl, subst, List, [], ◌∷◌, ◌++◌, append_assoc}
+use Rattle.std.proofs.Common.{ℕ, ◌≡◌, ◌∙◌, sym, ap, refl, subst, List, [], ◌∷◌, ◌++◌, append_assoc}
 use Rattle.std.specs.declared.cmp.Ordering.{Ordering}
 use Rattle.std.specs.declared.cmp.Ordering.TheVariants.{Less, Greater}
 use Rattle.std.specs.Ordering.{ordering_reverse}
 use Rattle.std.specs.Cmp.{IsTotalOrder}
 use Rattle.std.specs.BTreeMap.{insert_entry}
+use Rattle.std.specs.BTreeSet.{insert_key}
 use Rattle.std.specs.List.{AllByRecursion}
 use Rattle.std.specs.List.Sorted.{IsStrictlySortedBy}
 use Rattle.std.specs.Map.{keys_of}
 use Rattle.std.proofs.lemmas.List.{append-nil}
-use Rattle.gp_window.specs.Table.{with_entries}
+use Rattle.gp_window.specs.Holders.{holder_cmp}
+use Rattle.gp_replay.specs.Readers.{with_readers}
+use Rattle.gp_replay.proofs.ReaderSets.{holder_total}
+use Rattle.gp_text.specs.Table.{with_entries}
 
 -- an entry above all others goes to their end
-put_last : {K V : Type 0} {R : K → K → Ordering} (o : IsTotalOrder R) (front : List (K × V)) (k : K) (v : V)
-    → AllByRecursion (λ entry. R entry.0 k ≡ Less) front → insert_entry R front k v ≡ front ++ (k, v) ∷ []
+put_last : {K V : Type 0} {R : K → K → Ordering} (o : IsTotalOrder R) (prefix : List (K × V)) (k : K) (v : V)
+    → AllByRecursion (λ entry. R entry.0 k ≡ Less) prefix → insert_entry R prefix k v ≡ prefix ++ (k, v) ∷ []
 put_last o [] k v below = refl
-put_last {R = R} o (e ∷ front) k v below =
+put_last {R = R} o (e ∷ prefix) k v below =
     let above : R k e.0 ≡ Greater = o.antisymm k e.0 ∙ ap ordering_reverse below.0 in
-    rw above (ap (λ rest. e ∷ rest) (put_last o front k v below.1))
+    rw above (ap (λ rest. e ∷ rest) (put_last o prefix k v below.1))
 
 -- what holds of all keys holds of the one in the middle
-in_middle : {K V : Type 0} (P : K → Type 0) (front : List (K × V)) (e : K × V) (back : List (K × V))
-    → AllByRecursion P (keys_of (front ++ e ∷ back)) → P e.0
+in_middle : {K V : Type 0} (P : K → Type 0) (prefix : List (K × V)) (e : K × V) (back : List (K × V))
+    → AllByRecursion P (keys_of (prefix ++ e ∷ back)) → P e.0
 in_middle P [] e back all = all.0
-in_middle P (first ∷ front) e back all = in_middle P front e back all.1
+in_middle P (first ∷ prefix) e back all = in_middle P prefix e back all.1
 
 -- in an order the entries before one are below it
-below_middle : {K V : Type 0} (R : K → K → Ordering) (front : List (K × V)) (e : K × V) (back : List (K × V))
-    → IsStrictlySortedBy R (keys_of (front ++ e ∷ back)) → AllByRecursion (λ entry. R entry.0 e.0 ≡ Less) front
+below_middle : {K V : Type 0} (R : K → K → Ordering) (prefix : List (K × V)) (e : K × V) (back : List (K × V))
+    → IsStrictlySortedBy R (keys_of (prefix ++ e ∷ back)) → AllByRecursion (λ entry. R entry.0 e.0 ≡ Less) prefix
 unfolding IsStrictlySortedBy
 below_middle R [] e back sorted = tt
-below_middle R (first ∷ front) e back sorted =
-    (in_middle (λ k. R first.0 k ≡ Less) front e back sorted.0, below_middle R front e back sorted.1)
+below_middle R (first ∷ prefix) e back sorted =
+    (in_middle (λ k. R first.0 k ≡ Less) prefix e back sorted.0, below_middle R prefix e back sorted.1)
 
 -- entries in the order of their keys, after others that are all before them, stay as they are
-put_in_order : {K V : Type 0} {R : K → K → Ordering} (o : IsTotalOrder R) (front back : List (K × V))
-    → IsStrictlySortedBy R (keys_of (front ++ back)) → with_entries R front back ≡ front ++ back
-put_in_order o front [] sorted = sym (append-nil front)
-put_in_order {R = R} o front (e ∷ back) sorted =
-    let moved : (front ++ e ∷ []) ++ back ≡ front ++ e ∷ back = append_assoc front (e ∷ []) back in
-    let last : insert_entry R front e.0 e.1 ≡ front ++ e ∷ [] = put_last o front e.0 e.1 (below_middle R front e back sorted) in
+put_in_order : {K V : Type 0} {R : K → K → Ordering} (o : IsTotalOrder R) (prefix back : List (K × V))
+    → IsStrictlySortedBy R (keys_of (prefix ++ back)) → with_entries R prefix back ≡ prefix ++ back
+put_in_order o prefix [] sorted = sym (append-nil prefix)
+put_in_order {R = R} o prefix (e ∷ back) sorted =
+    let moved : (prefix ++ e ∷ []) ++ back ≡ prefix ++ e ∷ back = append_assoc prefix (e ∷ []) back in
+    let last : insert_entry R prefix e.0 e.1 ≡ prefix ++ e ∷ [] = put_last o prefix e.0 e.1 (below_middle R prefix e back sorted) in
     ap (λ entries. with_entries R entries back) last
-    ∙ put_in_order o (front ++ e ∷ []) back (subst (λ entries. IsStrictlySortedBy R (keys_of entries)) (sym moved) sorted)
+    ∙ put_in_order o (prefix ++ e ∷ []) back (subst (λ entries. IsStrictlySortedBy R (keys_of entries)) (sym moved) sorted)
     ∙ moved
 
 -- entries in the order of their keys are the table into which they are put
 pub put_all_in_order : {K V : Type 0} {R : K → K → Ordering} (o : IsTotalOrder R) (entries : List (K × V))
     → IsStrictlySortedBy R (keys_of entries) → with_entries R [] entries ≡ entries
 put_all_in_order o entries sorted = put_in_order o [] entries sorted
+
+-- a key above all others goes to their end
+add_last : {K : Type 0} {R : K → K → Ordering} (o : IsTotalOrder R) (prefix : List K) (k : K)
+    → AllByRecursion (λ key. R key k ≡ Less) prefix → insert_key R prefix k ≡ prefix ++ k ∷ []
+add_last o [] k below = refl
+add_last {R = R} o (first ∷ prefix) k below =
+    let above : R k first ≡ Greater = o.antisymm k first ∙ ap ordering_reverse below.0 in
+    rw above (ap (λ rest. first ∷ rest) (add_last o prefix k below.1))
+
+-- what holds of all keys holds of the one in the middle
+key_in_middle : {K : Type 0} (P : K → Type 0) (prefix : List K) (k : K) (back : List K) → AllByRecursion P (prefix ++ k ∷ back) → P k
+key_in_middle P [] k back all = all.0
+key_in_middle P (first ∷ prefix) k back all = key_in_middle P prefix k back all.1
+
+-- in an order the keys before one are below it
+keys_below_middle : {K : Type 0} (R : K → K → Ordering) (prefix : List K) (k : K) (back : List K)
+    → IsStrictlySortedBy R (prefix ++ k ∷ back) → AllByRecursion (λ key. R key k ≡ Less) prefix
+unfolding IsStrictlySortedBy
+keys_below_middle R [] k back sorted = tt
+keys_below_middle R (first ∷ prefix) k back sorted =
+    (key_in_middle (λ key. R first key ≡ Less) prefix k back sorted.0, keys_below_middle R prefix k back sorted.1)
+
+-- readers in order, after others that are all before them, stay as they are
+add_in_order : (prefix back : List (List ℕ × ℕ)) → IsStrictlySortedBy holder_cmp (prefix ++ back) → with_readers prefix back ≡ prefix ++ back
+add_in_order prefix [] sorted = sym (append-nil prefix)
+add_in_order prefix (reader ∷ back) sorted =
+    let moved : (prefix ++ reader ∷ []) ++ back ≡ prefix ++ reader ∷ back = append_assoc prefix (reader ∷ []) back in
+    let last : insert_key holder_cmp prefix reader ≡ prefix ++ reader ∷ [] = add_last holder_total prefix reader (keys_below_middle holder_cmp prefix reader back sorted) in
+    ap (λ readers. with_readers readers back) last
+    ∙ add_in_order (prefix ++ reader ∷ []) back (subst (λ readers. IsStrictlySortedBy holder_cmp readers) (sym moved) sorted)
+    ∙ moved
+
+-- readers in order are the readers that are added one after another
+pub add_all_in_order : (readers : List (List ℕ × ℕ)) → IsStrictlySortedBy holder_cmp readers → with_readers [] readers ≡ readers
+add_all_in_order readers sorted = add_in_order [] readers sorted

@@ -7,7 +7,9 @@ use Rattle.gp_window.specs.WindowForm.{WindowForm}
 use Rattle.gp_replay.specs.declared.state.State.{State}
 use Rattle.gp_replay.specs.declared.rule.Rule.{Rule}
 use Rattle.gp_text.specs.Results.{and_then}
-use Rattle.gp_replay.specs.Step.{after, allowed_in, count_of, event_at, is_among, next, next_with, rules_of, turn_of}
+use Rattle.gp_window.specs.Events.{event_at}
+use Rattle.gp_window.specs.Starts.{is_among}
+use Rattle.gp_replay.specs.Step.{after, allowed_in, count_of, next, next_with, rules_of, turn_of}
 
 -- the step was that of an event, in its turn, which was allowed
 pub record Stepped (window : WindowForm) (state middle : State) (id : EventId) : Type 0 where

@@ -1,26 +1,22 @@
 -- Where the value of a variable comes from.
-use Rattle.std.proofs.Common.{ℕ, zero, suc, ◌≡◌, ◌⊎◌, ap, sym, ◌∙◌, refl, subst, inl, inr, List, [], ◌∷◌, ◌++◌, Bool, true, false}
+use Rattle.std.proofs.Common.{ℕ, ◌≡◌, ◌⊎◌, ap, sym, ◌∙◌, refl, subst, inl, inr, List, [], ◌∷◌, ◌++◌, Bool, true, false}
 use Rattle.std.specs.Prelude.{ℤ, pos, Some, Option, Result, Ok, Err, if◌then◌else◌, unwrap_or}
 use Rattle.std.specs.Ordering.{int_eq}
 use Rattle.std.proofs.lemmas.Bool.Decides.{Decides-int_eq}
 use Rattle.gp_trace.specs.declared.event.Event.{Event}
-use Rattle.gp_trace.specs.declared.event.Event.TheVariants.{Read, Write, Acquire, Release, Start, Join, Op, Begin, End}
+use Rattle.gp_trace.specs.declared.event.Event.TheVariants.{Read, Write}
 use Rattle.gp_window.specs.declared.schedule.EventId.{EventId}
 use Rattle.gp_window.specs.WindowForm.{WindowForm}
 use Rattle.gp_replay.specs.declared.state.State.{State}
 use Rattle.gp_replay.specs.declared.rule.Rule.{Rule}
 use Rattle.gp_replay.specs.declared.rule.Rule.TheVariants.{WrongValue}
-use Rattle.gp_replay.specs.Step.{allowed_in, counted, effect, event_at, next, value_of}
+use Rattle.gp_window.specs.Events.{event_at}
+use Rattle.gp_replay.specs.Step.{allowed_in, effect, next, value_of}
 use Rattle.gp_replay.specs.Feasible.{Runs}
 use Rattle.gp_replay.specs.Value.{IsLastValue, Reads, Writes}
-use Rattle.gp_replay.proofs.Runs.{runs_split}
+use Rattle.gp_replay.specs.RunLaws.{runs_split}
 use Rattle.gp_replay.proofs.Steps.{stepped}
-use Rattle.gp_replay.proofs.Tables.{put_apart, put_here, same_or_apart}
-
--- counting an event changes no value
-counted_keeps_value : (thread : ℕ) (state : State) (variable : List ℕ) → value_of (counted thread state) variable ≡ value_of state variable
-counted_keeps_value zero state variable = refl
-counted_keeps_value (suc place) state variable = refl
+use Rattle.gp_text.specs.TableLaws.{put_apart, put_here, same_or_apart}
 
 -- an event writes the variable, which then has the value; or it does not, and the value stays
 abbrev pub Changes : Event → List ℕ → ℤ → ℤ → Type 0
@@ -42,14 +38,7 @@ effect_changes thread (Write name value) state variable =
         ap (λ found. unwrap_or found (pos 0)) (put_apart state.values name variable value apart),
       )
     ]
-effect_changes thread (Read name value) state variable = inr ((λ other e. cc), refl)
-effect_changes thread (Acquire lock) state variable = inr ((λ other e. cc), refl)
-effect_changes thread (Release lock) state variable = inr ((λ other e. cc), refl)
-effect_changes thread (Start other) state variable = inr ((λ value e. cc), refl)
-effect_changes thread (Join other) state variable = inr ((λ value e. cc), refl)
-effect_changes thread (Op name objects) state variable = inr ((λ value e. cc), refl)
-effect_changes thread (Begin region) state variable = inr ((λ value e. cc), refl)
-effect_changes thread (End region) state variable = inr ((λ value e. cc), refl)
+effect_changes thread event state variable = inr ((λ value e. cc), refl)
 
 -- a step writes the variable, which then has the value; or it does not, and the value stays
 step_changes : (window : WindowForm) (state middle : State) (id : EventId) (variable : List ℕ)
@@ -60,8 +49,7 @@ step_changes window state middle id variable e =
     let s = stepped window state middle id e in
     let event : Event = s.event in
     let there : event_at window id ≡ Some event = s.there in
-    let effected : value_of middle variable ≡ value_of (effect id.thread event state) variable =
-    ap (λ t. value_of t variable) s.gives ∙ counted_keeps_value id.thread (effect id.thread event state) variable in
+    let effected : value_of middle variable ≡ value_of (effect id.thread event state) variable = ap (λ t. value_of t variable) s.gives in
     elim (effect_changes id.thread event state variable) [
       | inl wrote ↦ inl (wrote.0, there ∙ ap Some wrote.1, effected ∙ wrote.2)
       | inr kept ↦ inr ((λ value writes. kept.0 value (let found : ◌≡◌ {A = Option Event} (Some event) (Some (Write variable value)) = sym there ∙ writes in cc)), effected ∙ kept.1)
@@ -93,13 +81,13 @@ read_finds window state event variable value is allowed =
     (Decides-int_eq (value_of state variable) value).0 (passed (int_eq (value_of state variable) value) WrongValue found)
 
 -- a read among events that happen finds the last value
-pub read_in_run : (window : WindowForm) (before last : State) (front : List EventId) (id : EventId) (back : List EventId) (variable : List ℕ) (value : ℤ)
-    → Runs window before (front ++ id ∷ back) last → Reads window id variable value → IsLastValue window before front variable value
-read_in_run window before last front id back variable value r reads =
-    let parts = runs_split window before last front (id ∷ back) r in
+pub read_in_run : (window : WindowForm) (before last : State) (prefix : List EventId) (id : EventId) (back : List EventId) (variable : List ℕ) (value : ℤ)
+    → Runs window before (prefix ++ id ∷ back) last → Reads window id variable value → IsLastValue window before prefix variable value
+read_in_run window before last prefix id back variable value r reads =
+    let parts = runs_split window before last prefix (id ∷ back) r in
     let s = stepped window parts.0 parts.2.0 id parts.2.1 in
     let event : Event = s.event in
     let there : event_at window id ≡ Some event = s.there in
     let is : event ≡ Read variable value = (let found : ◌≡◌ {A = Option Event} (Some event) (Some (Read variable value)) = sym there ∙ reads in cc) in
     let finds = read_finds window parts.0 event variable value is s.allowed in
-    subst (λ found. IsLastValue window before front variable found) finds (value_after_run window before parts.0 front variable parts.1)
+    subst (λ found. IsLastValue window before prefix variable found) finds (value_after_run window before parts.0 prefix variable parts.1)

@@ -45,8 +45,8 @@ pub record ReplayMeansFeasible : Type 0 where
   pub stuck : (window : WindowForm) (ids : List EventId) (place : ℕ) (rule : Rule) → (end_of window ids ≡ Err (Stuck place rule)) ↔ StuckAt window (start_state window) ids place rule
 
 -- where a schedule is feasible, so is each schedule that it begins with
-abbrev pub FrontsAreFeasible : Type 0
-FrontsAreFeasible = (window : WindowForm) (front back : List EventId) → IsFeasible window (front ++ back) → IsFeasible window front
+abbrev pub PrefixesAreFeasible : Type 0
+PrefixesAreFeasible = (window : WindowForm) (prefix back : List EventId) → IsFeasible window (prefix ++ back) → IsFeasible window prefix
 
 -- no event happens twice in a feasible schedule
 abbrev pub EventsHappenOnce : Type 0

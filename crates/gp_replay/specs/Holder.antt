@@ -1,29 +1,22 @@
--- Which thread holds a lock.
+-- Which thread holds a lock by an acquire.
 use Rattle.std.specs.Prelude.{ℕ, ◌≡◌, ◌↔◌, ◌⊎◌, List, ◌∷◌, ◌++◌, Some}
 use Rattle.std.specs.List.{AllByRecursion}
-use Rattle.gp_trace.specs.declared.event.Event.TheVariants.{Acquire, Release}
-use Rattle.gp_window.specs.declared.schedule.EventId.{EventId}
+use Rattle.gp_trace.specs.declared.lock_use.LockMode.TheVariants.{Exclusive}
 use Rattle.gp_window.specs.WindowForm.{WindowForm}
+use Rattle.gp_window.specs.declared.schedule.EventId.{EventId}
 use Rattle.gp_replay.specs.declared.state.State.{State}
-use Rattle.gp_replay.specs.Step.{event_at, holder_of, start_state}
 use Rattle.gp_replay.specs.Feasible.{IsFeasible, Runs}
-
--- the event acquires the lock
-abbrev pub Acquires : WindowForm → EventId → List ℕ → Type 0
-Acquires window id lock = event_at window id ≡ Some (Acquire lock)
-
--- the event releases the lock
-abbrev pub Releases : WindowForm → EventId → List ℕ → Type 0
-Releases window id lock = event_at window id ≡ Some (Release lock)
+use Rattle.gp_replay.specs.LockUses.{GivesBack, Takes}
+use Rattle.gp_replay.specs.Step.{holder_of, start_state}
 
 -- none of the events releases the lock
 abbrev pub NoneReleases : WindowForm → List EventId → List ℕ → Type 0
-NoneReleases window ids lock = AllByRecursion (λ id. ¬ Releases window id lock) ids
+NoneReleases window ids lock = AllByRecursion (λ id. ¬ GivesBack window Exclusive id lock) ids
 
 -- one of the events is an acquire of the lock by the thread, and none after it releases the lock
 abbrev pub IsAcquiredLast : WindowForm → List EventId → List ℕ → ℕ → Type 0
 IsAcquiredLast window ids lock thread =
-    (front : List EventId) × (id : EventId) × (back : List EventId) × (ids ≡ front ++ id ∷ back) × (id.thread ≡ thread) × Acquires window id lock × NoneReleases window back lock
+    (prefix : List EventId) × (id : EventId) × (back : List EventId) × (ids ≡ prefix ++ id ∷ back) × (id.thread ≡ thread) × Takes window Exclusive id lock × NoneReleases window back lock
 
 -- the thread acquired the lock, or held it before, and it is not yet released
 abbrev pub Holds : WindowForm → State → List EventId → List ℕ → ℕ → Type 0

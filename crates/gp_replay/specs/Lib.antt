@@ -1,10 +1,15 @@
 pub mod Faults
 pub mod Feasible
+pub mod Grammar
 pub mod Holder
+pub mod LockUses
 pub mod Order
 pub mod Part
+pub mod Readers
 pub mod Rule
+pub mod RunLaws
 pub mod Schedule
+pub mod Sharing
 pub mod Start
 pub mod Step
 pub mod StepFault

@@ -3,9 +3,11 @@ use Rattle.std.specs.Prelude.{ℕ, ◌≡◌, ◌⊎◌, true, List, ◌∷◌, 
 use Rattle.gp_trace.specs.declared.event.Event.TheVariants.{Start, Join}
 use Rattle.gp_window.specs.declared.schedule.EventId.{EventId}
 use Rattle.gp_window.specs.WindowForm.{WindowForm}
-use Rattle.gp_replay.specs.Step.{event_at, is_among}
+use Rattle.gp_window.specs.Events.{event_at}
+use Rattle.gp_window.specs.Starts.{is_among}
 use Rattle.gp_replay.specs.Feasible.{IsFeasible}
-use Rattle.gp_replay.specs.Part.{events_from, part_of, size_of}
+use Rattle.gp_window.specs.Events.{size_of}
+use Rattle.gp_replay.specs.Part.{events_from, part_of}
 
 -- the event starts the thread
 abbrev pub Starts : WindowForm → EventId → ℕ → Type 0
@@ -17,15 +19,15 @@ Joins window id thread = event_at window id ≡ Some (Join thread)
 
 -- one of the events starts the thread
 abbrev pub IsStartedBy : WindowForm → List EventId → ℕ → Type 0
-IsStartedBy window ids thread = (front : List EventId) × (id : EventId) × (back : List EventId) × (ids ≡ front ++ id ∷ back) × Starts window id thread
+IsStartedBy window ids thread = (prefix : List EventId) × (id : EventId) × (back : List EventId) × (ids ≡ prefix ++ id ∷ back) × Starts window id thread
 
 -- in a feasible schedule the thread of each event is started when the window begins, or by an event before it
 abbrev pub StartsComeFirst : Type 0
-StartsComeFirst = (window : WindowForm) (front : List EventId) (id : EventId) (back : List EventId) → IsFeasible window (front ++ id ∷ back)
-    → (is_among window.started id.thread ≡ true) ⊎ IsStartedBy window front id.thread
+StartsComeFirst = (window : WindowForm) (prefix : List EventId) (id : EventId) (back : List EventId) → IsFeasible window (prefix ++ id ∷ back)
+    → (is_among window.started id.thread ≡ true) ⊎ IsStartedBy window prefix id.thread
 
 -- in a feasible schedule a thread that is joined exits, and all events of its segment come before the join
 abbrev pub JoinsComeLast : Type 0
-JoinsComeLast = (window : WindowForm) (front : List EventId) (id : EventId) (back : List EventId) (thread : ℕ)
-    → IsFeasible window (front ++ id ∷ back) → Joins window id thread
-    → (is_among window.exited thread ≡ true) × (part_of thread front ≡ events_from thread 0 (size_of window thread))
+JoinsComeLast = (window : WindowForm) (prefix : List EventId) (id : EventId) (back : List EventId) (thread : ℕ)
+    → IsFeasible window (prefix ++ id ∷ back) → Joins window id thread
+    → (is_among window.exited thread ≡ true) × (part_of thread prefix ≡ events_from thread 0 (size_of window thread))

@@ -1,32 +1,16 @@
 -- Which lines are a schedule: the window, and then its events in the order in which they are to happen.
-use Rattle.std.specs.Prelude.{ℕ, ◌+◌, ◌==◌, List, [], ◌∷◌, Option, Some, None, Result, Ok, Err, codes, count_by}
-use Rattle.std.specs.List.{slice_split}
+use Rattle.std.specs.Prelude.{ℕ, List, [], ◌∷◌, Option, Some, None, Result, Ok, Err, codes}
 use Rattle.gp_text.specs.declared.line.Line.{Line}
 use Rattle.gp_text.specs.declared.lines.TextFault.{TextFault}
-use Rattle.gp_text.specs.Lines.{lines_of}
-use Rattle.gp_text.specs.Numbers.{small_number_of}
+use Rattle.gp_text.specs.Lines.{end_line_of, lines_of}
+use Rattle.gp_window.specs.EventIds.{event_id_of}
 use Rattle.gp_window.specs.declared.schedule.EventId.{EventId}
 use Rattle.gp_replay.specs.declared.schedule.WindowSchedule.{WindowSchedule}
 use Rattle.gp_replay.specs.declared.schedule.ScheduleFault.{ScheduleFault}
 use Rattle.gp_replay.specs.declared.schedule.ScheduleFault.TheVariants.{BadLine}
 use Rattle.gp_replay.specs.Faults.{schedule_from_text}
 use Rattle.gp_text.specs.Numbers.{between, number_after}
-use Rattle.gp_text.specs.Results.{then_rest, or_refusal, with_front}
-
--- the event of this thread and index
-abbrev pub event_id_with : Option ℕ → Option ℕ → Option EventId
-event_id_with (Some thread) (Some index) = Some (record { thread = thread; index = index })
-event_id_with (Some thread) None = None
-event_id_with None index = None
-
--- the event that the two sides of a point name
-abbrev pub event_id_from : List (List ℕ) → Option EventId
-event_id_from (thread ∷ index ∷ []) = event_id_with (small_number_of thread) (small_number_of index)
-event_id_from _ = None
-
--- the event that a word `T.X` names: thread T, index X in its segment
-abbrev pub event_id_of : List ℕ → Option EventId
-event_id_of word = event_id_from (slice_split (λ b. b == 46) word)
+use Rattle.gp_text.specs.Results.{then_rest, or_refusal, with_prefix}
 
 -- the events that the words of the line of this number name, or that the line is bad
 abbrev pub event_ids_of : ℕ → List (List ℕ) → Result (List EventId) ScheduleFault
@@ -35,7 +19,7 @@ event_ids_of number (word ∷ words) = then_rest (or_refusal (BadLine number) (e
 
 -- the events of a line before those of the lines after it
 abbrev pub joined : Result (List EventId) ScheduleFault → Result (List EventId) ScheduleFault → Result (List EventId) ScheduleFault
-joined (Ok events) rest = with_front events rest
+joined (Ok events) rest = with_prefix events rest
 joined (Err fault) rest = Err fault
 
 -- the events that the lines name, in order, or the first bad line
@@ -62,10 +46,6 @@ schedule_of epochs end (line ∷ lines) = schedule_after line.number (between 1 
 abbrev pub schedule_in : ℕ → ℕ → Result (List Line) TextFault → Result WindowSchedule ScheduleFault
 schedule_in epochs end (Ok lines) = schedule_of epochs end lines
 schedule_in epochs end (Err fault) = Err (schedule_from_text fault)
-
--- the number of the line at which a text ends: one more than it has newlines
-abbrev pub end_line_of : List ℕ → ℕ
-end_line_of bytes = count_by (λ b. b == 10) bytes + 1
 
 -- the schedule that a text spells
 abbrev pub schedule_of_text : ℕ → List ℕ → Result WindowSchedule ScheduleFault

@@ -4,6 +4,7 @@ use Rattle.std.specs.Cmp.Lexicographic.{slice_cmp}
 use Rattle.std.specs.List.Sorted.{IsStrictlySortedBy}
 use Rattle.std.specs.Map.{keys_of}
 use Rattle.std.specs.Ordering.{nat_cmp}
+use Rattle.gp_window.specs.Holders.{holder_cmp}
 use Rattle.gp_window.specs.WindowForm.{WindowForm}
 use Rattle.gp_replay.specs.Step.{start_state}
 
@@ -15,3 +16,4 @@ HasRisingNames entries = IsStrictlySortedBy (slice_cmp nat_cmp) (keys_of entries
 pub record BeginsAsTold : Type 0 where
   pub values : (window : WindowForm) → HasRisingNames window.start_values → (start_state window).values ≡ window.start_values
   pub holders : (window : WindowForm) → HasRisingNames window.holders → (start_state window).holders ≡ window.holders
+  pub readers : (window : WindowForm) → IsStrictlySortedBy holder_cmp window.readers → (start_state window).readers ≡ window.readers

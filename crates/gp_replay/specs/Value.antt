@@ -5,7 +5,8 @@ use Rattle.gp_trace.specs.declared.event.Event.TheVariants.{Read, Write}
 use Rattle.gp_window.specs.declared.schedule.EventId.{EventId}
 use Rattle.gp_window.specs.WindowForm.{WindowForm}
 use Rattle.gp_replay.specs.declared.state.State.{State}
-use Rattle.gp_replay.specs.Step.{event_at, start_state, value_of}
+use Rattle.gp_window.specs.Events.{event_at}
+use Rattle.gp_replay.specs.Step.{start_state, value_of}
 use Rattle.gp_replay.specs.Feasible.{IsFeasible, Runs}
 
 -- the event writes this value to the variable
@@ -23,7 +24,7 @@ NoneWrites window ids variable = AllByRecursion (λ id. (value : ℤ) → ¬ Wri
 -- one of the events writes the value to the variable, and none after it writes the variable
 abbrev pub IsWrittenLast : WindowForm → List EventId → List ℕ → ℤ → Type 0
 IsWrittenLast window ids variable value =
-    (front : List EventId) × (id : EventId) × (back : List EventId) × (ids ≡ front ++ id ∷ back) × Writes window id variable value × NoneWrites window back variable
+    (prefix : List EventId) × (id : EventId) × (back : List EventId) × (ids ≡ prefix ++ id ∷ back) × Writes window id variable value × NoneWrites window back variable
 
 -- the value is that of the last write to the variable, or none writes it and it had the value before
 abbrev pub IsLastValue : WindowForm → State → List EventId → List ℕ → ℤ → Type 0
@@ -36,6 +37,6 @@ ValuesAreLastWrites = (window : WindowForm) (ids : List EventId) (last : State) 
 
 -- a read finds the value of the last write to its variable before it, or the value with which the window begins
 abbrev pub ReadsFindLastWrites : Type 0
-ReadsFindLastWrites = (window : WindowForm) (front : List EventId) (id : EventId) (back : List EventId) (variable : List ℕ) (value : ℤ)
-    → IsFeasible window (front ++ id ∷ back) → Reads window id variable value
-    → IsLastValue window (start_state window) front variable value
+ReadsFindLastWrites = (window : WindowForm) (prefix : List EventId) (id : EventId) (back : List EventId) (variable : List ℕ) (value : ℤ)
+    → IsFeasible window (prefix ++ id ∷ back) → Reads window id variable value
+    → IsLastValue window (start_state window) prefix variable value

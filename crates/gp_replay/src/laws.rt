@@ -1,9 +1,22 @@
-ghost use Rattle.gp_replay.specs.Feasible.{EventsHappenOnce, FrontsAreFeasible, ReplayMeansFeasible};
+ghost use Rattle.gp_replay.specs.Feasible.{EventsHappenOnce, PrefixesAreFeasible, ReplayMeansFeasible};
+ghost use Rattle.gp_replay.specs.Grammar.{SchedulesReadExactly};
 ghost use Rattle.gp_replay.specs.Holder.{HoldersAcquired, LocksHaveOneHolder};
 ghost use Rattle.gp_replay.specs.Order.{JoinsComeLast, StartsComeFirst};
-ghost use Rattle.gp_replay.specs.Part.{PartsAreFronts};
+ghost use Rattle.gp_replay.specs.Part.{PartsArePrefixes};
+ghost use Rattle.gp_replay.specs.Sharing.{HoldersStayAlone, ReadersAcquired};
 ghost use Rattle.gp_replay.specs.Start.{BeginsAsTold};
 ghost use Rattle.gp_replay.specs.Value.{ReadsFindLastWrites, ValuesAreLastWrites};
+
+use gp_text::one_spelling;
+use gp_window::event_ids_read_exactly;
+
+/// Lines are read as a schedule exactly where they spell it.
+pub fn schedules_read_exactly()
+    ensures { SchedulesReadExactly }
+{
+    one_spelling();
+    event_ids_read_exactly();
+}
 
 /// A window begins with its start values and its holders, just as it tells them by name.
 pub fn begins_as_told()
@@ -17,8 +30,8 @@ pub fn replay_means_feasible()
 {}
 
 /// Each beginning of a feasible schedule is feasible.
-pub fn fronts_are_feasible()
-    ensures { FrontsAreFeasible }
+pub fn prefixes_are_feasible()
+    ensures { PrefixesAreFeasible }
 {}
 
 /// A feasible schedule names no event twice.
@@ -26,10 +39,10 @@ pub fn events_happen_once()
     ensures { EventsHappenOnce }
 {}
 
-/// Each thread's part of a feasible schedule is a front of its segment, as long as the last state
+/// Each thread's part of a feasible schedule is a prefix of its segment, as long as the last state
 /// counts.
-pub fn parts_are_fronts()
-    ensures { PartsAreFronts }
+pub fn parts_are_prefixes()
+    ensures { PartsArePrefixes }
 {}
 
 /// In a feasible schedule the thread of each event is started when the window begins, or by an event
@@ -65,4 +78,15 @@ pub fn holders_acquired()
 /// After a feasible schedule a lock is held by one thread at the most.
 pub fn locks_have_one_holder()
     ensures { LocksHaveOneHolder }
+{}
+
+/// The readers of a lock after a feasible schedule are the threads that racquired it, or held it so when
+/// the window began, and have not yet given it back.
+pub fn readers_acquired()
+    ensures { ReadersAcquired }
+{}
+
+/// After a feasible schedule a lock that has a holder has no reader, if it was so when the window began.
+pub fn holders_stay_alone()
+    ensures { HoldersStayAlone }
 {}

@@ -1,12 +1,13 @@
 // The rules by which the events of a window may happen one after another, and the replay of a
 // schedule by them. A state tells how many of its events each thread has done, the value of each
-// variable, the holder of each lock and which threads are started. A thread does its own events in
+// variable, the holder and the readers of each lock and which threads are started. A thread does its own events in
 // order, and none before it is started; a read finds what was last written, by whatever thread; an
 // acquire finds its lock free; and a join finds its thread at its end. A schedule is feasible where
 // each of its events may happen in turn, from the state in which its window begins.
 #![tactic(auto)]
 
 mod laws;
+mod readers;
 mod rule;
 mod running;
 mod schedule;
@@ -15,10 +16,12 @@ mod state;
 mod tests;
 
 pub use laws::{
-    begins_as_told, events_happen_once, fronts_are_feasible, holders_acquired, joins_come_last,
-    locks_have_one_holder, parts_are_fronts, reads_find_last_writes, replay_means_feasible,
-    starts_come_first, values_are_last_writes,
+    begins_as_told, events_happen_once, holders_acquired, holders_stay_alone, joins_come_last,
+    locks_have_one_holder, parts_are_prefixes, prefixes_are_feasible, readers_acquired,
+    reads_find_last_writes, replay_means_feasible, schedules_read_exactly, starts_come_first,
+    values_are_last_writes,
 };
+pub use readers::Readers;
 pub use rule::{Rule, StepFault};
 pub use running::{ReplayEnd, ReplayFault, replay};
 pub use schedule::{ScheduleFault, WindowSchedule, read_schedule};

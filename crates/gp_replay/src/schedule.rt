@@ -1,9 +1,9 @@
 ghost use Rattle.std.specs.Prelude.{◌≡◌, ◌≢◌, ◌<◌, ◌≤◌, ◌-◌, ◌^◌, length, Ok, Err, IfErr, IfOk, OnOk};
-ghost use Rattle.gp_text.specs.Results.{with_front};
-ghost use Rattle.gp_replay.specs.Schedule.{end_line_of, event_id_of, event_ids_of, events_of, schedule_of, schedule_of_text};
+ghost use Rattle.gp_text.specs.Results.{with_prefix};
+ghost use Rattle.gp_replay.specs.Schedule.{event_ids_of, events_of, schedule_of, schedule_of_text};
 
-use gp_text::{Line, Row, TextFault, Word, between, cut, number_after, read_lines, read_u32};
-use gp_window::{EventId, Schedule};
+use gp_text::{Line, Row, TextFault, Word, between, end_line, number_after, read_lines};
+use gp_window::{EventId, Schedule, event_id_of};
 use std::alloc::{AllocError, Global};
 use thiserror::Error;
 
@@ -64,20 +64,7 @@ pub fn read_schedule(
     ensures window { IfOk result (λ read. (1 ≤ read.window) × (read.window ≤ epochs)) }
 {
     let lines = read_lines(alloc, bytes)?;
-    schedule_of(alloc, epochs, end_line_of(bytes), lines.as_slice())
-}
-
-fn end_line_of(bytes: &[u8]) -> u32
-    requires { length bytes.now < 2 ^ 32 - 1 }
-    ensures { result ≡ end_line_of bytes.now }
-{
-    let mut line = 1;
-    for byte in bytes {
-        if *byte == b'\n' {
-            line += 1;
-        }
-    }
-    line
+    schedule_of(alloc, epochs, end_line(bytes), lines.as_slice())
 }
 
 fn schedule_of(
@@ -110,7 +97,7 @@ fn events_of(alloc: Global, lines: &[Line]) -> Result<Row<EventId>, ScheduleFaul
 }
 
 fn add_events(events: &mut Row<EventId>, number: u32, words: &[Word]) -> Result<(), ScheduleFault>
-    ensures ok { OnOk result (with_front events.old (event_ids_of number words.now) ≡ Ok events.new) }
+    ensures ok { OnOk result (with_prefix events.old (event_ids_of number words.now) ≡ Ok events.new) }
     ensures bad { IfErr result (λ fault. fault ≢ ScheduleFault.Memory
         → event_ids_of number words.now ≡ Err fault) }
 {
@@ -119,17 +106,4 @@ fn add_events(events: &mut Row<EventId>, number: u32, words: &[Word]) -> Result<
         events.push(id)?;
     }
     Ok(())
-}
-
-fn event_id_of(word: &[u8]) -> Option<EventId>
-    ensures { result ≡ event_id_of word.now }
-{
-    let (thread, index) = cut(word, b'.')?;
-    match cut(index, b'.') {
-        Some(_) => None,
-        None => Some(EventId {
-            thread: read_u32(thread)?,
-            index: read_u32(index)?,
-        }),
-    }
 }

@@ -1,12 +1,13 @@
-ghost use Rattle.std.specs.Prelude.{◌≡◌, ◌<◌, ◌-◌, ◌^◌, Ok, Err, IfOk, IfErr, OnOk, OnErr, OnSome, length, option_copied};
-ghost use Rattle.gp_window.specs.WindowForm.{IsWindow};
-ghost use Rattle.gp_replay.specs.Step.{allowed_in, count_of, counted, effect, event_at, has_ended, holder_of, is_among, is_whole, next, segment_of, start_state, turn_of, value_of};
+ghost use Rattle.std.specs.Prelude.{◌≡◌, ◌<◌, ◌-◌, ◌^◌, Some, Ok, Err, IfOk, IfErr, OnOk, OnErr, OnSome, length, option_copied};
+ghost use Rattle.gp_window.specs.Events.{event_at};
+ghost use Rattle.gp_replay.specs.Step.{allowed_in, allowed_use, count_of, counted, effect, has_ended, holder_of, holders_after, is_held_against, next, readers_after, start_state, turn_of, value_of};
 ghost use Rattle.gp_replay.specs.StepFault.{BreaksRule};
 
+use crate::readers::Readers;
 use crate::rule::{Rule, StepFault};
-use gp_text::{Name, Row};
-use gp_trace::Event;
-use gp_window::{EventId, Table, Window};
+use gp_text::{Name, Row, Table};
+use gp_trace::{Event, LockMode, LockUse};
+use gp_window::{EventId, Window, is_among};
 use std::alloc::{AllocError, Global};
 
 /// How far a schedule has come in its window.
@@ -16,8 +17,10 @@ pub struct State {
     pub counts: Row<u32>,
     /// The value of each variable that is kept; a variable that is not here is 0.
     pub values: Table<Name, i64>,
-    /// The thread that holds each lock; a lock that is not here is free.
+    /// The thread that holds each lock by an acquire; a lock that is not here has no holder.
     pub holders: Table<Name, u32>,
+    /// The threads that hold locks by a racquire.
+    pub readers: Readers,
     /// The threads that are started, in the order in which they were started.
     pub started: Row<u32>,
 }
@@ -32,10 +35,13 @@ impl State {
         values.put_all(window.start_values())?;
         let mut holders = Table::new(alloc);
         holders.put_all(window.holders())?;
+        let mut readers = Readers::new(alloc);
+        readers.add_all(window.readers())?;
         Ok(State {
             counts: Row::from_vec(counts),
             values,
             holders,
+            readers,
             started: Row::from_vec(Vec::from_slice(alloc, window.started())?),
         })
     }
@@ -74,12 +80,49 @@ impl State {
         ensures { result ≡ allowed_in window.now self.now event.now }
     {
         match event {
-            Event::Acquire(lock) if self.holder_of(lock).is_some() => Err(Rule::LockHeld),
             Event::Read(variable, value) if self.value_of(variable) != *value => {
                 Err(Rule::WrongValue)
             }
             Event::Join(thread) if !self.has_ended(window, *thread) => Err(Rule::NotExited),
-            _ => Ok(()),
+            _ => self.allowed_use(event.lock_use()),
+        }
+    }
+
+    fn allowed_use(&self, lock_use: Option<LockUse>) -> Result<(), Rule>
+        ensures { result ≡ allowed_use self.now lock_use }
+    {
+        match lock_use {
+            Some(lock_use) => self.allowed_lock(&lock_use),
+            None => Ok(()),
+        }
+    }
+
+    fn allowed_lock(&self, lock_use: &LockUse) -> Result<(), Rule>
+        ensures { result ≡ allowed_use self.now (Some lock_use.now) }
+    {
+        match lock_use {
+            LockUse::Take(mode, lock) => self.allowed_take(*mode, lock),
+            LockUse::GiveBack(_, _) => Ok(()),
+        }
+    }
+
+    fn allowed_take(&self, mode: LockMode, lock: &Name) -> Result<(), Rule>
+        ensures { result ≡ allowed_use self.now (Some (LockUse.Take mode lock.now)) }
+    {
+        if self.is_held_against(mode, lock) {
+            return Err(Rule::LockHeld);
+        }
+        Ok(())
+    }
+
+    /// Whether some thread holds the lock so that it cannot be taken in this way.
+    fn is_held_against(&self, mode: LockMode, lock: &Name) -> bool
+        ensures { result ≡ is_held_against self.now mode lock.now }
+    {
+        let is_held = self.holder_of(lock).is_some();
+        match mode {
+            LockMode::Exclusive => is_held || self.readers.has(lock),
+            LockMode::Shared => is_held,
         }
     }
 
@@ -90,13 +133,33 @@ impl State {
     {
         match event {
             Event::Write(variable, value) => self.values.put(*variable, *value),
-            Event::Acquire(lock) => self.holders.put(*lock, thread),
-            Event::Release(lock) => {
+            Event::Start(other) => self.started.push(*other),
+            _ => match event.lock_use() {
+                Some(lock_use) => self.use_lock(thread, &lock_use),
+                None => Ok(()),
+            },
+        }
+    }
+
+    fn use_lock(&mut self, thread: u32, lock_use: &LockUse) -> Result<(), AllocError>
+        ensures ok { OnOk result (self.new ≡ record self.old {
+          holders = holders_after thread (Some lock_use.now) self.old.holders;
+          readers = readers_after thread (Some lock_use.now) self.old.readers;
+        }) }
+        ensures counts { self.new.counts ≡ self.old.counts }
+        ensures err { OnErr result (self.new ≡ self.old) }
+    {
+        match lock_use {
+            LockUse::Take(LockMode::Exclusive, lock) => self.holders.put(*lock, thread),
+            LockUse::Take(LockMode::Shared, lock) => self.readers.add(*lock, thread),
+            LockUse::GiveBack(LockMode::Exclusive, lock) => {
                 self.holders.remove(lock);
                 Ok(())
             }
-            Event::Start(other) => self.started.push(*other),
-            _ => Ok(()),
+            LockUse::GiveBack(LockMode::Shared, lock) => {
+                self.readers.remove(lock, thread);
+                Ok(())
+            }
         }
     }
 
@@ -132,7 +195,7 @@ impl State {
     {
         is_among(self.started.as_slice(), thread)
             && is_among(window.exited(), thread)
-            && is_whole(window, thread, self.count_of(thread))
+            && window.segment(thread).len() == self.count_of(thread) as usize
     }
 
     fn count(&mut self, thread: u32)
@@ -150,37 +213,12 @@ impl State {
     }
 }
 
-/// The events of a thread in a window, where it is a thread of the window.
-fn segment_of(window: &Window, thread: u32) -> Option<&Row<Event>>
-    ensures segment { option_copied result ≡ segment_of window.now thread }
-    ensures window { OnSome result (IsWindow window.now) }
-{
-    let place = thread.checked_sub(1)?;
-    window.segments().get(place as usize)
-}
-
-/// The event that an id names in a window, where there is one.
+/// The event that an id names, where there is one. A segment is short enough that the events up to
+/// this one can be counted.
 fn event_at(window: &Window, id: EventId) -> Option<&Event>
     ensures event { option_copied result ≡ event_at window.now id }
-    ensures window { OnSome result (IsWindow window.now) }
+    ensures small { OnSome result (id.index < 2 ^ 32 - 1) }
 {
-    let segment = segment_of(window, id.thread)?;
-    segment.as_slice().get(id.index as usize)
-}
-
-/// Whether so many events are all those of a thread's segment.
-fn is_whole(window: &Window, thread: u32, count: u32) -> bool
-    ensures { result ≡ is_whole (segment_of window.now thread) count }
-{
-    match segment_of(window, thread) {
-        Some(segment) => segment.len() == count as usize,
-        None => false,
-    }
-}
-
-/// Whether a thread is one of these.
-fn is_among(threads: &[u32], thread: u32) -> bool
-    ensures { result ≡ is_among threads.now thread }
-{
-    threads.iter().any(|other| *other == thread)
+    let _ = window.number();
+    window.event(id)
 }

@@ -1,4 +1,6 @@
-use crate::{State, read_schedule, replay};
+ghost use Rattle.std.specs.Prelude.{◌<◌, ◌-◌, ◌^◌, length};
+
+use crate::{ReplayFault, Rule, ScheduleFault, State, read_schedule, replay};
 use gp_outside::MemoryFolder;
 use gp_text::Name;
 use gp_window::{Window, cut, read_recording};
@@ -34,12 +36,46 @@ fn folder(alloc: Global) -> Result<MemoryFolder, AllocError> {
     Ok(MemoryFolder::new(files, Vec::new(alloc)))
 }
 
-/// The window of that recording.
-fn window<R: Threads + Sync + Abort>(rt: &R, alloc: Global) -> Result<Window, Fail> {
-    let mut folder = folder(alloc)?;
+/// A recording of two threads that read a lock, of which the second then takes it alone.
+fn shared_folder(alloc: Global) -> Result<MemoryFolder, AllocError> {
+    let mut files = Vec::new(alloc);
+    add(
+        &mut files,
+        alloc,
+        "d/manifest",
+        "gptrace 2\nthreads 2\nepochs 1\nroots 1 2\n",
+    )?;
+    add(&mut files, alloc, "d/t1.trace", "racquire l\nrrelease l\n")?;
+    add(
+        &mut files,
+        alloc,
+        "d/t2.trace",
+        "racquire l\nrrelease l\nacquire l\nrelease l\n",
+    )?;
+    Ok(MemoryFolder::new(files, Vec::new(alloc)))
+}
+
+/// The window of such a recording.
+fn window<R: Threads + Sync + Abort>(
+    rt: &R,
+    alloc: Global,
+    mut folder: MemoryFolder,
+) -> Result<Window, Fail> {
     let recording = read_recording(rt, alloc, &mut folder, "d")?;
     assert_eq!(rt; recording.manifest().epochs(), 1);
     Ok(cut(alloc, &recording, 1)?)
+}
+
+/// How the replay of a schedule ends.
+fn end(
+    alloc: Global,
+    window: &Window,
+    text: &[u8],
+) -> Result<Result<State, ReplayFault>, ScheduleFault>
+    requires { length text.now < 2 ^ 32 - 1 }
+{
+    let read = read_schedule(alloc, 1, text)?;
+    Ok(replay(alloc, window, &read.schedule))
 }
 
 /// The value of a variable, if the state keeps one.
@@ -64,9 +100,43 @@ fn is_last(state: &State) -> bool {
 
 #[test]
 fn last_states_are_given(rt: HostRuntime) -> Result<(), Fail> {
-    let window = window(&rt, rt.alloc())?;
+    let window = window(&rt, rt.alloc(), folder(rt.alloc())?)?;
     let read = read_schedule(rt.alloc(), 1, b"window 1\n1.0 1.1 1.2 1.3 2.0\n")?;
     let last = replay(rt.alloc(), &window, &read.schedule)?;
     assert!(rt; is_last(&last));
+    Ok(())
+}
+
+/// Whether both threads read the lock, which has no holder.
+fn is_shared(end: &Result<State, ReplayFault>) -> bool {
+    match (end, Name::of(b"l")) {
+        (Ok(state), Some(lock)) => {
+            state.readers.is_reader(&lock, 1)
+                && state.readers.is_reader(&lock, 2)
+                && state.holders.get(&lock).is_none()
+        }
+        _ => false,
+    }
+}
+
+/// Whether the fourth event finds its lock held.
+fn is_stuck(end: &Result<State, ReplayFault>) -> bool {
+    matches!(
+        end,
+        Err(ReplayFault::Stuck {
+            place: 3,
+            rule: Rule::LockHeld
+        })
+    )
+}
+
+#[test]
+fn readers_share_a_lock(rt: HostRuntime) -> Result<(), Fail> {
+    let alloc = rt.alloc();
+    let window = window(&rt, alloc, shared_folder(alloc)?)?;
+    let both_read = end(alloc, &window, b"window 1\n1.0 2.0\n")?;
+    let acquired_beside = end(alloc, &window, b"window 1\n1.0 2.0 2.1 2.2\n")?;
+    let read_beside = end(alloc, &window, b"window 1\n2.0 2.1 2.2 1.0\n")?;
+    assert!(rt; is_shared(&both_read) && is_stuck(&acquired_beside) && is_stuck(&read_beside));
     Ok(())
 }

@@ -3,5 +3,5 @@ use Rattle.gp_replay.proofs.Values.{read_in_run}
 use Rattle.gp_replay.proofs.laws.reads_find_last_writes.Goals as goal
 
 pub returns : goal.returns
-returns c = λ window front id back variable value r reads.
-    read_in_run window (start_state window) r.0 front id back variable value r.1 reads
+returns c = λ window prefix id back variable value r reads.
+    read_in_run window (start_state window) r.0 prefix id back variable value r.1 reads

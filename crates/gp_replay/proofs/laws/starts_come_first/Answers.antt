@@ -2,4 +2,4 @@ use Rattle.gp_replay.proofs.Orders.{started_first}
 use Rattle.gp_replay.proofs.laws.starts_come_first.Goals as goal
 
 pub returns : goal.returns
-returns c = λ window front id back r. started_first window r.0 front id back r.1
+returns c = λ window prefix id back r. started_first window r.0 prefix id back r.1

@@ -10,7 +10,7 @@ use Rattle.std.proofs.lemmas.List.Splits.{slice_split_at, slice_split_none}
 use Rattle.gp_text.specs.Name.{is_name, is_name_byte}
 use Rattle.gp_property.specs.declared.property.Atom.{Atom}
 use Rattle.gp_property.specs.Atom.{atom_of, atom_with, cut_at, halves, marked_atom, region_of}
-use Rattle.gp_property.specs.Grammar.{IsAtom, IsMarked}
+use Rattle.gp_property.specs.Property.{IsAtom, IsMarked}
 use Rattle.gp_property.specs.Words.{atom_word, mark_word}
 use Rattle.gp_property.proofs.Bytes.{name_byte, name_bytes}
 

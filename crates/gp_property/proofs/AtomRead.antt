@@ -8,7 +8,7 @@ use Rattle.std.proofs.lemmas.List.Splits.{join_with_byte-slice_split}
 use Rattle.gp_text.specs.Name.{is_name, name_of}
 use Rattle.gp_property.specs.declared.property.Atom.{Atom}
 use Rattle.gp_property.specs.Atom.{atom_of, atom_with, closing_atom, cut_at, halves, marked_atom, opening_atom, plain_atom, region_of}
-use Rattle.gp_property.specs.Grammar.{IsAtom}
+use Rattle.gp_property.specs.Property.{IsAtom}
 use Rattle.gp_property.specs.Words.{atom_word}
 use Rattle.gp_property.proofs.Bytes.{if_some, name_read}
 

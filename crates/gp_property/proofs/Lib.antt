@@ -1,4 +1,3 @@
-pub mod Fronts
 pub mod Halves
 pub mod Texts
 pub mod Bytes
@@ -13,5 +12,8 @@ pub mod TermRead
 pub mod ShapeRead
 pub mod AtomRead
 pub mod PatternRead
+pub mod Drafts
 pub mod LinesRead
 pub mod Valid
+pub mod PatternChecked
+pub mod AtomsKept

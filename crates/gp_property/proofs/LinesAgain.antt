@@ -6,14 +6,16 @@ use Rattle.std.proofs.lemmas.Bool.{lt-leb}
 use Rattle.gp_text.specs.declared.line.Line.{Line}
 use Rattle.gp_text.specs.Numbers.{OneSpelling}
 use Rattle.gp_text.specs.Name.{is_name}
+use Rattle.gp_text.specs.Results.{and_then}
 use Rattle.gp_property.specs.declared.property.Atom.{Atom}
 use Rattle.gp_property.specs.declared.property.EventDef.{EventDef}
 use Rattle.gp_property.specs.declared.property.PatternStep.{PatternStep}
-use Rattle.gp_property.specs.declared.property.Property.{Property}
+use Rattle.gp_property.specs.PropertyForm.{PropertyForm}
 use Rattle.gp_property.specs.declared.reading.Reading.{Reading}
 use Rattle.gp_property.specs.Checks.{checked_pattern, is_defined}
-use Rattle.gp_property.specs.Grammar.{AreAtoms, AreNew, AreNewEvents, AreSteps, IsEvent, IsProperty, lines_of_all, Spells}
-use Rattle.gp_property.specs.Reading.{all_read, at_end, done_with, if_read, is_bare_pattern, is_taken, next_line, properties_from, reading_after, with_event, with_pattern}
+use Rattle.gp_property.specs.Grammar.{AreNew, lines_of_all, Spells}
+use Rattle.gp_property.specs.Property.{AreAtoms, AreNewEvents, AreSteps, IsEvent, IsProperty}
+use Rattle.gp_property.specs.Reading.{all_read, at_end, done_with, is_bare_pattern, is_taken, next_line, properties_from, reading_after, with_event, with_pattern}
 use Rattle.gp_property.specs.Words.{atoms_words, event_words, pattern_words, property_lines, steps_words}
 use Rattle.gp_property.proofs.PatternAgain.{pattern_again}
 use Rattle.gp_property.proofs.ShapeAgain.{definition_again}
@@ -23,10 +25,10 @@ abbrev pub words_in : List Line → List (List (List ℕ))
 words_in lines = map (λ (line : Line). line.words) lines
 
 -- no property is begun, or this one
-abbrev pub between : List Property → Reading
+abbrev pub between : List PropertyForm → Reading
 between done = record { done = done; draft = None }
 
-abbrev pub within : List Property → List ℕ → List EventDef → Reading
+abbrev pub within : List PropertyForm → List ℕ → List EventDef → Reading
 within done name events = record { done = done; draft = Some (record { name = name; events = events }) }
 
 -- what is read after lines goes on from what their front gives
@@ -37,7 +39,7 @@ record Goes (from to : Reading) (lines : List Line) (rest : List (List (List ℕ
 
 -- one line, and then the rest
 one_line : (from to : Reading) (line : Line) (lines : List Line) → next_line from line ≡ Ok to → reading_after from (line ∷ lines) ≡ reading_after to lines
-one_line from to line lines is = ap (λ read. if_read read (λ next. reading_after next lines)) is
+one_line from to line lines is = ap (λ read. and_then read (λ next. reading_after next lines)) is
 
 -- one line, and then what follows
 goes_on : (from mid to end : Reading) (line : Line) (lines left : List Line) → next_line from line ≡ Ok mid → reading_after mid lines ≡ reading_after to left → to ≡ end
@@ -50,13 +52,13 @@ then_goes : (from mid to : Reading) (lines left last : List Line) → reading_af
 then_goes from mid to lines left last first second = first ∙ second
 
 -- the line `property name`
-name_line : (done : List Property) (name : List ℕ) (line : Line) → line.words ≡ codes "property" ∷ name ∷ [] → is_name name ≡ true
+name_line : (done : List PropertyForm) (name : List ℕ) (line : Line) → line.words ≡ codes "property" ∷ name ∷ [] → is_name name ≡ true
     → length done < 64 → is_taken done name ≡ false → next_line (between done) line ≡ Ok (within done name [])
 name_line done name line words named room new =
     rw (words, named, lt-leb 64 (length done) room, new) refl
 
 -- the line of an event
-event_line : OneSpelling → (done : List Property) (name : List ℕ) (before : List EventDef) (event : EventDef) (line : Line)
+event_line : OneSpelling → (done : List PropertyForm) (name : List ℕ) (before : List EventDef) (event : EventDef) (line : Line)
     → line.words ≡ event_words event → IsEvent event → length before < 16 → is_defined before event.name ≡ false
     → next_line (within done name before) line ≡ Ok (within done name (before ++ event ∷ []))
 event_line spelled done name before event line words is room new =
@@ -64,7 +66,7 @@ event_line spelled done name before event line words is room new =
     ∙ rw (lt-leb 16 (length before) room, new) refl)
 
 -- a pattern of the language breaks no rule
-checked_again : (number : ℕ) (property : Property) → IsProperty property → checked_pattern number property.events property.pattern ≡ Ok tt
+checked_again : (number : ℕ) (property : PropertyForm) → IsProperty property → checked_pattern number property.events property.pattern ≡ Ok tt
 unfolding checked_pattern
 checked_again number property is = rw (is.few_atoms, is.known, is.regions) refl
 
@@ -78,7 +80,7 @@ some_steps [] is = absurd is
 some_steps (step ∷ steps) is = some_atoms step.atoms (steps_words steps) is.0
 
 -- the line of a pattern
-pattern_line : (done : List Property) (property : Property) (line : Line)
+pattern_line : (done : List PropertyForm) (property : PropertyForm) (line : Line)
     → line.words ≡ pattern_words property.pattern → IsProperty property
     → next_line (within done property.name property.events) line ≡ Ok (between (done ++ property ∷ []))
 pattern_line done property line words is =
@@ -86,7 +88,7 @@ pattern_line done property line words is =
     (ap (with_pattern done (record { name = property.name; events = property.events }) line.number) (pattern_again property.pattern is.steps)
     ∙ ap (done_with done (record { name = property.name; events = property.events }) property.pattern) (checked_again line.number property is)))
 
-events_again : OneSpelling → (done : List Property) (name : List ℕ) (before events : List EventDef) (lines : List Line) (rest : List (List (List ℕ)))
+events_again : OneSpelling → (done : List PropertyForm) (name : List ℕ) (before events : List EventDef) (lines : List Line) (rest : List (List (List ℕ)))
     → words_in lines ≡ map event_words events ++ rest → AllByRecursion IsEvent events → length before + length events ≤ 16 → AreNewEvents before events
     → Goes (within done name before) (within done name (before ++ events)) lines rest
 events_again spelled done name before [] lines rest words are room new =
@@ -105,7 +107,7 @@ events_again spelled done name before (event ∷ events) (line ∷ lines) rest w
           (ap (within done name) (append_assoc before (event ∷ []) events));
     }
 
-last_again : (done : List Property) (property : Property) (lines : List Line) (rest : List (List (List ℕ)))
+last_again : (done : List PropertyForm) (property : PropertyForm) (lines : List Line) (rest : List (List (List ℕ)))
     → words_in lines ≡ pattern_words property.pattern ∷ rest → IsProperty property
     → Goes (within done property.name property.events) (between (done ++ property ∷ [])) lines rest
 last_again done property [] rest words is = (cc)
@@ -117,7 +119,7 @@ last_again done property (line ∷ lines) rest words is =
       goes = one_line (within done property.name property.events) (between (done ++ property ∷ [])) line lines (pattern_line done property line here is);
     }
 
-one_again : OneSpelling → (done : List Property) (property : Property) (lines : List Line) (rest : List (List (List ℕ)))
+one_again : OneSpelling → (done : List PropertyForm) (property : PropertyForm) (lines : List Line) (rest : List (List (List ℕ)))
     → words_in lines ≡ property_lines property ++ rest → IsProperty property → length done < 64 → is_taken done property.name ≡ false
     → Goes (between done) (between (done ++ property ∷ [])) lines rest
 one_again spelled done property [] rest words is room new = (cc)
@@ -137,7 +139,7 @@ one_again spelled done property (line ∷ lines) rest words is room new =
           line lines last.left (name_line done property.name line here is.named room new) (then_goes (within done property.name []) (within done property.name property.events) (between (done ++ property ∷ [])) lines events.left last.left events.goes last.goes) refl;
     }
 
-all_again : OneSpelling → (done properties : List Property) (lines : List Line)
+all_again : OneSpelling → (done properties : List PropertyForm) (lines : List Line)
     → words_in lines ≡ lines_of_all properties → AllByRecursion IsProperty properties → length done + length properties ≤ 64 → AreNew done properties
     → reading_after (between done) lines ≡ Ok (between (done ++ properties))
 all_again spelled done [] [] words are room new = ap (λ all. Ok (between all)) (sym (append-nil done))
@@ -149,11 +151,11 @@ all_again spelled done (property ∷ properties) lines words are room new =
     ∙ all_again spelled (done ++ property ∷ []) properties goes.left goes.words are.1 (omega (arith, length-append done (property ∷ []))) new.1
     ∙ ap (λ all. Ok (between all)) (append_assoc done (property ∷ []) properties)
 
-ends : (last : ℕ) (properties : List Property) → 1 ≤ length properties → at_end last properties None ≡ Ok properties
+ends : (last : ℕ) (properties : List PropertyForm) → 1 ≤ length properties → at_end last properties None ≡ Ok properties
 ends last [] some = absurd (omega arith)
 ends last (property ∷ properties) some = refl
 
-pub spelled_read : OneSpelling → (last : ℕ) (lines : List Line) (properties : List Property) → Spells lines properties → properties_from last lines ≡ Ok properties
+pub spelled_read : OneSpelling → (last : ℕ) (lines : List Line) (properties : List PropertyForm) → Spells lines properties → properties_from last lines ≡ Ok properties
 spelled_read spelled last lines properties is =
     ap (all_read last) (all_again spelled [] properties lines is.words is.each (omega (arith, is.most)) is.apart)
     ∙ ends last properties is.some

@@ -6,7 +6,7 @@ use Rattle.gp_property.specs.declared.pattern.PatternDraft.{PatternDraft}
 use Rattle.gp_property.specs.declared.property.Atom.{Atom}
 use Rattle.gp_property.specs.declared.property.PatternStep.{PatternStep}
 use Rattle.gp_property.specs.Atom.{atom_of}
-use Rattle.gp_property.specs.Grammar.{AreAtoms, AreSteps, IsAtom}
+use Rattle.gp_property.specs.Property.{AreAtoms, AreSteps, IsAtom}
 use Rattle.gp_property.specs.Pattern.{draft_after, finished, if_drafted, next_word, no_pattern, pattern_of, with_atom}
 use Rattle.gp_property.specs.Words.{atom_word, atoms_words, grouped_words, steps_words}
 use Rattle.gp_property.proofs.AtomAgain.{atom_again}

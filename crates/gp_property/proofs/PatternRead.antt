@@ -7,7 +7,7 @@ use Rattle.gp_property.specs.declared.pattern.PatternDraft.{PatternDraft}
 use Rattle.gp_property.specs.declared.property.Atom.{Atom}
 use Rattle.gp_property.specs.declared.property.PatternStep.{PatternStep}
 use Rattle.gp_property.specs.Atom.{atom_of}
-use Rattle.gp_property.specs.Grammar.{AreAtoms, AreSteps, IsAtom}
+use Rattle.gp_property.specs.Property.{AreAtoms, AreSteps, IsAtom}
 use Rattle.gp_property.specs.Pattern.{draft_after, finished, if_drafted, next_word, no_pattern, pattern_of, with_atom, with_bar}
 use Rattle.gp_property.specs.Words.{atom_word, atoms_words, grouped_words, steps_words}
 use Rattle.gp_property.proofs.AtomRead.{atom_read, Spelled}

@@ -10,7 +10,7 @@ use Rattle.gp_property.specs.declared.property.Shape.{Shape}
 use Rattle.gp_property.specs.declared.property.Shape.TheVariants.{Read, Write, Acquire, Release, Start, Join, Op, Begin, End}
 use Rattle.gp_property.specs.declared.property.Term.{Term}
 use Rattle.gp_property.specs.declared.property.ThreadTerm.{ThreadTerm}
-use Rattle.gp_property.specs.Grammar.{IsEvent, IsShape, IsTerm}
+use Rattle.gp_property.specs.Property.{IsEvent, IsShape, IsTerm}
 use Rattle.gp_property.specs.Shape.{definition_of, named_shape_of, or_shape, shape_of, thread_shape_of}
 use Rattle.gp_property.specs.Term.{term_of, thread_of}
 use Rattle.gp_property.specs.Words.{shape_words, term_word}

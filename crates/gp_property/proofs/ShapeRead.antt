@@ -13,7 +13,7 @@ use Rattle.gp_property.specs.declared.property.Shape.TheVariants.{Read, Write, A
 use Rattle.gp_property.specs.declared.property.Term.{Term}
 use Rattle.gp_property.specs.declared.property.ThreadTerm.{ThreadTerm}
 use Rattle.gp_property.specs.declared.property.ValueTerm.{ValueTerm}
-use Rattle.gp_property.specs.Grammar.{IsEvent, IsShape, IsTerm, IsThread, IsValue}
+use Rattle.gp_property.specs.Property.{IsEvent, IsShape, IsTerm, IsThread, IsValue}
 use Rattle.gp_property.specs.Shape.{access_of, definition_of, definition_with, named_shape_of, op_of, op_with, or_shape, plain_shape_of, shape_of, thread_shape_of}
 use Rattle.gp_property.specs.Term.{term_of, terms_of, thread_of, value_of}
 use Rattle.gp_property.specs.Words.{event_words, shape_words, term_word, thread_word, value_word}

@@ -2,6 +2,7 @@
 use Rattle.std.proofs.Common.{◌≡◌, refl, ℕ, ◌+◌, ◌*◌, ◌<◌, ◌≤◌, ◌^◌, true, false, List, [], ◌∷◌, ◌++◌, length, map, arith, lit≤, length-append, append-nil, decimal}
 use Rattle.std.specs.Prelude.{Option, Some, None, codes, nat_lt}
 use Rattle.std.specs.List.{AllByRecursion, list_all, list_any}
+use Rattle.std.proofs.lemmas.List.Sums.{sum_by-cons}
 use Rattle.std.proofs.lemmas.Bool.{and_from, and_parts, or_parts, ltb-false}
 use Rattle.std.proofs.lemmas.Bool.Decides.{nat_tests}
 use Rattle.std.proofs.lemmas.Fmt.{decimal_digit}
@@ -10,11 +11,11 @@ use Rattle.std.proofs.lemmas.List.Folds.{list_all-append}
 use Rattle.gp_text.specs.Line.{is_word}
 use Rattle.gp_text.specs.Lines.{is_passed_over}
 use Rattle.gp_text.specs.Name.{is_name}
-use Rattle.gp_text.specs.Spelling.{is_plain, is_plain_word, IsPlainLine, PlainWords}
+use Rattle.gp_text.specs.Spelling.{is_plain, is_plain_word, IsPlainLine, IsShortWord, PlainWords}
 use Rattle.gp_property.specs.declared.property.Atom.{Atom}
 use Rattle.gp_property.specs.declared.property.EventDef.{EventDef}
 use Rattle.gp_property.specs.declared.property.PatternStep.{PatternStep}
-use Rattle.gp_property.specs.declared.property.Property.{Property}
+use Rattle.gp_property.specs.PropertyForm.{PropertyForm}
 use Rattle.gp_property.specs.declared.property.Shape.{Shape}
 use Rattle.gp_property.specs.declared.property.Shape.TheVariants.{Read, Write, Acquire, Release, Start, Join, Op, Begin, End}
 use Rattle.gp_property.specs.declared.property.Term.{Term}
@@ -23,42 +24,20 @@ use Rattle.gp_property.specs.declared.property.ThreadTerm.{ThreadTerm}
 use Rattle.gp_property.specs.declared.property.ThreadTerm.TheVariants as thread
 use Rattle.gp_property.specs.declared.property.ValueTerm.{ValueTerm}
 use Rattle.gp_property.specs.declared.property.ValueTerm.TheVariants as value
-use Rattle.gp_property.specs.Checks.{is_wide, placed_from, placed_at}
-use Rattle.gp_property.specs.Grammar.{AreAtoms, AreSteps, IsAtom, IsEvent, IsMarked, IsProperty, IsShape, IsTerm, IsThread, IsValue}
+use Rattle.gp_property.specs.Atoms.{atom_count}
+use Rattle.gp_property.specs.Checks.{is_wide}
+use Rattle.gp_property.specs.Property.{AreAtoms, AreSteps, IsAtom, IsEvent, IsMarked, IsProperty, IsShape, IsTerm, IsThread, IsValue}
 use Rattle.gp_property.specs.Words.{after_words, atom_word, atoms_words, event_words, grouped_words, mark_word, pattern_words, property_lines, shape_words, steps_words, term_word, thread_word, value_word}
-use Rattle.gp_property.proofs.Texts.{joined_after}
 
--- a plain word of at most 80 bytes
-pub record IsShort (word : List ℕ) : Type 0 where
-  pub plain : is_plain_word word ≡ true
-  pub short : length word ≤ 80
-
--- such words take little of a line
-short_words : (words : List (List ℕ)) → AllByRecursion IsShort words → length (after_words words) ≤ length words * 81
-short_words [] are = omega arith
-short_words (word ∷ words) are =
-    omega (arith, short_words words are.1, are.0.short, length-append word (after_words words))
-
-plain_words : (words : List (List ℕ)) → AllByRecursion IsShort words → AllByRecursion (λ word. is_plain_word word ≡ true) words
-plain_words [] are = tt
-plain_words (word ∷ words) are = (are.0.plain, plain_words words are.1)
-
-short_line : (word : List ℕ) (words : List (List ℕ)) → AllByRecursion IsShort (word ∷ words) → length words ≤ 40 → is_passed_over (word ∷ words) ≡ false → IsPlainLine (word ∷ words)
-short_line word words are few says = record {
-  plain = plain_words (word ∷ words) are;
-  says = says;
-  fits = rw (joined_after word words) (omega (arith, length-append word (after_words words), short_words words are.1, are.0.short));
-}
-
-both_short : (xs ys : List (List ℕ)) → AllByRecursion IsShort xs → AllByRecursion IsShort ys → AllByRecursion IsShort (xs ++ ys)
+both_short : (xs ys : List (List ℕ)) → AllByRecursion IsShortWord xs → AllByRecursion IsShortWord ys → AllByRecursion IsShortWord (xs ++ ys)
 both_short [] ys first second = second
 both_short (x ∷ xs) ys first second = (first.0, both_short xs ys first.1 second)
 
 -- names, terms, values and threads
-name_short : PlainWords → (name : List ℕ) → is_name name ≡ true → IsShort name
+name_short : PlainWords → (name : List ℕ) → is_name name ≡ true → IsShortWord name
 name_short plain name is = record { plain = (plain.names name is).0; short = omega (arith, (plain.names name is).1) }
 
-term_short : PlainWords → (t : Term) → IsTerm t → IsShort (term_word t)
+term_short : PlainWords → (t : Term) → IsTerm t → IsShortWord (term_word t)
 term_short plain (term.Is name) is = name_short plain name is
 term_short plain (term.Param name) is = record {
   plain = (and_parts (is_word name) (list_all is_plain name) (plain.names name is).0).1;
@@ -66,25 +45,25 @@ term_short plain (term.Param name) is = record {
 }
 term_short plain term.Any is = record { plain = refl; short = lit≤ tt }
 
-terms_short : PlainWords → (terms : List Term) → AllByRecursion IsTerm terms → AllByRecursion IsShort (map term_word terms)
+terms_short : PlainWords → (terms : List Term) → AllByRecursion IsTerm terms → AllByRecursion IsShortWord (map term_word terms)
 terms_short plain [] are = tt
 terms_short plain (t ∷ terms) are = (term_short plain t are.0, terms_short plain terms are.1)
 
-value_short : PlainWords → (v : ValueTerm) → IsValue v → IsShort (value_word v)
+value_short : PlainWords → (v : ValueTerm) → IsValue v → IsShortWord (value_word v)
 value_short plain (value.Is z) is = record { plain = (plain.signed z is).0; short = omega (arith, (plain.signed z is).1) }
 value_short plain value.Any is = record { plain = refl; short = lit≤ tt }
 
-number_short : PlainWords → (n : ℕ) → n < 2 ^ 32 → IsShort (decimal n)
+number_short : PlainWords → (n : ℕ) → n < 2 ^ 32 → IsShortWord (decimal n)
 number_short plain n lt = record { plain = (plain.numbers n (omega arith)).0; short = omega (arith, (plain.numbers n (omega arith)).1) }
 
-thread_short : PlainWords → (t : ThreadTerm) → IsThread t → IsShort (thread_word t)
+thread_short : PlainWords → (t : ThreadTerm) → IsThread t → IsShortWord (thread_word t)
 thread_short plain (thread.Is n) is = number_short plain n is
 thread_short plain thread.Any is = record { plain = refl; short = lit≤ tt }
 
-keyword : (word : List ℕ) → is_plain_word word ≡ true → length word ≤ 80 → IsShort word
+keyword : (word : List ℕ) → is_plain_word word ≡ true → length word ≤ 80 → IsShortWord word
 keyword word plain short = record { plain = plain; short = short }
 
-shape_short : PlainWords → (shape : Shape) → IsShape shape → AllByRecursion IsShort (shape_words shape)
+shape_short : PlainWords → (shape : Shape) → IsShape shape → AllByRecursion IsShortWord (shape_words shape)
 shape_short plain (Read name v) is = (keyword (codes "read") refl (lit≤ tt), (term_short plain name is.0, (value_short plain v is.1, tt)))
 shape_short plain (Write name v) is = (keyword (codes "write") refl (lit≤ tt), (term_short plain name is.0, (value_short plain v is.1, tt)))
 shape_short plain (Acquire name) is = (keyword (codes "acquire") refl (lit≤ tt), (term_short plain name is, tt))
@@ -128,7 +107,7 @@ plain_longer (b ∷ bytes) more plain rest = plain_append (b ∷ bytes) more pla
 plain_bytes : (word : List ℕ) → is_plain_word word ≡ true → list_all is_plain word ≡ true
 plain_bytes word plain = (and_parts (is_word word) (list_all is_plain word) plain).1
 
-atom_short : PlainWords → (atom : Atom) → IsAtom atom → IsShort (atom_word atom)
+atom_short : PlainWords → (atom : Atom) → IsAtom atom → IsShortWord (atom_word atom)
 atom_short plain atom is =
     let marks : IsMark (mark_word 60 atom.opens ++ mark_word 62 atom.closes) = marks_short atom.opens atom.closes is.marked in
     let event = plain.names atom.event is.event in
@@ -146,15 +125,15 @@ atom_short plain atom is =
       );
     }
 
-grouped_short : PlainWords → (atoms : List Atom) → AllByRecursion IsAtom atoms → AllByRecursion IsShort (grouped_words atoms)
+grouped_short : PlainWords → (atoms : List Atom) → AllByRecursion IsAtom atoms → AllByRecursion IsShortWord (grouped_words atoms)
 grouped_short plain [] are = tt
 grouped_short plain (atom ∷ atoms) are = (keyword (codes "||") refl (lit≤ tt), (atom_short plain atom are.0, grouped_short plain atoms are.1))
 
-atoms_short : PlainWords → (atoms : List Atom) → AreAtoms atoms → AllByRecursion IsShort (atoms_words atoms)
+atoms_short : PlainWords → (atoms : List Atom) → AreAtoms atoms → AllByRecursion IsShortWord (atoms_words atoms)
 atoms_short plain [] are = absurd are
 atoms_short plain (atom ∷ atoms) are = (atom_short plain atom are.0, grouped_short plain atoms are.1)
 
-steps_short : PlainWords → (steps : List PatternStep) → AllByRecursion (λ step. AreAtoms step.atoms) steps → AllByRecursion IsShort (steps_words steps)
+steps_short : PlainWords → (steps : List PatternStep) → AllByRecursion (λ step. AreAtoms step.atoms) steps → AllByRecursion IsShortWord (steps_words steps)
 steps_short plain [] are = tt
 steps_short plain (step ∷ steps) are =
     both_short (atoms_words step.atoms) (steps_words steps) (atoms_short plain step.atoms are.0) (steps_short plain steps are.1)
@@ -168,29 +147,28 @@ count_atoms : (atoms : List Atom) → length (atoms_words atoms) ≤ length atom
 count_atoms [] = omega arith
 count_atoms (atom ∷ atoms) = omega (arith, count_grouped atoms)
 
-count_words : (n : ℕ) (steps : List PatternStep) → length (steps_words steps) ≤ length (placed_from n steps) * 2
-count_words n [] = omega arith
-count_words n (step ∷ steps) =
+count_words : (steps : List PatternStep) → length (steps_words steps) ≤ atom_count steps * 2
+count_words [] = omega arith
+count_words (step ∷ steps) =
     omega (
       arith,
-      count_words (n + 1) steps,
+      count_words steps,
       count_atoms step.atoms,
+      sum_by-cons (λ (other : PatternStep). length other.atoms) step steps,
       length-append (atoms_words step.atoms) (steps_words steps),
-      length-append (map (placed_at n) step.atoms) (placed_from (n + 1) steps),
-      length-map step.atoms (placed_at n),
     )
 
 -- all steps of a pattern
-each_step : (pattern : List PatternStep) → AreSteps pattern → AllByRecursion (λ step. AreAtoms step.atoms) pattern
+pub each_step : (pattern : List PatternStep) → AreSteps pattern → AllByRecursion (λ step. AreAtoms step.atoms) pattern
 each_step [] are = absurd are
 each_step (step ∷ steps) are = (are.0, are.1)
 
-pattern_plain : PlainWords → (property : Property) → IsProperty property → IsPlainLine (pattern_words property.pattern)
+pattern_plain : PlainWords → (property : PropertyForm) → IsProperty property → IsPlainLine (pattern_words property.pattern)
 pattern_plain plain property is =
-    let few = or_parts (nat_lt 6 (length (placed_from 0 property.pattern))) (list_any is_wide property.pattern) is.few_atoms in
-    short_line (codes "pattern") (steps_words property.pattern)
+    let few = or_parts (nat_lt 6 (atom_count property.pattern)) (list_any is_wide property.pattern) is.few_atoms in
+    plain.lines (codes "pattern" ∷ steps_words property.pattern)
     (keyword (codes "pattern") refl (lit≤ tt), steps_short plain property.pattern (each_step property.pattern is.steps))
-    (omega (arith, ltb-false 6 (length (placed_from 0 property.pattern)) few.0, count_words 0 property.pattern)) refl
+    (omega (arith, ltb-false 6 (atom_count property.pattern) few.0, count_words property.pattern)) refl
 
 count_shape : (shape : Shape) → IsShape shape → length (shape_words shape) ≤ 6
 count_shape (Read name v) is = lit≤ tt
@@ -205,7 +183,7 @@ count_shape (End name) is = lit≤ tt
 
 event_plain : PlainWords → (event : EventDef) → IsEvent event → IsPlainLine (event_words event)
 event_plain plain event is =
-    short_line (codes "event") (event.name ∷ shape_words event.shape)
+    plain.lines (codes "event" ∷ event.name ∷ shape_words event.shape)
     (keyword (codes "event") refl (lit≤ tt), (name_short plain event.name is.named, shape_short plain event.shape is.shaped))
     (omega (arith, count_shape event.shape is.shaped)) refl
 
@@ -214,9 +192,9 @@ events_plain : PlainWords → (events : List EventDef) (last : List (List ℕ)) 
 events_plain plain [] last are is = (is, tt)
 events_plain plain (event ∷ events) last are is = (event_plain plain event are.0, events_plain plain events last are.1 is)
 
-pub property_plain : PlainWords → (property : Property) → IsProperty property → AllByRecursion IsPlainLine (property_lines property)
+pub property_plain : PlainWords → (property : PropertyForm) → IsProperty property → AllByRecursion IsPlainLine (property_lines property)
 property_plain plain property is = (
-  short_line (codes "property") (property.name ∷ [])
+  plain.lines (codes "property" ∷ property.name ∷ [])
       (keyword (codes "property") refl (lit≤ tt), (name_short plain property.name is.named, tt)) (lit≤ tt) refl,
   events_plain plain property.events (pattern_words property.pattern) is.events (pattern_plain plain property is),
 )

@@ -12,7 +12,7 @@ use Rattle.gp_property.specs.declared.property.ThreadTerm.{ThreadTerm}
 use Rattle.gp_property.specs.declared.property.ThreadTerm.TheVariants as thread
 use Rattle.gp_property.specs.declared.property.ValueTerm.{ValueTerm}
 use Rattle.gp_property.specs.declared.property.ValueTerm.TheVariants as value
-use Rattle.gp_property.specs.Grammar.{IsTerm, IsThread, IsValue}
+use Rattle.gp_property.specs.Property.{IsTerm, IsThread, IsValue}
 use Rattle.gp_property.specs.Term.{term_of, terms_of, thread_of, value_of}
 use Rattle.gp_property.specs.Words.{term_word, thread_word, value_word}
 use Rattle.gp_property.proofs.Bytes.{IsPart, name_byte, name_bytes, other_word}

@@ -15,7 +15,7 @@ use Rattle.gp_property.specs.declared.property.ThreadTerm.{ThreadTerm}
 use Rattle.gp_property.specs.declared.property.ThreadTerm.TheVariants as thread
 use Rattle.gp_property.specs.declared.property.ValueTerm.{ValueTerm}
 use Rattle.gp_property.specs.declared.property.ValueTerm.TheVariants as value
-use Rattle.gp_property.specs.Grammar.{IsTerm, IsThread, IsValue}
+use Rattle.gp_property.specs.Property.{IsTerm, IsThread, IsValue}
 use Rattle.gp_property.specs.Term.{is_with, named_term, param_with, term_of, terms_of, thread_of, thread_with, value_of, value_with, with_term}
 use Rattle.gp_property.specs.Words.{term_word, thread_word, value_word}
 use Rattle.gp_property.proofs.Bytes.{either, if_some, name_read, same_bytes}

@@ -1,9 +1,14 @@
 pub mod Fault
+pub mod PropertyForm
 pub mod Term
 pub mod Shape
 pub mod Atom
 pub mod Pattern
+pub mod Atoms
 pub mod Checks
+pub mod Property
+pub mod Draft
 pub mod Reading
 pub mod Words
 pub mod Grammar
+pub mod Laws

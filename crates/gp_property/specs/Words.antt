@@ -4,7 +4,6 @@ use Rattle.std.specs.Fmt.{signed_decimal}
 use Rattle.gp_property.specs.declared.property.Atom.{Atom}
 use Rattle.gp_property.specs.declared.property.EventDef.{EventDef}
 use Rattle.gp_property.specs.declared.property.PatternStep.{PatternStep}
-use Rattle.gp_property.specs.declared.property.Property.{Property}
 use Rattle.gp_property.specs.declared.property.Shape.{Shape}
 use Rattle.gp_property.specs.declared.property.Shape.TheVariants.{Read, Write, Acquire, Release, Start, Join, Op, Begin, End}
 use Rattle.gp_property.specs.declared.property.Term.{Term}
@@ -13,6 +12,7 @@ use Rattle.gp_property.specs.declared.property.ThreadTerm.{ThreadTerm}
 use Rattle.gp_property.specs.declared.property.ThreadTerm.TheVariants as thread
 use Rattle.gp_property.specs.declared.property.ValueTerm.{ValueTerm}
 use Rattle.gp_property.specs.declared.property.ValueTerm.TheVariants as value
+use Rattle.gp_property.specs.PropertyForm.{PropertyForm}
 
 -- a name, a parameter after `$`, or `*`
 abbrev pub term_word : Term → List ℕ
@@ -75,7 +75,7 @@ abbrev pub pattern_words : List PatternStep → List (List ℕ)
 pattern_words pattern = codes "pattern" ∷ steps_words pattern
 
 -- the lines of a property: its name, its events, and its pattern
-abbrev pub property_lines : Property → List (List (List ℕ))
+abbrev pub property_lines : PropertyForm → List (List (List ℕ))
 property_lines property =
     (codes "property" ∷ property.name ∷ []) ∷ (map event_words property.events ++ pattern_words property.pattern ∷ [])
 

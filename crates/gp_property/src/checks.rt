@@ -1,26 +1,19 @@
-ghost use Rattle.std.specs.Prelude.{◌≡◌, ◌≢◌, ◌==◌, ◌++◌, Err, IfOk, OnOk, count_by, map};
+ghost use Rattle.std.specs.Prelude.{◌≡◌, ◌≢◌, Err, nat_lt};
 ghost use Rattle.std.specs.List.{list_all, list_any};
-ghost use Rattle.gp_property.specs.Checks.{all_end, are_regions, checked_atoms, checked_pattern, closers, has_too_many, is_begin, is_begin_shape, is_defined, is_end, is_end_shape, is_number, is_region, is_well_used, is_wide, openers, placed_at, placed_from, region_numbers};
+ghost use Rattle.gp_property.specs.Atoms.{atom_count};
+ghost use Rattle.gp_property.specs.Checks.{all_end, are_defined, are_regions, are_well_used, checked_pattern, checked_regions, closers, has_too_many, is_begin_shape, is_defined, is_end_shape, is_number, is_region, is_well_used, is_wide, openers};
 
+use crate::atoms::{PatternAtom, atoms_from};
 use crate::fault::PropertyFault;
-use crate::property::{Atom, EventDef, MOST_ATOMS, MOST_GROUPED, PatternStep, Shape};
-use gp_text::{Name, Row};
-use std::alloc::{AllocError, Global};
+use crate::property::{EventDef, MOST_ATOMS, MOST_GROUPED, PatternStep, Shape};
+use gp_text::Name;
+use std::alloc::Global;
 
 /// The numbers that a region may have.
 const REGION_NUMBERS: [u8; 9] = [1, 2, 3, 4, 5, 6, 7, 8, 9];
 
-/// An atom with the number of its step, from 0.
-#[derive(Debug, Drop)]
-struct PlacedAtom {
-    step: usize,
-    event: Name,
-    thread_var: Name,
-    opens: Option<u8>,
-    closes: Option<u8>,
-}
-
 /// The first rule that the pattern on the line of this number breaks, after its form is right.
+#[tactic(auto, unfolding(crate::specs::Checks::checked_pattern))]
 pub fn check_pattern(
     alloc: Global,
     number: u32,
@@ -29,65 +22,43 @@ pub fn check_pattern(
 ) -> Result<(), PropertyFault>
     ensures { result ≢ Err PropertyFault.Memory → result ≡ checked_pattern number events.now pattern.now }
 {
-    let atoms = placed_atoms(alloc, pattern)?;
-    check_atoms(number, events, pattern, atoms.as_slice())
-}
-
-fn placed_atoms(alloc: Global, pattern: &[PatternStep]) -> Result<Row<PlacedAtom>, AllocError>
-    ensures { IfOk result (λ atoms. atoms ≡ placed_from 0 pattern.now) }
-{
-    let mut atoms = Row::new(alloc);
-    for (number, step) in pattern.iter().enumerate() {
-        place_atoms(&mut atoms, number, step.atoms.as_slice())?;
-    }
-    Ok(atoms)
-}
-
-fn place_atoms(placed: &mut Row<PlacedAtom>, step: usize, atoms: &[Atom]) -> Result<(), AllocError>
-    ensures { OnOk result (placed.new ≡ placed.old ++ map (placed_at step) atoms.now) }
-{
-    for atom in atoms {
-        placed.push(placed_at(step, atom))?;
-    }
-    Ok(())
-}
-
-fn placed_at(step: usize, atom: &Atom) -> PlacedAtom
-    ensures { result ≡ placed_at step atom.now }
-{
-    PlacedAtom {
-        step,
-        event: atom.event,
-        thread_var: atom.thread_var,
-        opens: atom.opens,
-        closes: atom.closes,
-    }
-}
-
-fn check_atoms(
-    number: u32,
-    events: &[EventDef],
-    pattern: &[PatternStep],
-    atoms: &[PlacedAtom],
-) -> Result<(), PropertyFault>
-    ensures { result ≡ checked_atoms number events.now pattern.now atoms.now }
-{
-    if has_too_many(pattern, atoms) {
+    if has_too_many(pattern) {
         return Err(PropertyFault::TooManyAtoms(number));
     }
-    if !are_defined(events, atoms) {
+    if !are_defined(events, pattern) {
         return Err(PropertyFault::UnknownEvent(number));
     }
-    if !are_well_used(events, atoms, REGION_NUMBERS.as_slice()) {
-        return Err(PropertyFault::RegionUse(number));
-    }
-    Ok(())
+    let atoms = atoms_from(alloc, events, pattern)?;
+    check_regions(number, atoms.as_slice())
 }
 
-fn has_too_many(pattern: &[PatternStep], atoms: &[PlacedAtom]) -> bool
-    ensures { result ≡ has_too_many pattern.now atoms.now }
+fn check_regions(number: u32, atoms: &[PatternAtom]) -> Result<(), PropertyFault>
+    ensures { result ≡ checked_regions number atoms.now }
 {
-    atoms.len() > MOST_ATOMS || has_wide_step(pattern)
+    if are_well_used(atoms) {
+        Ok(())
+    } else {
+        Err(PropertyFault::RegionUse(number))
+    }
+}
+
+fn has_too_many(pattern: &[PatternStep]) -> bool
+    ensures { result ≡ has_too_many pattern.now }
+{
+    has_more_atoms(pattern) || has_wide_step(pattern)
+}
+
+fn has_more_atoms(pattern: &[PatternStep]) -> bool
+    ensures { result ≡ nat_lt 6 (atom_count pattern.now) }
+{
+    let mut left = MOST_ATOMS;
+    for step in pattern {
+        if step.atoms.len() > left {
+            return true;
+        }
+        left -= step.atoms.len();
+    }
+    false
 }
 
 fn has_wide_step(pattern: &[PatternStep]) -> bool
@@ -96,40 +67,47 @@ fn has_wide_step(pattern: &[PatternStep]) -> bool
     pattern.iter().any(|step| step.atoms.len() > MOST_GROUPED)
 }
 
-fn are_defined(events: &[EventDef], atoms: &[PlacedAtom]) -> bool
-    ensures { result ≡ list_all (λ atom. is_defined events.now atom.event) atoms.now }
+fn are_defined(events: &[EventDef], pattern: &[PatternStep]) -> bool
+    ensures { result ≡ are_defined events.now pattern.now }
 {
-    atoms.iter().all(|atom| is_defined(events, &atom.event))
+    pattern.iter().all(|step| are_defined_in(events, step))
+}
+
+fn are_defined_in(events: &[EventDef], step: &PatternStep) -> bool
+    ensures { result ≡ list_all (λ atom. is_defined events.now atom.event) step.now.atoms }
+{
+    step.atoms
+        .as_slice()
+        .iter()
+        .all(|atom| is_defined(events, &atom.event))
 }
 
 /// Whether an event of this name is defined.
 pub fn is_defined(events: &[EventDef], name: &Name) -> bool
     ensures { result ≡ is_defined events.now name.now }
 {
-    events
-        .iter()
-        .any(|definition| definition.name.as_bytes() == name.as_bytes())
+    events.iter().any(|event| event.name == *name)
 }
 
-fn are_well_used(events: &[EventDef], atoms: &[PlacedAtom], numbers: &[u8]) -> bool
-    ensures { result ≡ list_all (is_well_used events.now atoms.now) numbers.now }
+fn are_well_used(atoms: &[PatternAtom]) -> bool
+    ensures { result ≡ are_well_used atoms.now }
 {
-    numbers
+    REGION_NUMBERS
         .iter()
-        .all(|number| is_well_used(events, atoms, *number))
+        .all(|number| is_well_used(atoms, *number))
 }
 
-fn is_well_used(events: &[EventDef], atoms: &[PlacedAtom], number: u8) -> bool
-    ensures { result ≡ is_well_used events.now atoms.now number }
+fn is_well_used(atoms: &[PatternAtom], number: u8) -> bool
+    ensures { result ≡ is_well_used atoms.now number }
 {
     match (openers(atoms, number), closers(atoms, number)) {
         (0, 0) => true,
-        (1, 1) => are_regions(events, atoms, number),
+        (1, 1) => are_regions(atoms, number),
         _ => false,
     }
 }
 
-fn openers(atoms: &[PlacedAtom], number: u8) -> usize
+fn openers(atoms: &[PatternAtom], number: u8) -> usize
     ensures { result ≡ openers atoms.now number }
 {
     atoms
@@ -138,7 +116,7 @@ fn openers(atoms: &[PlacedAtom], number: u8) -> usize
         .count()
 }
 
-fn closers(atoms: &[PlacedAtom], number: u8) -> usize
+fn closers(atoms: &[PatternAtom], number: u8) -> usize
     ensures { result ≡ closers atoms.now number }
 {
     atoms
@@ -147,18 +125,16 @@ fn closers(atoms: &[PlacedAtom], number: u8) -> usize
         .count()
 }
 
-fn are_regions(events: &[EventDef], atoms: &[PlacedAtom], number: u8) -> bool
-    ensures { result ≡ are_regions events.now atoms.now number }
+fn are_regions(atoms: &[PatternAtom], number: u8) -> bool
+    ensures { result ≡ are_regions atoms.now number }
 {
-    atoms.iter().all(|opener| !is_number(number, opener.opens)
-        || all_end(events, atoms, number, opener))
+    atoms.iter().all(|opener| !is_number(number, opener.opens) || all_end(atoms, number, opener))
 }
 
-fn all_end(events: &[EventDef], atoms: &[PlacedAtom], number: u8, opener: &PlacedAtom) -> bool
-    ensures { result ≡ all_end events.now atoms.now number opener.now }
+fn all_end(atoms: &[PatternAtom], number: u8, opener: &PatternAtom) -> bool
+    ensures { result ≡ all_end atoms.now number opener.now }
 {
-    atoms.iter().all(|closer| !is_number(number, closer.closes)
-        || is_region(events, opener, closer))
+    atoms.iter().all(|closer| !is_number(number, closer.closes) || is_region(opener, closer))
 }
 
 fn is_number(number: u8, mark: Option<u8>) -> bool
@@ -170,35 +146,19 @@ fn is_number(number: u8, mark: Option<u8>) -> bool
     }
 }
 
-fn is_region(events: &[EventDef], opener: &PlacedAtom, closer: &PlacedAtom) -> bool
-    ensures { result ≡ is_region events.now opener.now closer.now }
+fn is_region(opener: &PatternAtom, closer: &PatternAtom) -> bool
+    ensures { result ≡ is_region opener.now closer.now }
 {
-    is_begin(events, &opener.event)
-        && is_end(events, &closer.event)
-        && opener.thread_var.as_bytes() == closer.thread_var.as_bytes()
+    is_begin_shape(&opener.shape)
+        && is_end_shape(&closer.shape)
+        && opener.thread_var == closer.thread_var
         && opener.step < closer.step
-}
-
-fn is_begin(events: &[EventDef], name: &Name) -> bool
-    ensures { result ≡ is_begin events.now name.now }
-{
-    events.iter().any(|definition| {
-        definition.name.as_bytes() == name.as_bytes() && is_begin_shape(&definition.shape)
-    })
 }
 
 fn is_begin_shape(shape: &Shape) -> bool
     ensures { result ≡ is_begin_shape shape.now }
 {
     matches!(shape, Shape::Begin(_))
-}
-
-fn is_end(events: &[EventDef], name: &Name) -> bool
-    ensures { result ≡ is_end events.now name.now }
-{
-    events.iter().any(|definition| {
-        definition.name.as_bytes() == name.as_bytes() && is_end_shape(&definition.shape)
-    })
 }
 
 fn is_end_shape(shape: &Shape) -> bool

@@ -1,4 +1,5 @@
 ghost use Rattle.gp_property.specs.Grammar.{PropertyAgain, ReadsExactly};
+ghost use Rattle.gp_property.specs.Laws.{AtomsKept};
 
 use gp_text::{one_spelling, plain_words, reads_again};
 
@@ -18,3 +19,8 @@ pub fn reads_exactly()
 {
     one_spelling();
 }
+
+/// A property has one to six atoms, one for each of its pattern, and one to four in a step.
+pub fn atoms_kept()
+    ensures { AtomsKept }
+{}

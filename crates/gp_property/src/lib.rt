@@ -8,6 +8,7 @@
 #![tactic(auto)]
 
 mod atom;
+mod atoms;
 mod checks;
 mod fault;
 mod laws;
@@ -20,8 +21,9 @@ mod term;
 #[cfg(test)]
 mod tests;
 
+pub use atoms::{PatternAtom, atoms_of};
 pub use fault::PropertyFault;
-pub use laws::{property_again, reads_exactly};
+pub use laws::{atoms_kept, property_again, reads_exactly};
 pub use printing::print_property;
 pub use property::{
     Atom, EventDef, MOST_ATOMS, MOST_EVENTS, MOST_GROUPED, MOST_PROPERTIES, PatternStep, Property,

@@ -1,6 +1,5 @@
 ghost use Rattle.std.specs.Prelude.{◌≡◌, [], ◌∷◌, ◌++◌, Ok, IfOk, OnOk, codes, map};
 ghost use Rattle.gp_text.specs.Spelling.{joined, spelling};
-ghost use Rattle.gp_property.specs.Grammar.{IsProperty};
 ghost use Rattle.gp_property.specs.Reading.{properties_of};
 ghost use Rattle.gp_property.specs.Words.{after_words, atom_word, atoms_words, event_words, grouped_words, mark_word, pattern_words, property_lines, shape_words, steps_words, term_word, thread_word, value_word};
 
@@ -9,20 +8,19 @@ use crate::property::{Atom, EventDef, PatternStep, Property, Shape, Term, Thread
 use gp_text::{Name, Row, print_i64, print_u64};
 use std::alloc::{AllocError, Global};
 
-/// Prints the lines of a property, with one space between words and a newline after each line. Where
-/// the property is of the language, as each that `read_properties` gives, the text is read as this
-/// property alone.
+/// Prints the lines of a property, with one space between words and a newline after each line. The
+/// text is read as this property alone.
 pub fn print_property(alloc: Global, property: &Property) -> Result<Row<u8>, AllocError>
     ensures text { IfOk result (λ text. text ≡ spelling (property_lines property.now)) }
-    ensures again { IsProperty property.now → IfOk result (λ text. properties_of text ≡ Ok (property.now ∷ [])) }
+    ensures again { IfOk result (λ text. properties_of text ≡ Ok (property.now ∷ [])) }
 {
     property_again();
     let mut text = Vec::new(alloc);
     text.extend_from_slice(b"property")?;
-    put_word(&mut text, property.name.as_bytes())?;
+    put_word(&mut text, property.name().as_bytes())?;
     text.push(b'\n')?;
-    put_events(&mut text, property.events.as_slice())?;
-    put_pattern(&mut text, property.pattern.as_slice())?;
+    put_events(&mut text, property.events())?;
+    put_pattern(&mut text, property.pattern())?;
     Ok(Row::from_vec(text))
 }
 

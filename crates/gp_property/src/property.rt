@@ -1,4 +1,9 @@
+ghost use Rattle.std.specs.Prelude.{◌≡◌, IfOk};
+ghost use Rattle.gp_property.specs.Property.{IsProperty};
+
 use gp_text::{Name, Row};
+use std::alloc::{AllocError, Global};
+use std::marker::Model;
 
 /// The most properties of a file.
 pub const MOST_PROPERTIES: usize = 64;
@@ -52,6 +57,28 @@ pub enum Shape {
     End(Term),
 }
 
+impl Shape {
+    /// The same shape, in memory of its own.
+    pub fn copied(&self, alloc: Global) -> Result<Shape, AllocError>
+        ensures { IfOk result (λ copy. copy ≡ self.now) }
+    {
+        match self {
+            Shape::Read(name, value) => Ok(Shape::Read(*name, *value)),
+            Shape::Write(name, value) => Ok(Shape::Write(*name, *value)),
+            Shape::Acquire(name) => Ok(Shape::Acquire(*name)),
+            Shape::Release(name) => Ok(Shape::Release(*name)),
+            Shape::Start(thread) => Ok(Shape::Start(*thread)),
+            Shape::Join(thread) => Ok(Shape::Join(*thread)),
+            Shape::Op(name, objects) => {
+                let objects = Vec::from_slice(alloc, objects.as_slice())?;
+                Ok(Shape::Op(*name, Row::from_vec(objects)))
+            }
+            Shape::Begin(name) => Ok(Shape::Begin(*name)),
+            Shape::End(name) => Ok(Shape::End(*name)),
+        }
+    }
+}
+
 /// A name for the events of a shape.
 #[derive(Debug, Drop)]
 pub struct EventDef {
@@ -78,12 +105,59 @@ pub struct PatternStep {
     pub atoms: Row<Atom>,
 }
 
-/// A pattern of events to look for.
+/// A pattern of events to look for: 1 to 6 atoms in steps of at most 4, whose events and regions fit.
 #[derive(Debug, Drop)]
 pub struct Property {
-    pub name: Name,
-    /// At most 16, each of another name.
-    pub events: Row<EventDef>,
-    /// The steps in the order in which they happen, 1 to 6 atoms in all.
-    pub pattern: Row<PatternStep>,
+    name: Name,
+    events: Row<EventDef>,
+    pattern: Row<PatternStep>,
+}
+
+impl Model for Property {
+    ghost use Rattle.gp_property.specs.PropertyForm.{PropertyForm};
+    ghost use Rattle.gp_property.specs.Property.{IsProperty};
+
+    ghost Value = { PropertyForm };
+
+    ghost view = { λ p. record { name = p.name; events = p.events; pattern = p.pattern } };
+
+    ghost invariant = { λ p. IsProperty (record { name = p.name; events = p.events; pattern = p.pattern }) };
+}
+
+impl Property {
+    // The property of these parts.
+    pub(crate) fn new(name: Name, events: Row<EventDef>, pattern: Row<PatternStep>) -> Property
+        requires { IsProperty (record { name = name; events = events; pattern = pattern }) }
+        ensures { result ≡ record { name = name; events = events; pattern = pattern } }
+    {
+        Property {
+            name,
+            events,
+            pattern,
+        }
+    }
+
+    /// The name, by which no other property of a file goes.
+    pub fn name(&self) -> &Name
+        ensures value { result.now ≡ self.now.name }
+        ensures property { IsProperty self.now }
+    {
+        &self.name
+    }
+
+    /// The events that the pattern speaks of, at most 16, each of another name.
+    pub fn events(&self) -> &[EventDef]
+        ensures value { result.now ≡ self.now.events }
+        ensures property { IsProperty self.now }
+    {
+        self.events.as_slice()
+    }
+
+    /// The steps in the order in which they happen.
+    pub fn pattern(&self) -> &[PatternStep]
+        ensures value { result.now ≡ self.now.pattern }
+        ensures property { IsProperty self.now }
+    {
+        self.pattern.as_slice()
+    }
 }

@@ -1,22 +1,35 @@
 ghost use Rattle.std.specs.Prelude.{◌≡◌, ◌≢◌, ◌-◌, ◌^◌, ◌<◌, Err, IfOk, length};
 ghost use Rattle.std.specs.List.{AllByRecursion};
-ghost use Rattle.gp_property.specs.Grammar.{IsProperty};
-ghost use Rattle.gp_property.specs.Reading.{all_read, at_end, begun, end_of, is_bare_pattern, is_taken, line_at, line_within, next_line, nothing_read, properties_from, properties_of, property_name_of, with_event, with_pattern};
+ghost use Rattle.gp_property.specs.Pattern.{pattern_of};
+ghost use Rattle.gp_property.specs.Property.{IsProperty};
+ghost use Rattle.gp_property.specs.Reading.{all_read, at_end, begun, is_bare_pattern, is_taken, line_at, line_within, next_line, nothing_read, properties_from, properties_of, property_name_of, with_event, with_pattern};
+ghost use Rattle.gp_property.specs.Shape.{definition_of};
 
 use crate::checks::{check_pattern, is_defined};
 use crate::fault::PropertyFault;
 use crate::laws::reads_exactly;
 use crate::pattern::pattern_of;
-use crate::property::{EventDef, MOST_EVENTS, MOST_PROPERTIES, PatternStep, Property};
+use crate::property::{EventDef, MOST_EVENTS, MOST_PROPERTIES, Property};
 use crate::shape::definition_of;
-use gp_text::{Line, Name, Row, Word, read_lines};
-use std::alloc::{AllocError, Global};
+use gp_text::{Line, Name, Row, Word, end_line, one_spelling, read_lines};
+use std::alloc::Global;
+use std::marker::Model;
 
 /// A property whose pattern is still due.
 #[derive(Debug, Drop)]
 pub struct Draft {
-    pub name: Name,
-    pub events: Row<EventDef>,
+    name: Name,
+    events: Row<EventDef>,
+}
+
+impl Model for Draft {
+    ghost use Rattle.gp_property.specs.Draft.{DraftForm, IsDraft};
+
+    ghost Value = { DraftForm };
+
+    ghost view = { λ d. record { name = d.name; events = d.events } };
+
+    ghost invariant = { λ d. IsDraft (record { name = d.name; events = d.events }) };
 }
 
 /// What the lines so far have told.
@@ -36,15 +49,7 @@ pub fn read_properties(alloc: Global, bytes: &[u8]) -> Result<Row<Property>, Pro
 {
     reads_exactly();
     let lines = read_lines(alloc, bytes)?;
-    properties_from(alloc, end_of(bytes), lines.as_slice())
-}
-
-fn end_of(bytes: &[u8]) -> u32
-    requires { length bytes.now < 2 ^ 32 - 1 }
-    ensures { result ≡ end_of bytes.now }
-{
-    let newlines = bytes.iter().filter(|byte| **byte == b'\n').count();
-    newlines as u32 + 1
+    properties_from(alloc, end_line(bytes), lines.as_slice())
 }
 
 fn properties_from(alloc: Global, last: u32, lines: &[Line]) -> Result<Row<Property>, PropertyFault>
@@ -86,7 +91,7 @@ fn next_line(alloc: Global, reading: Reading, line: &Line) -> Result<Reading, Pr
     let Reading { done, draft } = reading;
     match draft {
         Some(draft) => line_within(alloc, done, draft, line.number, words),
-        None => begin(alloc, done, line.number, property_name_of(words)),
+        None => begin(alloc, done, line.number, words),
     }
 }
 
@@ -114,11 +119,13 @@ fn begin(
     alloc: Global,
     done: Row<Property>,
     number: u32,
-    name: Option<Name>,
+    words: &[Word],
 ) -> Result<Reading, PropertyFault>
-    ensures { result ≡ begun done number name }
+    ensures { result ≡ begun done number (property_name_of words.now) }
 {
-    let name = name.ok_or(PropertyFault::BadWord(number))?;
+    let Some(name) = property_name_of(words) else {
+        return Err(PropertyFault::BadWord(number));
+    };
     if done.len() >= MOST_PROPERTIES {
         return Err(PropertyFault::BadWord(number));
     }
@@ -135,8 +142,7 @@ fn begin(
 fn is_taken(done: &[Property], name: &Name) -> bool
     ensures { result ≡ is_taken done.now name.now }
 {
-    done.iter()
-        .any(|property| property.name.as_bytes() == name.as_bytes())
+    done.iter().any(|property| property.name() == name)
 }
 
 fn line_within(
@@ -153,23 +159,27 @@ fn line_within(
     if keyword == b"property".as_slice() {
         Err(PropertyFault::Empty(number))
     } else if keyword == b"event".as_slice() {
-        add_event(done, draft, number, definition_of(alloc, rest)?)
+        add_event(alloc, done, draft, number, rest)
     } else if keyword == b"pattern".as_slice() {
-        add_pattern(alloc, done, draft, number, pattern_of(alloc, rest)?)
+        add_pattern(alloc, done, draft, number, rest)
     } else {
         Err(PropertyFault::BadWord(number))
     }
 }
 
 fn add_event(
+    alloc: Global,
     done: Row<Property>,
     draft: Draft,
     number: u32,
-    event: Option<EventDef>,
+    words: &[Word],
 ) -> Result<Reading, PropertyFault>
-    ensures { result ≢ Err PropertyFault.Memory → result ≡ with_event done draft number event }
+    ensures { result ≢ Err PropertyFault.Memory → result ≡ with_event done draft number (definition_of words.now) }
 {
-    let event = event.ok_or(PropertyFault::BadWord(number))?;
+    one_spelling();
+    let Some(event) = definition_of(alloc, words)? else {
+        return Err(PropertyFault::BadWord(number));
+    };
     let Draft { name, mut events } = draft;
     if events.len() >= MOST_EVENTS {
         return Err(PropertyFault::BadWord(number));
@@ -189,17 +199,15 @@ fn add_pattern(
     mut done: Row<Property>,
     draft: Draft,
     number: u32,
-    pattern: Option<Row<PatternStep>>,
+    words: &[Word],
 ) -> Result<Reading, PropertyFault>
-    ensures { result ≢ Err PropertyFault.Memory → result ≡ with_pattern done draft number pattern }
+    ensures { result ≢ Err PropertyFault.Memory → result ≡ with_pattern done draft number (pattern_of words.now) }
 {
-    let pattern = pattern.ok_or(PropertyFault::BadWord(number))?;
+    let Some(pattern) = pattern_of(alloc, words)? else {
+        return Err(PropertyFault::BadWord(number));
+    };
     let Draft { name, events } = draft;
     check_pattern(alloc, number, events.as_slice(), pattern.as_slice())?;
-    done.push(Property {
-        name,
-        events,
-        pattern,
-    })?;
+    done.push(Property::new(name, events, pattern))?;
     Ok(Reading { done, draft: None })
 }

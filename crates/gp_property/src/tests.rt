@@ -50,7 +50,7 @@ fn spaces_and_comments_are_passed_over(rt: HostRuntime) -> Result<(), Fail> {
 
 #[test]
 fn the_first_broken_rule_is_told(rt: HostRuntime) -> Result<(), Fail> {
-    let rows: [(&[u8], PropertyFault); 41] = [
+    let rows: [(&[u8], PropertyFault); 43] = [
         (b"", PropertyFault::Empty(1)),
         (b"# none\n\n", PropertyFault::Empty(3)),
         (b"property a\nevent b op b\n", PropertyFault::Empty(3)),
@@ -102,6 +102,14 @@ fn the_first_broken_rule_is_told(rt: HostRuntime) -> Result<(), Fail> {
         ),
         (
             b"property a\nevent b acquire x y\n",
+            PropertyFault::BadWord(2),
+        ),
+        (
+            b"property a\nevent b racquire x\n",
+            PropertyFault::BadWord(2),
+        ),
+        (
+            b"property a\nevent b rrelease x\n",
             PropertyFault::BadWord(2),
         ),
         (

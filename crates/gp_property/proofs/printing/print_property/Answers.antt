@@ -11,11 +11,12 @@ printed c =
       c.from_vec.ensures,
       c.in_ok-put_pattern.ensures,
       c.in_ok-put_events.ensures,
-      c.as_slice.ensures,
-      c.as_slice-2.ensures,
+      c.events.ensures.value,
+      c.pattern.ensures.value,
       c.in_ok-push.ensures.items,
       c.in_ok-put_word.ensures,
       c.as_bytes.ensures.value,
+      c.name.ensures.value,
       c.in_ok-extend_from_slice.ensures.items,
       c.new-text.ensures.items,
     )
@@ -27,4 +28,4 @@ pub returns-clause-text : goal.returns-clause-text
 returns-clause-text c = printed c
 
 pub returns-clause-again : goal.returns-clause-again
-returns-clause-again c = λ is. ap properties_of (printed c) ∙ c.property_again.ensures c.args.property.now is
+returns-clause-again c = ap properties_of (printed c) ∙ c.property_again.ensures c.args.property.now c.name.ensures.property

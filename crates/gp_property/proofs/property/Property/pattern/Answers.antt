@@ -1,0 +1,4 @@
+use Rattle.gp_property.proofs.property.Property.pattern.Goals as goal
+
+pub returns-clause-property : goal.returns-clause-property
+returns-clause-property c = rw (← c.self.view_is) c.self.invariant

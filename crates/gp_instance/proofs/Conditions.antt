@@ -5,7 +5,7 @@ use Rattle.std.specs.List.{list_all}
 use Rattle.std.proofs.Math.Dec.{eqb-suc-suc, eqb-suc-zero, eqb-zero-suc}
 use Rattle.gp_trace.specs.declared.event.Event.{Event}
 use Rattle.gp_window.specs.declared.schedule.EventId.{EventId}
-use Rattle.gp_instance.specs.declared.atom.PatternAtom.{PatternAtom}
+use Rattle.gp_property.specs.declared.atoms.PatternAtom.{PatternAtom}
 use Rattle.gp_instance.specs.Instance.{agree, are_apart, bindings, Choice, choice_of, choices_of, closes, is_at, is_like_atom, is_same_mark, keep_region, keep_regions, keep_threads, keeps_conditions, rise}
 use Rattle.gp_instance.specs.Pairs.{all_pairs}
 use Rattle.gp_instance.specs.Search.{all_agree, chosen_of, end_if_opened, is_candidate, may_stand}

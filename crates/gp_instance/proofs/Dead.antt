@@ -1,18 +1,17 @@
 -- Where an atom has no event left, no list is found.
 use Rattle.std.proofs.Common.{◌≡◌, refl, ap, ◌∙◌, sym, suc, Bool, true, false, cond, List, [], ◌∷◌, map, length, arith}
-use Rattle.std.specs.Prelude.{filter, ◌||◌, Option, Some, None, Result, Ok, Err, IfOk}
+use Rattle.std.specs.Prelude.{filter, ◌||◌, Option, Some, None}
 use Rattle.std.specs.List.{flat_map, list_any}
 use Rattle.std.proofs.Math.Dec.{eqb-suc-zero}
 use Rattle.gp_trace.specs.declared.event.Event.{Event}
 use Rattle.gp_window.specs.declared.schedule.EventId.{EventId}
-use Rattle.gp_instance.specs.declared.atom.PatternAtom.{PatternAtom}
+use Rattle.gp_property.specs.declared.atoms.PatternAtom.{PatternAtom}
 use Rattle.gp_instance.specs.declared.chosen.Chosen.{Chosen}
-use Rattle.gp_instance.specs.Search.{chosen_of, is_dead, Leaves, may_stand, narrowed, search, threads_fit, unless_dead, where_threads_fit}
+use Rattle.gp_instance.specs.Search.{chosen_of, FindsSame, is_dead, Leaves, may_stand, narrowed, search, unless_dead}
 use Rattle.gp_instance.proofs.Lists.{flat_map_agree}
-use Rattle.gp_instance.proofs.ThreadsFit.{no_threads}
 
 -- one test fails, so the other passes
-other_passes : (a b : Bool) → b ≡ true → (a || b) ≡ true
+pub other_passes : (a b : Bool) → b ≡ true → (a || b) ≡ true
 other_passes true b passes = refl
 other_passes false b passes = passes
 
@@ -58,35 +57,19 @@ dead_end segments (atom ∷ atoms) ((id ∷ ids) ∷ domains) same dead =
     (id ∷ ids)
     ∙ flat_map_none (id ∷ ids)
 
--- what is left
-pub leaves : (segments : List (List Event)) (atoms : List PatternAtom) (due : List (List EventId)) (left : Option (List (List EventId)))
-    → length due ≡ length atoms → left ≡ unless_dead due → Leaves segments atoms due left
-leaves segments atoms due left long is =
-    let by_cases : (b : Bool) → list_any is_dead due ≡ b → left ≡ cond b None (Some due) → Leaves segments atoms due left = λ b. elim b as (λ v. list_any is_dead due ≡ v → left ≡ cond v None (Some due) → Leaves segments atoms due left) [
-      | true ↦ λ dead none. rw none (dead_end segments atoms due long dead)
-      | false ↦ λ alive some. rw some (refl, long)
+-- what is left of events from which the same is found
+pub leaves : (segments : List (List Event)) (atoms : List PatternAtom) (due some : List (List EventId)) (left : Option (List (List EventId)))
+    → FindsSame segments atoms due some → left ≡ unless_dead some → Leaves segments atoms due left
+leaves segments atoms due some left same is =
+    let by_cases : (b : Bool) → list_any is_dead some ≡ b → left ≡ cond b None (Some some) → Leaves segments atoms due left = λ b. elim b as (λ v. list_any is_dead some ≡ v → left ≡ cond v None (Some some) → Leaves segments atoms due left) [
+      | true ↦ λ dead none. rw none (sym same.0 ∙ dead_end segments atoms some same.1 dead)
+      | false ↦ λ alive all. rw all same
     ] in
-    by_cases (list_any is_dead due) refl is
-
--- what is left where threads fit
-leaves_fitting : (segments : List (List Event)) (atoms : List PatternAtom) (due left : List (List EventId))
-    → left ≡ due → length left ≡ length atoms → Leaves segments atoms due (where_threads_fit atoms left)
-leaves_fitting segments atoms due left is long =
-    let by_cases : (b : Bool) → threads_fit [] atoms left ≡ b → Leaves segments atoms due (cond b (Some left) None) = λ b. elim b as (λ v. threads_fit [] atoms left ≡ v → Leaves segments atoms due (cond v (Some left) None)) [
-      | true ↦ λ fit. (is, long)
-      | false ↦ λ fails. ap (search segments atoms) (sym is) ∙ no_threads segments atoms left fails
-    ] in
-    by_cases (threads_fit [] atoms left) refl
-
--- what is left where something is, and threads fit
-pub leaves_some : {E : Type 0} (segments : List (List Event)) (atoms : List PatternAtom) (due left : List (List EventId)) (kept : Result (Option (List (List EventId))) E)
-    → Leaves segments atoms due (Some left) → IfOk kept (λ domains. domains ≡ where_threads_fit atoms left) → IfOk kept (Leaves segments atoms due)
-leaves_some segments atoms due left (Ok kept) some fit = rw fit (leaves_fitting segments atoms due left some.0 some.1)
-leaves_some segments atoms due left (Err fault) some fit = fit
+    by_cases (list_any is_dead some) refl is
 
 -- what the narrowing after a choice leaves
 pub leaves_narrowed : (segments : List (List Event)) (chosen due : Chosen) (atoms : List PatternAtom) (others : List (List EventId)) (left : Option (List (List EventId)))
     → chosen ≡ due → length others ≡ length atoms → left ≡ unless_dead (narrowed segments chosen atoms others)
     → Leaves segments atoms (narrowed segments due atoms others) left
 leaves_narrowed segments chosen due atoms others left is same kept =
-    leaves segments atoms (narrowed segments due atoms others) left (narrowed_long segments due atoms others same) (kept ∙ ap (λ c. unless_dead (narrowed segments c atoms others)) is)
+    leaves segments atoms (narrowed segments due atoms others) (narrowed segments due atoms others) left (refl, narrowed_long segments due atoms others same) (kept ∙ ap (λ c. unless_dead (narrowed segments c atoms others)) is)

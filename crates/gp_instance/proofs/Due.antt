@@ -4,26 +4,26 @@ use Rattle.std.specs.Prelude.{Ok, Err}
 use Rattle.std.proofs.lemmas.Bool.{le-ltb, lt-ltb}
 use Rattle.std.proofs.lemmas.List.{length-map}
 use Rattle.gp_window.specs.WindowForm.{WindowForm}
-use Rattle.gp_property.specs.declared.property.Property.{Property}
+use Rattle.gp_property.specs.PropertyForm.{PropertyForm}
 use Rattle.gp_instance.specs.declared.instance.Instance.{Instance}
 use Rattle.gp_instance.specs.declared.instance.InstancesFault.TheVariants.{TooMany}
-use Rattle.gp_instance.specs.Atoms.{atoms_of}
+use Rattle.gp_property.specs.Atoms.{atoms_of}
 use Rattle.gp_instance.specs.Instances.{due_instances, instances_of, numbered}
 use Rattle.gp_instance.specs.Search.{candidates_of, first_instances, search}
 use Rattle.gp_instance.proofs.Found.{search_finds}
 use Rattle.gp_instance.proofs.Limit.{all-first, length-first}
 
 -- what the search of a window finds up to the limit
-abbrev pub found_of : WindowForm → Property → ℕ → List Instance
+abbrev pub found_of : WindowForm → PropertyForm → ℕ → List Instance
 found_of window property number =
     first_instances [] (map (numbered number) (search window.segments (atoms_of property) (map (candidates_of window.segments) (atoms_of property))))
 
 -- the same of the instances
-found_is : (window : WindowForm) (property : Property) (number : ℕ) → found_of window property number ≡ first_instances [] (map (numbered number) (instances_of window property))
+found_is : (window : WindowForm) (property : PropertyForm) (number : ℕ) → found_of window property number ≡ first_instances [] (map (numbered number) (instances_of window property))
 found_is window property number = ap (λ lists. first_instances [] (map (numbered number) lists)) (search_finds window property)
 
 -- too many
-pub due_too_many : (window : WindowForm) (property : Property) (number : ℕ) (found : List Instance)
+pub due_too_many : (window : WindowForm) (property : PropertyForm) (number : ℕ) (found : List Instance)
     → found ≡ found_of window property number → 10000 < length found → Err TooMany ≡ due_instances window property number
 unfolding due_instances
 due_too_many window property number found is over =
@@ -32,7 +32,7 @@ due_too_many window property number found is over =
     ap (λ b. cond b (Err TooMany) (Ok (map (numbered number) listed))) (sym (lt-ltb 10000 (length listed) many))
 
 -- not too many
-pub due_all : (window : WindowForm) (property : Property) (number : ℕ) (found : List Instance)
+pub due_all : (window : WindowForm) (property : PropertyForm) (number : ℕ) (found : List Instance)
     → found ≡ found_of window property number → length found ≤ 10000 → Ok found ≡ due_instances window property number
 unfolding due_instances
 due_all window property number found is few =

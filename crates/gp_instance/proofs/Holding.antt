@@ -6,11 +6,12 @@ use Rattle.std.proofs.lemmas.List.Elements.{All-contains, Contains-append_left, 
 use Rattle.gp_trace.specs.declared.event.Event.{Event}
 use Rattle.gp_window.specs.declared.schedule.EventId.{EventId}
 use Rattle.gp_window.specs.WindowForm.{WindowForm}
-use Rattle.gp_property.specs.declared.property.Property.{Property}
+use Rattle.gp_property.specs.PropertyForm.{PropertyForm}
 use Rattle.gp_property.specs.declared.property.Shape.{Shape}
-use Rattle.gp_instance.specs.declared.atom.PatternAtom.{PatternAtom}
-use Rattle.gp_instance.specs.Atoms.{atoms_of}
-use Rattle.gp_instance.specs.Instance.{choices_of, event_at, fits_shape, is_instance, is_like_atom, keeps_conditions, segment_of}
+use Rattle.gp_property.specs.declared.atoms.PatternAtom.{PatternAtom}
+use Rattle.gp_property.specs.Atoms.{atoms_of}
+use Rattle.gp_instance.specs.Instance.{choices_of, fits_shape, is_instance, is_like_atom, keeps_conditions}
+use Rattle.gp_window.specs.Events.{event_in, segment_in}
 use Rattle.gp_instance.specs.Instances.{ids_from, ids_in, ids_of, instances_of, lists_of}
 
 -- the first element
@@ -84,15 +85,14 @@ id_in_window n thread index (segment ∷ segments) (suc place) event e there =
     Contains-append_right (ids_in n 0 segment) (ids_from (n + 1) segments) _ (id_in_window (n + 1) thread index segments place event (omega arith) there)
 
 -- an event that is there
-id_held : (segments : List (List Event)) (thread index : ℕ) (event : Event) → slice_get (segment_of segments thread) index ≡ Some event → Contains (ids_of segments) (record { thread = thread; index = index })
+id_held : (segments : List (List Event)) (thread index : ℕ) (event : Event) → slice_get (segment_in segments thread) index ≡ Some event → Contains (ids_of segments) (record { thread = thread; index = index })
 id_held segments zero index event there = absurd (cc)
 id_held segments (suc place) index event there = id_in_window 1 (suc place) index segments place event (omega arith) there
 
 -- an event that has its atom's shape is there
-fitting_there : (shape : Option Shape) (found : Option Event) → fits_shape shape found ≡ true → (event : Event) × (found ≡ Some event)
-fitting_there None found fits = absurd (cc)
-fitting_there (Some shape) None fits = absurd (cc)
-fitting_there (Some shape) (Some event) fits = (event, refl)
+fitting_there : (shape : Shape) (found : Option Event) → fits_shape shape found ≡ true → (event : Event) × (found ≡ Some event)
+fitting_there shape None fits = absurd (cc)
+fitting_there shape (Some event) fits = (event, refl)
 
 -- both tests pass
 pub both : (a b : Bool) → (a && b) ≡ true → (a ≡ true) × (b ≡ true)
@@ -106,7 +106,7 @@ all_held segments atoms [] long like = tt
 all_held segments [] (id ∷ ids) long like = absurd (omega arith)
 all_held segments (atom ∷ atoms) (id ∷ ids) long like =
     let pass = both _ _ like in
-    let there = fitting_there atom.shape (event_at segments id) pass.0 in
+    let there = fitting_there atom.shape (event_in segments id) pass.0 in
     (id_held segments id.thread id.index there.0 there.1, all_held segments atoms ids (omega arith) pass.1)
 
 -- the first of the six conditions
@@ -114,7 +114,7 @@ first_condition : (segments : List (List Event)) (atoms : List PatternAtom) (ids
 first_condition segments atoms ids keeps = (both _ _ (both _ _ (both _ _ (both _ _ (both _ _ keeps).0).0).0).0).0
 
 -- an instance is one of the lists
-pub instance_held : (window : WindowForm) (property : Property) (ids : List EventId) → is_instance window property ids ≡ true → Contains (instances_of window property) ids
+pub instance_held : (window : WindowForm) (property : PropertyForm) (ids : List EventId) → is_instance window property ids ≡ true → Contains (instances_of window property) ids
 instance_held window property ids is =
     let pass = both _ _ is in
     let long : length ids ≡ length (atoms_of property) = eqb-true (length ids) (length (atoms_of property)) pass.0 in
@@ -122,6 +122,6 @@ instance_held window property ids is =
     passes_filter (is_instance window property) (lists_of (length (atoms_of property)) (ids_of window.segments)) ids is lists
 
 -- each of the lists is an instance
-pub held_instance : (window : WindowForm) (property : Property) (ids : List EventId) → Contains (instances_of window property) ids → is_instance window property ids ≡ true
+pub held_instance : (window : WindowForm) (property : PropertyForm) (ids : List EventId) → Contains (instances_of window property) ids → is_instance window property ids ≡ true
 held_instance window property ids holds =
     All-contains (λ found. is_instance window property found ≡ true) (instances_of window property) ids (filter_passes (is_instance window property) (lists_of (length (atoms_of property)) (ids_of window.segments))) holds

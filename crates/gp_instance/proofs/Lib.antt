@@ -5,7 +5,7 @@ pub mod Passing
 pub mod Conditions
 pub mod Found
 pub mod Steps
-pub mod Levels
+pub mod Ends
 pub mod Bound
 pub mod Limit
 pub mod Dead
@@ -16,3 +16,9 @@ pub mod ThreadsFit
 pub mod Holding
 pub mod Ordered
 pub mod InRows
+pub mod Order
+pub mod Thin
+pub mod Keys
+pub mod Pairing
+pub mod Crowded
+pub mod Held

@@ -5,7 +5,7 @@ use Rattle.std.proofs.lemmas.List.{append-nil, length-take, map-append, take_all
 use Rattle.std.proofs.lemmas.Simd.{map-map}
 use Rattle.gp_trace.specs.declared.event.Event.{Event}
 use Rattle.gp_window.specs.declared.schedule.EventId.{EventId}
-use Rattle.gp_instance.specs.declared.atom.PatternAtom.{PatternAtom}
+use Rattle.gp_property.specs.declared.atoms.PatternAtom.{PatternAtom}
 use Rattle.gp_instance.specs.declared.instance.Instance.{Instance}
 use Rattle.gp_instance.specs.Instances.{numbered}
 use Rattle.gp_instance.specs.Search.{candidates_of, chosen_of, first_instances, instance_after, narrowed, search}
@@ -75,7 +75,7 @@ flat_map_at f (first ∷ xs) (suc i) (suc next) d e below = flat_map_at f xs i n
 
 -- one choice that leaves something for each later atom
 pub alive_step : (found next : List Instance) (number : ℕ) (front longer : List EventId) (segments : List (List Event)) (atom : PatternAtom) (ids : List EventId) (i : ℕ) (d : EventId) (later : List PatternAtom) (others left : List (List EventId)) (all : List Instance)
-    → i < length ids → longer ≡ front ++ get_or ids i d ∷ [] → left ≡ narrowed segments (chosen_of segments atom (get_or ids i d)) later others
+    → i < length ids → longer ≡ front ++ get_or ids i d ∷ [] → search segments later left ≡ search segments later (narrowed segments (chosen_of segments atom (get_or ids i d)) later others)
     → next ≡ first_instances found (map (instance_after number longer) (search segments later left))
     → first_instances found (map (instance_after number front) (flat_map (completed segments atom later others) (drop i ids))) ≡ all
     → first_instances next (map (instance_after number front) (flat_map (completed segments atom later others) (drop (i + 1) ids))) ≡ all
@@ -83,7 +83,7 @@ alive_step found next number front longer segments atom ids i d later others lef
     let id = get_or ids i d in
     one_choice found next number front id (search segments later (narrowed segments (chosen_of segments atom id) later others)) (flat_map (completed segments atom later others) (drop (i + 1) ids))
     (is ∙ ap (λ begun. first_instances found (map (instance_after number begun) (search segments later left))) is_longer
-    ∙ ap (λ domains. first_instances found (map (instance_after number (front ++ id ∷ [])) (search segments later domains))) is_left)
+    ∙ ap (λ lists. first_instances found (map (instance_after number (front ++ id ∷ [])) lists)) is_left)
     ∙ ap (λ lists. first_instances found (map (instance_after number front) lists)) (sym (flat_map_at (completed segments atom later others) ids i (i + 1) d refl below))
     ∙ walk
 
@@ -111,13 +111,13 @@ all-first more few =
 
 -- the search from the candidates of each atom
 pub begun : (segments same : List (List Event)) (atoms : List PatternAtom) (number : ℕ) (domains : List (List EventId)) (none found : List Instance)
-    → same ≡ segments → domains ≡ map (candidates_of same) atoms → none ≡ []
+    → same ≡ segments → search same atoms domains ≡ search same atoms (map (candidates_of same) atoms) → none ≡ []
     → found ≡ first_instances none (map (instance_after number []) (search same atoms domains))
     → found ≡ first_instances [] (map (numbered number) (search segments atoms (map (candidates_of segments) atoms)))
 begun segments same atoms number domains none found is are empty all =
     all
     ∙ ap (λ before. first_instances before (map (numbered number) (search same atoms domains))) empty
-    ∙ ap (λ begins. first_instances [] (map (numbered number) (search same atoms begins))) are
+    ∙ ap (λ lists. first_instances [] (map (numbered number) lists)) are
     ∙ ap (λ from. first_instances [] (map (numbered number) (search from atoms (map (candidates_of from) atoms)))) is
 
 -- no search, since nothing is found

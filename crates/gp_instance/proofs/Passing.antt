@@ -3,7 +3,7 @@ use Rattle.std.proofs.Common.{◌≡◌, refl, ap, ◌∙◌, sym, Bool, true, f
 use Rattle.std.specs.Prelude.{filter, ◌&&◌}
 use Rattle.gp_trace.specs.declared.event.Event.{Event}
 use Rattle.gp_window.specs.declared.schedule.EventId.{EventId}
-use Rattle.gp_instance.specs.declared.atom.PatternAtom.{PatternAtom}
+use Rattle.gp_property.specs.declared.atoms.PatternAtom.{PatternAtom}
 use Rattle.gp_instance.specs.Instances.{lists_of}
 use Rattle.gp_instance.specs.Search.{chosen_of, may_stand, narrowed, search}
 use Rattle.gp_instance.proofs.Lists.{filter-filter, filter-flat_map, filter-map, flat_map-filter, flat_map_agree, filter_none}

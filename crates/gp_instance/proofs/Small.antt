@@ -4,7 +4,7 @@ use Rattle.std.specs.Prelude.{slice_get, unwrap_or}
 use Rattle.std.proofs.lemmas.List.{length-map}
 use Rattle.std.proofs.lemmas.List.Elements.{All-map, All-weaker}
 use Rattle.gp_trace.specs.declared.event.Event.{Event}
-use Rattle.gp_trace.specs.Trace.{IsLocalTrace, Trace, in_order}
+use Rattle.gp_trace.specs.Trace.{IsLocalTrace, LocalTraceForm, in_order}
 use Rattle.gp_window.specs.Holders.{segment_after}
 use Rattle.gp_window.specs.WindowForm.{IsWindow, WindowForm}
 use Rattle.gp_instance.specs.Search.{AreSmall}
@@ -16,7 +16,7 @@ segment_fits (segment ∷ segments) zero = omega (arith, length-append segment (
 segment_fits (segment ∷ segments) (suc place) = omega (arith, length-append segment (in_order segments), segment_fits segments place)
 
 -- a segment of a trace is short
-short_segment : (before : ℕ) (trace : Trace) → IsLocalTrace trace → length (segment_after before trace) < 2 ^ 32
+short_segment : (before : ℕ) (trace : LocalTraceForm) → IsLocalTrace trace → length (segment_after before trace) < 2 ^ 32
 short_segment before trace rules = omega (arith, rules.few, segment_fits trace.segments before)
 
 -- a window is small

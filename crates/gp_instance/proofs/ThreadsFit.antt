@@ -1,12 +1,28 @@
 -- Where no threads fit the thread variables, no list is found.
 use Rattle.std.proofs.Common.{◌≡◌, refl, ap, ℕ, Bool, true, false, cond, List, [], ◌∷◌, map}
-use Rattle.std.specs.Prelude.{filter, ◌&&◌, ◌||◌}
-use Rattle.std.specs.List.{AllByRecursion, flat_map, list_any}
+use Rattle.std.specs.Prelude.{filter, if◌then◌else◌, not, ◌==◌, ◌&&◌, ◌||◌}
+use Rattle.std.specs.List.{AllByRecursion, flat_map, list_all, list_any}
+use Rattle.std.specs.Str.{bytes_eq}
 use Rattle.gp_trace.specs.declared.event.Event.{Event}
 use Rattle.gp_window.specs.declared.schedule.EventId.{EventId}
-use Rattle.gp_instance.specs.declared.atom.PatternAtom.{PatternAtom}
+use Rattle.gp_property.specs.declared.atoms.PatternAtom.{PatternAtom}
 use Rattle.gp_instance.specs.declared.chosen.Chosen.{Chosen}
-use Rattle.gp_instance.specs.Search.{chosen_of, keeps_thread, may_give, may_stand, narrowed, search, threads_fit}
+use Rattle.gp_instance.specs.Search.{chosen_of, keeps_thread, may_stand, narrowed, search}
+
+-- a variable and its thread are equal to these, or both differ
+abbrev pub is_apt : List ℕ × ℕ → List ℕ → ℕ → Bool
+is_apt pair variable thread = if bytes_eq pair.0 variable then pair.1 == thread else not (pair.1 == thread)
+
+-- a thread may be given to a thread variable beside those that were given before
+abbrev pub may_give : List (List ℕ × ℕ) → List ℕ → ℕ → Bool
+may_give given variable thread = list_all (λ pair. is_apt pair variable thread) given
+
+-- threads can be given to the thread variables of the atoms, each that of one of the atom's events
+abbrev pub threads_fit : List (List ℕ × ℕ) → List PatternAtom → List (List EventId) → Bool
+threads_fit given [] domains = true
+threads_fit given (atom ∷ atoms) [] = true
+threads_fit given (atom ∷ atoms) (ids ∷ domains) =
+    list_any (λ id. may_give given atom.thread_var id.thread && threads_fit ((atom.thread_var, id.thread) ∷ given) atoms domains) ids
 
 -- the event is one of these: it fails each test that they all fail
 abbrev Among : List EventId → EventId → Type 0

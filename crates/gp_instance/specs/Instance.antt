@@ -4,23 +4,15 @@ use Rattle.std.specs.List.{list_all, flat_map}
 use Rattle.std.specs.Str.{bytes_eq}
 use Rattle.gp_trace.specs.declared.event.Event.{Event}
 use Rattle.gp_window.specs.declared.schedule.EventId.{EventId}
+use Rattle.gp_window.specs.Events.{event_in, segment_in}
 use Rattle.gp_window.specs.WindowForm.{WindowForm}
-use Rattle.gp_property.specs.declared.property.Property.{Property}
+use Rattle.gp_property.specs.PropertyForm.{PropertyForm}
 use Rattle.gp_property.specs.declared.property.Shape.{Shape}
-use Rattle.gp_instance.specs.declared.atom.PatternAtom.{PatternAtom}
-use Rattle.gp_instance.specs.Atoms.{atoms_of}
+use Rattle.gp_property.specs.declared.atoms.PatternAtom.{PatternAtom}
+use Rattle.gp_property.specs.Atoms.{atoms_of}
 use Rattle.gp_instance.specs.Pairs.{all_pairs}
 use Rattle.gp_instance.specs.Region.{end_of}
 use Rattle.gp_instance.specs.Shape.{bindings_of, has_shape}
-
--- the events of a thread in a window; threads count from 1
-abbrev pub segment_of : List (List Event) → ℕ → List Event
-segment_of segments zero = []
-segment_of segments (suc place) = unwrap_or (slice_get segments place) []
-
--- the event of a window that an id names, where there is one
-abbrev pub event_at : List (List Event) → EventId → Option Event
-event_at segments id = slice_get (segment_of segments id.thread) id.index
 
 -- an atom and the event that was chosen for it
 pub record Choice : Type 0 where
@@ -30,7 +22,7 @@ pub record Choice : Type 0 where
 
 -- the atom with this event of a window
 abbrev pub choice_of : List (List Event) → PatternAtom → EventId → Choice
-choice_of segments atom id = record { atom = atom; id = id; event = event_at segments id }
+choice_of segments atom id = record { atom = atom; id = id; event = event_in segments id }
 
 -- each atom with its event, in order
 abbrev pub choices_of : List (List Event) → List PatternAtom → List EventId → List Choice
@@ -38,21 +30,19 @@ choices_of segments [] ids = []
 choices_of segments (atom ∷ atoms) [] = []
 choices_of segments (atom ∷ atoms) (id ∷ ids) = choice_of segments atom id ∷ choices_of segments atoms ids
 
--- whether an event is there and has the shape, where there is one
-abbrev pub fits_shape : Option Shape → Option Event → Bool
-fits_shape None event = false
-fits_shape (Some shape) None = false
-fits_shape (Some shape) (Some event) = has_shape shape event
+-- whether an event is there and has the shape
+abbrev pub fits_shape : Shape → Option Event → Bool
+fits_shape shape None = false
+fits_shape shape (Some event) = has_shape shape event
 
 -- the event is one of the window, and has its atom's kind, names and constants
 abbrev pub is_like_atom : Choice → Bool
 is_like_atom choice = fits_shape choice.atom.shape choice.event
 
--- what parameters stand for in an event, where both are there
-abbrev pub bindings_with : Option Shape → Option Event → List (List ℕ × List ℕ)
-bindings_with None event = []
-bindings_with (Some shape) None = []
-bindings_with (Some shape) (Some event) = bindings_of shape event
+-- what the parameters of a shape stand for in an event, where it is there
+abbrev pub bindings_with : Shape → Option Event → List (List ℕ × List ℕ)
+bindings_with shape None = []
+bindings_with shape (Some event) = bindings_of shape event
 
 -- the parameters of an atom with the names that they stand for in its event
 abbrev pub bindings : Choice → List (List ℕ × List ℕ)
@@ -83,7 +73,7 @@ is_at (Some found) index = found == index
 -- one event is the end that closes the very region that the other begins
 abbrev pub closes : List (List Event) → EventId → EventId → Bool
 closes segments begin end =
-    begin.thread == end.thread && is_at (end_of (segment_of segments begin.thread) begin.index) end.index
+    begin.thread == end.thread && is_at (end_of (segment_in segments begin.thread) begin.index) end.index
 
 -- where one atom opens a region and the other closes it, the event of the second closes that of the first
 abbrev pub keep_region : List (List Event) → Choice → Choice → Bool
@@ -118,7 +108,7 @@ keeps_conditions segments choices =
     && all_pairs rise choices
 
 -- a list of events is an instance of a property in a window: one event for each atom, in the order of the pattern, under the conditions
-abbrev pub is_instance : WindowForm → Property → List EventId → Bool
+abbrev pub is_instance : WindowForm → PropertyForm → List EventId → Bool
 is_instance window property ids =
     length ids == length (atoms_of property)
     && keeps_conditions window.segments (choices_of window.segments (atoms_of property) ids)

@@ -4,11 +4,11 @@ use Rattle.std.specs.List.{flat_map}
 use Rattle.gp_trace.specs.declared.event.Event.{Event}
 use Rattle.gp_window.specs.declared.schedule.EventId.{EventId}
 use Rattle.gp_window.specs.WindowForm.{WindowForm}
-use Rattle.gp_property.specs.declared.property.Property.{Property}
+use Rattle.gp_property.specs.PropertyForm.{PropertyForm}
 use Rattle.gp_instance.specs.declared.instance.Instance.{Instance}
 use Rattle.gp_instance.specs.declared.instance.InstancesFault.{InstancesFault}
 use Rattle.gp_instance.specs.declared.instance.InstancesFault.TheVariants.{TooMany}
-use Rattle.gp_instance.specs.Atoms.{atoms_of}
+use Rattle.gp_property.specs.Atoms.{atoms_of}
 use Rattle.gp_instance.specs.Instance.{is_instance}
 
 -- the ids of these events of a thread, the first of which has this index
@@ -31,7 +31,7 @@ lists_of zero elements = [] ∷ []
 lists_of (suc more) elements = flat_map (λ first. map (λ rest. first ∷ rest) (lists_of more elements)) elements
 
 -- the instances of a property in a window, in lexicographic order, each once
-abbrev pub instances_of : WindowForm → Property → List (List EventId)
+abbrev pub instances_of : WindowForm → PropertyForm → List (List EventId)
 instances_of window property =
     filter (is_instance window property) (lists_of (length (atoms_of property)) (ids_of window.segments))
 
@@ -44,5 +44,5 @@ abbrev pub unless_too_many : ℕ → List (List EventId) → Result (List Instan
 unless_too_many number found = if nat_lt 10000 (length found) then Err TooMany else Ok (map (numbered number) found)
 
 -- what listing the instances of the property of this number gives
-unfoldable pub due_instances : WindowForm → Property → ℕ → Result (List Instance) InstancesFault
+unfoldable pub due_instances : WindowForm → PropertyForm → ℕ → Result (List Instance) InstancesFault
 due_instances window property number = unless_too_many number (instances_of window property)

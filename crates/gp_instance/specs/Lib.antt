@@ -1,4 +1,3 @@
-pub mod Atoms
 pub mod Shape
 pub mod Region
 pub mod Pairs
@@ -6,5 +5,7 @@ pub mod Instance
 pub mod Instances
 pub mod Matches
 pub mod Search
+pub mod Partners
+pub mod Threads
 pub mod Listed
 pub mod Rows

@@ -3,7 +3,7 @@ use Rattle.std.specs.Prelude.{◌≡◌, ◌↔◌, ◌<◌, ◌⊎◌, true, Li
 use Rattle.std.specs.List.{AllByRecursion}
 use Rattle.gp_window.specs.declared.schedule.EventId.{EventId}
 use Rattle.gp_window.specs.WindowForm.{WindowForm}
-use Rattle.gp_property.specs.declared.property.Property.{Property}
+use Rattle.gp_property.specs.PropertyForm.{PropertyForm}
 use Rattle.gp_instance.specs.Instance.{is_instance}
 use Rattle.gp_instance.specs.Instances.{instances_of}
 
@@ -25,6 +25,6 @@ EachBefore before (first ∷ rest) = AllByRecursion (before first) rest × EachB
 
 -- the list has exactly the instances, and each stands before those that follow it
 pub record ListsExactly : Type 0 where
-  pub all : (window : WindowForm) (property : Property) (ids : List EventId)
+  pub all : (window : WindowForm) (property : PropertyForm) (ids : List EventId)
       → Contains (instances_of window property) ids ↔ (is_instance window property ids ≡ true)
-  pub ordered : (window : WindowForm) (property : Property) → EachBefore IsBefore (instances_of window property)
+  pub ordered : (window : WindowForm) (property : PropertyForm) → EachBefore IsBefore (instances_of window property)

@@ -3,12 +3,8 @@ use Rattle.std.specs.Prelude.{ℕ, Bool, true, false, ◌==◌, ◌&&◌, ◌||�
 use Rattle.std.specs.List.{list_all, list_any}
 use Rattle.gp_window.specs.declared.schedule.EventId.{EventId}
 use Rattle.gp_property.specs.declared.property.PatternStep.{PatternStep}
-use Rattle.gp_property.specs.declared.property.Property.{Property}
+use Rattle.gp_property.specs.PropertyForm.{PropertyForm}
 use Rattle.gp_instance.specs.Instance.{is_same}
-
--- the number of atoms of a pattern
-abbrev pub atom_count : List PatternStep → ℕ
-atom_count pattern = sum_by (λ step. length step.atoms) pattern
 
 -- the events of an instance by step
 abbrev pub groups_of : List PatternStep → List EventId → List (List EventId)
@@ -53,7 +49,7 @@ stands_together group [] = begins_with_group group []
 stands_together group (first ∷ rest) = begins_with_group group (first ∷ rest) || stands_together group rest
 
 -- a schedule, in which no event stands twice, matches the events of an instance, one for each atom
-abbrev pub matches_events : Property → List EventId → List EventId → Bool
+abbrev pub matches_events : PropertyForm → List EventId → List EventId → Bool
 matches_events property events schedule =
     list_all (is_among schedule) events
     && follow schedule [] (groups_of property.pattern events)

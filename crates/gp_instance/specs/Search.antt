@@ -5,9 +5,10 @@ use Rattle.std.specs.List.{list_all, list_any, flat_map}
 use Rattle.std.specs.Str.{bytes_eq}
 use Rattle.gp_trace.specs.declared.event.Event.{Event}
 use Rattle.gp_window.specs.declared.schedule.EventId.{EventId}
-use Rattle.gp_instance.specs.declared.atom.PatternAtom.{PatternAtom}
+use Rattle.gp_property.specs.declared.atoms.PatternAtom.{PatternAtom}
 use Rattle.gp_instance.specs.declared.chosen.Chosen.{Chosen}
-use Rattle.gp_instance.specs.Instance.{agree, bindings, choice_of, closes, is_at, is_like_atom, is_same, is_same_mark, segment_of}
+use Rattle.gp_instance.specs.Instance.{agree, bindings, choice_of, closes, is_at, is_like_atom, is_same, is_same_mark}
+use Rattle.gp_window.specs.Events.{segment_in}
 use Rattle.gp_instance.specs.declared.instance.Instance.{Instance}
 use Rattle.gp_instance.specs.Instances.{ids_of, numbered}
 use Rattle.gp_instance.specs.Pairs.{all_pairs}
@@ -23,7 +24,7 @@ is_candidate segments atom id =
 -- where the region ends that this event opens for an atom that opens one
 abbrev pub end_if_opened : List (List Event) → Option ℕ → EventId → Option ℕ
 end_if_opened segments None id = None
-end_if_opened segments (Some n) id = end_of (segment_of segments id.thread) id.index
+end_if_opened segments (Some n) id = end_of (segment_in segments id.thread) id.index
 
 -- an event that was chosen for an atom, with what later choices are tested against
 abbrev pub chosen_of : List (List Event) → PatternAtom → EventId → Chosen
@@ -109,30 +110,11 @@ first_instances found more = take 10001 (found ++ more)
 abbrev pub agrees_along : List ℕ × List ℕ → List Term → List (List ℕ) → Bool
 agrees_along binding terms names = list_all (λ pair. list_all (agree binding) (binding_of pair)) (zip terms names)
 
+-- from these events of each atom the search finds what it finds from those
+abbrev pub FindsSame : List (List Event) → List PatternAtom → List (List EventId) → List (List EventId) → Type 0
+FindsSame segments atoms due left = (search segments atoms left ≡ search segments atoms due) × (length left ≡ length atoms)
+
 -- these events are left for the atoms; nothing is left only where no list completes the choices before
 abbrev pub Leaves : List (List Event) → List PatternAtom → List (List EventId) → Option (List (List EventId)) → Type 0
 Leaves segments atoms due None = search segments atoms due ≡ []
-Leaves segments atoms due (Some left) = (left ≡ due) × (length left ≡ length atoms)
-
--- a variable and its thread are equal to these, or both differ
-abbrev pub is_apt : List ℕ × ℕ → List ℕ → ℕ → Bool
-is_apt pair variable thread = if bytes_eq pair.0 variable then pair.1 == thread else not (pair.1 == thread)
-
--- a thread may be given to a thread variable beside those that were given before
-abbrev pub may_give : List (List ℕ × ℕ) → List ℕ → ℕ → Bool
-may_give given variable thread = list_all (λ pair. is_apt pair variable thread) given
-
--- threads can be given to the thread variables of the atoms, each that of one of the atom's events
-abbrev pub threads_fit : List (List ℕ × ℕ) → List PatternAtom → List (List EventId) → Bool
-threads_fit given [] domains = true
-threads_fit given (atom ∷ atoms) [] = true
-threads_fit given (atom ∷ atoms) (ids ∷ domains) =
-    list_any (λ id. may_give given atom.thread_var id.thread && threads_fit ((atom.thread_var, id.thread) ∷ given) atoms domains) ids
-
--- this thread can be given to the variable, and others to those of later atoms
-abbrev pub thread_fits : List (List ℕ × ℕ) → List ℕ → List PatternAtom → List (List EventId) → ℕ → Bool
-thread_fits given variable atoms domains thread = may_give given variable thread && threads_fit ((variable, thread) ∷ given) atoms domains
-
--- the events of each atom, where threads can be given to the thread variables
-abbrev pub where_threads_fit : List PatternAtom → List (List EventId) → Option (List (List EventId))
-where_threads_fit atoms domains = if threads_fit [] atoms domains then Some domains else None
+Leaves segments atoms due (Some left) = FindsSame segments atoms due left

@@ -48,11 +48,10 @@ names_of (event.Read name value) = name ∷ []
 names_of (event.Write name value) = name ∷ []
 names_of (event.Acquire name) = name ∷ []
 names_of (event.Release name) = name ∷ []
-names_of (event.Start thread) = []
-names_of (event.Join thread) = []
 names_of (event.Op name objects) = objects
 names_of (event.Begin name) = name ∷ []
 names_of (event.End name) = name ∷ []
+names_of other = []
 
 -- the event is of the shape's kind, with its value, thread or operation
 abbrev pub is_kind : Shape → Event → Bool

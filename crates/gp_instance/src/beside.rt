@@ -5,13 +5,11 @@ ghost use Rattle.gp_instance.specs.Instance.{agree, bindings_with, closes, is_at
 ghost use Rattle.gp_instance.specs.Search.{agrees_along, all_agree, ends_region, keeps_thread, may_stand, narrowed, opens_region, rises_from, unless_dead};
 ghost use Rattle.gp_instance.specs.Shape.{binding_of};
 
-use crate::atom::PatternAtom;
-use crate::candidate::{agree, event_at, keep_id, segment_of};
+use crate::candidate::{agree, keep_id};
 use crate::chosen::Chosen;
-use crate::matching::is_same;
-use crate::region::end_of;
+use crate::segments::Segments;
 use crate::shape::{names_of, terms_of};
-use gp_property::{Shape, Term};
+use gp_property::{PatternAtom, Shape, Term};
 use gp_text::{Name, Row};
 use gp_trace::Event;
 use gp_window::EventId;
@@ -20,8 +18,7 @@ use std::alloc::{AllocError, Global};
 /// For each later atom those of its events that may stand beside the chosen one, `None` where an
 /// atom has none left.
 pub fn narrowed(
-    alloc: Global,
-    segments: &[Row<Event>],
+    segments: &Segments,
     chosen: &Chosen,
     atoms: &[PatternAtom],
     domains: &[Row<EventId>],
@@ -29,9 +26,10 @@ pub fn narrowed(
     requires { length domains.now ≡ length atoms.now }
     ensures { IfOk result (λ kept. kept ≡ unless_dead (narrowed segments.now chosen.now atoms.now domains.now)) }
 {
+    let alloc = segments.alloc();
     let mut kept = Row::new(alloc);
     for (place, atom) in atoms.iter().enumerate() {
-        let ids = beside(alloc, segments, chosen, atom, domains[place].as_slice())?;
+        let ids = beside(segments, chosen, atom, domains[place].as_slice())?;
         if ids.is_empty() {
             return Ok(None);
         }
@@ -41,14 +39,14 @@ pub fn narrowed(
 }
 
 fn beside(
-    alloc: Global,
-    segments: &[Row<Event>],
+    segments: &Segments,
     chosen: &Chosen,
     atom: &PatternAtom,
     ids: &[EventId],
 ) -> Result<Row<EventId>, AllocError>
     ensures { IfOk result (λ kept. kept ≡ filter (may_stand segments.now chosen.now atom.now) ids.now) }
 {
+    let alloc = segments.alloc();
     let mut kept = Row::new(alloc);
     for id in ids {
         let keep = may_stand(segments, chosen, atom, *id);
@@ -59,26 +57,22 @@ fn beside(
 
 /// Whether an event of a later atom may stand beside the chosen one.
 #[tactic(auto, unfolding(crate::specs::Search::may_stand))]
-fn may_stand(segments: &[Row<Event>], chosen: &Chosen, atom: &PatternAtom, id: EventId) -> bool
+fn may_stand(segments: &Segments, chosen: &Chosen, atom: &PatternAtom, id: EventId) -> bool
     ensures { result ≡ may_stand segments.now chosen.now atom.now id }
 {
     keeps_thread(chosen, atom, id)
-        && !is_same(chosen.id, id)
+        && chosen.id != id
         && rises_from(chosen, atom, id)
         && ends_region(chosen, atom, id)
         && opens_region(segments, chosen, atom, id)
-        && all_agree(
-            chosen.bindings.as_slice(),
-            &atom.shape,
-            event_at(segments, id),
-        )
+        && all_agree(chosen.bindings.as_slice(), &atom.shape, segments.event(id))
 }
 
 fn keeps_thread(chosen: &Chosen, atom: &PatternAtom, id: EventId) -> bool
     ensures { result ≡ keeps_thread chosen.now atom.now id }
 {
     let same = chosen.id.thread == id.thread;
-    if chosen.thread_var.as_bytes() == atom.thread_var.as_bytes() {
+    if chosen.thread_var == atom.thread_var {
         same
     } else {
         !same
@@ -98,23 +92,20 @@ fn ends_region(chosen: &Chosen, atom: &PatternAtom, id: EventId) -> bool
         || (chosen.id.thread == id.thread && is_at(chosen.region_end, id.index))
 }
 
-fn opens_region(segments: &[Row<Event>], chosen: &Chosen, atom: &PatternAtom, id: EventId) -> bool
+fn opens_region(segments: &Segments, chosen: &Chosen, atom: &PatternAtom, id: EventId) -> bool
     ensures { result ≡ opens_region segments.now chosen.now atom.now id }
 {
     !is_same_mark(atom.opens, chosen.closes) || closes(segments, id, chosen.id)
 }
 
-fn closes(segments: &[Row<Event>], begin: EventId, end: EventId) -> bool
+fn closes(segments: &Segments, begin: EventId, end: EventId) -> bool
     ensures { result ≡ closes segments.now begin end }
 {
-    begin.thread == end.thread
-        && is_at(
-            end_of(segment_of(segments, begin.thread), begin.index as usize),
-            end.index,
-        )
+    begin.thread == end.thread && is_at(segments.end_of(begin), end.index)
 }
 
-fn is_same_mark(one: Option<u8>, other: Option<u8>) -> bool
+/// Whether two marks have the same number.
+pub fn is_same_mark(one: Option<u8>, other: Option<u8>) -> bool
     ensures { result ≡ is_same_mark one other }
 {
     match (one, other) {
@@ -133,12 +124,12 @@ fn is_at(found: Option<usize>, index: u32) -> bool
 }
 
 /// Whether the parameters of a shape stand for the same names in its event as these.
-fn all_agree(bindings: &[(Name, Name)], shape: &Option<Shape>, event: Option<&Event>) -> bool
+fn all_agree(bindings: &[(Name, Name)], shape: &Shape, event: Option<&Event>) -> bool
     ensures { result ≡ all_agree bindings.now (bindings_with shape.now (option_copied event.entry)) }
 {
-    match (shape, event) {
-        (Some(shape), Some(event)) => each_agrees(bindings, terms_of(shape), names_of(event)),
-        _ => true,
+    match event {
+        Some(event) => each_agrees(bindings, terms_of(shape), names_of(event)),
+        None => true,
     }
 }
 

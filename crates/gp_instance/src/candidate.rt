@@ -1,15 +1,15 @@
 ghost use Rattle.std.specs.Prelude.{◌≡◌, ◌++◌, ◌<◌, ◌^◌, filter, map, if◌then◌else◌, ◌∷◌, [], IfOk, OnOk, length};
 ghost use Rattle.std.specs.List.{list_all};
 ghost use Rattle.std.specs.Option.{option_copied};
-ghost use Rattle.gp_instance.specs.Instance.{bindings_with, event_at, fits_shape, segment_of};
+ghost use Rattle.gp_instance.specs.Instance.{bindings_with, fits_shape};
 ghost use Rattle.gp_instance.specs.Instances.{ids_from, ids_in, ids_of};
 ghost use Rattle.gp_instance.specs.Pairs.{all_pairs};
 ghost use Rattle.gp_instance.specs.Instance.{agree};
-ghost use Rattle.gp_instance.specs.Search.{AreSmall, candidates_of, is_candidate, unless_dead};
+ghost use Rattle.gp_instance.specs.Search.{candidates_of, is_candidate, unless_dead};
 
-use crate::atom::PatternAtom;
+use crate::segments::Segments;
 use crate::shape::{bindings_of, has_shape};
-use gp_property::Shape;
+use gp_property::{PatternAtom, Shape};
 use gp_text::{Name, Row};
 use gp_trace::Event;
 use gp_window::EventId;
@@ -17,16 +17,15 @@ use std::alloc::{AllocError, Global};
 
 /// For each atom the events that it may stand for by itself, `None` where an atom has none.
 pub fn candidates(
-    alloc: Global,
-    segments: &[Row<Event>],
+    segments: &Segments,
     atoms: &[PatternAtom],
 ) -> Result<Option<Row<Row<EventId>>>, AllocError>
-    requires { AreSmall segments.now }
     ensures { IfOk result (λ domains. domains ≡ unless_dead (map (candidates_of segments.now) atoms.now)) }
 {
+    let alloc = segments.alloc();
     let mut domains = Row::new(alloc);
     for atom in atoms {
-        let ids = candidates_of(alloc, segments, atom)?;
+        let ids = candidates_of(segments, atom)?;
         if ids.is_empty() {
             return Ok(None);
         }
@@ -35,26 +34,22 @@ pub fn candidates(
     Ok(Some(domains))
 }
 
-fn candidates_of(
-    alloc: Global,
-    segments: &[Row<Event>],
-    atom: &PatternAtom,
-) -> Result<Row<EventId>, AllocError>
-    requires { AreSmall segments.now }
+fn candidates_of(segments: &Segments, atom: &PatternAtom) -> Result<Row<EventId>, AllocError>
     ensures { IfOk result (λ ids. ids ≡ candidates_of segments.now atom.now) }
 {
+    let alloc = segments.alloc();
     let mut ids = Row::new(alloc);
-    for (place, segment) in segments.iter().enumerate() {
+    let threads = segments.threads();
+    for (place, segment) in threads.iter().enumerate() {
         let thread = place as u32 + 1;
-        add_candidates(alloc, segments, atom, thread, segment.as_slice(), &mut ids)?;
+        add_candidates(segments, atom, thread, segment.as_slice(), &mut ids)?;
     }
     Ok(ids)
 }
 
 /// Adds those of a thread's events that the atom may stand for by itself.
 fn add_candidates(
-    alloc: Global,
-    segments: &[Row<Event>],
+    segments: &Segments,
     atom: &PatternAtom,
     thread: u32,
     segment: &[Event],
@@ -68,7 +63,7 @@ fn add_candidates(
             thread,
             index: index as u32,
         };
-        let keep = is_candidate(alloc, segments, atom, id)?;
+        let keep = is_candidate(segments, atom, id)?;
         keep_id(ids, id, keep)?;
     }
     Ok(())
@@ -85,15 +80,11 @@ pub fn keep_id(ids: &mut Row<EventId>, id: EventId, keep: bool) -> Result<(), Al
 }
 
 #[tactic(auto, unfolding(crate::specs::Search::is_candidate))]
-fn is_candidate(
-    alloc: Global,
-    segments: &[Row<Event>],
-    atom: &PatternAtom,
-    id: EventId,
-) -> Result<bool, AllocError>
+fn is_candidate(segments: &Segments, atom: &PatternAtom, id: EventId) -> Result<bool, AllocError>
     ensures { IfOk result (λ kept. kept ≡ is_candidate segments.now atom.now id) }
 {
-    let event = event_at(segments, id);
+    let alloc = segments.alloc();
+    let event = segments.event(id);
     if !fits_shape(&atom.shape, event) {
         return Ok(false);
     }
@@ -101,46 +92,26 @@ fn is_candidate(
     Ok(all_pairs_agree(bindings.as_slice()))
 }
 
-/// The event that an id names, where there is one.
-pub fn event_at(segments: &[Row<Event>], id: EventId) -> Option<&Event>
-    ensures { option_copied result ≡ event_at segments.now id }
-{
-    segment_of(segments, id.thread).get(id.index as usize)
-}
-
-/// The events of the thread of this number, from 1.
-pub fn segment_of(segments: &[Row<Event>], thread: u32) -> &[Event]
-    ensures { result.now ≡ segment_of segments.now thread }
-{
-    if thread == 0 {
-        return &[];
-    }
-    match segments.get(thread as usize - 1) {
-        Some(segment) => segment.as_slice(),
-        None => &[],
-    }
-}
-
-fn fits_shape(shape: &Option<Shape>, event: Option<&Event>) -> bool
+fn fits_shape(shape: &Shape, event: Option<&Event>) -> bool
     ensures { result ≡ fits_shape shape.now (option_copied event.entry) }
 {
-    match (shape, event) {
-        (Some(shape), Some(event)) => has_shape(shape, event),
-        _ => false,
+    match event {
+        Some(event) => has_shape(shape, event),
+        None => false,
     }
 }
 
 /// What the parameters of an atom's shape stand for in its event.
 pub fn bindings_with(
     alloc: Global,
-    shape: &Option<Shape>,
+    shape: &Shape,
     event: Option<&Event>,
 ) -> Result<Row<(Name, Name)>, AllocError>
     ensures { IfOk result (λ bindings. bindings ≡ bindings_with shape.now (option_copied event.entry)) }
 {
-    match (shape, event) {
-        (Some(shape), Some(event)) => bindings_of(alloc, shape, event),
-        _ => Ok(Row::new(alloc)),
+    match event {
+        Some(event) => bindings_of(alloc, shape, event),
+        None => Ok(Row::new(alloc)),
     }
 }
 
@@ -166,5 +137,5 @@ fn agree_with(one: &(Name, Name), others: &[(Name, Name)]) -> bool
 pub fn agree(one: &(Name, Name), other: &(Name, Name)) -> bool
     ensures { result ≡ agree one.now other.now }
 {
-    one.0.as_bytes() != other.0.as_bytes() || one.1.as_bytes() == other.1.as_bytes()
+    one.0 != other.0 || one.1 == other.1
 }

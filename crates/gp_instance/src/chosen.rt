@@ -1,13 +1,12 @@
 ghost use Rattle.std.specs.Prelude.{◌≡◌, IfOk};
 ghost use Rattle.gp_instance.specs.Search.{chosen_of, end_if_opened};
 
-use crate::atom::PatternAtom;
-use crate::candidate::{bindings_with, event_at, segment_of};
-use crate::region::end_of;
+use crate::candidate::bindings_with;
+use crate::segments::Segments;
+use gp_property::PatternAtom;
 use gp_text::{Name, Row};
-use gp_trace::Event;
 use gp_window::EventId;
-use std::alloc::{AllocError, Global};
+use std::alloc::AllocError;
 
 /// An event that was chosen for an atom, with what the events of later atoms are tested against.
 #[derive(Debug, Drop)]
@@ -24,30 +23,26 @@ pub struct Chosen {
 }
 
 /// This event, chosen for the atom.
-pub fn chosen_of(
-    alloc: Global,
-    segments: &[Row<Event>],
-    atom: &PatternAtom,
-    id: EventId,
-) -> Result<Chosen, AllocError>
+pub fn chosen_of(segments: &Segments, atom: &PatternAtom, id: EventId) -> Result<Chosen, AllocError>
     ensures { IfOk result (λ chosen. chosen ≡ chosen_of segments.now atom.now id) }
 {
+    let alloc = segments.alloc();
     Ok(Chosen {
         step: atom.step,
         thread_var: atom.thread_var,
         opens: atom.opens,
         closes: atom.closes,
         id,
-        bindings: bindings_with(alloc, &atom.shape, event_at(segments, id))?,
+        bindings: bindings_with(alloc, &atom.shape, segments.event(id))?,
         region_end: end_if_opened(segments, atom.opens, id),
     })
 }
 
-fn end_if_opened(segments: &[Row<Event>], opens: Option<u8>, id: EventId) -> Option<usize>
+fn end_if_opened(segments: &Segments, opens: Option<u8>, id: EventId) -> Option<usize>
     ensures { result ≡ end_if_opened segments.now opens id }
 {
     match opens {
-        Some(_) => end_of(segment_of(segments, id.thread), id.index as usize),
+        Some(_) => segments.end_of(id),
         None => None,
     }
 }

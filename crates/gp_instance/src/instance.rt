@@ -2,9 +2,9 @@ ghost use Rattle.std.specs.Prelude.{◌≡◌, ◌≢◌, [], map, Err, IfOk};
 ghost use Rattle.gp_instance.specs.Instances.{due_instances, numbered};
 ghost use Rattle.gp_instance.specs.Search.{candidates_of, first_instances, search};
 
-use crate::atom::{PatternAtom, atoms_of};
 use crate::search::{first_domains, search};
-use gp_property::Property;
+use crate::segments::Segments;
+use gp_property::{PatternAtom, Property, atoms_of};
 use gp_text::Row;
 use gp_window::{EventId, Window};
 use std::alloc::{AllocError, Global};
@@ -46,10 +46,12 @@ impl From<AllocError> for InstancesFault {
 /// All instances of a property in a window, in lexicographic order of their events by thread and
 /// index; `number` is the number of the property.
 ///
-/// This is a depth-first search with forward checking: after each choice every later atom keeps only
-/// the events that may stand beside those chosen, and a choice after which an atom has none left, or
-/// the thread variables no threads, is given up at once. It stops one instance past the limit. For n
-/// events and a pattern of k atoms the worst case is still of the order of n to the power of k.
+/// This is a depth-first search with forward checking, over events that have partners: before it each
+/// two atoms lose the events whose thread, place, region and parameters no event of the other fits, in
+/// the order of n log n for n events. After each choice every later atom keeps only the events that
+/// may stand beside those chosen, and a choice is given up at once after which an atom has none left,
+/// or some thread variables have fewer threads in all than they are. It stops one instance past the
+/// limit. For a pattern of k atoms the worst case is still of the order of n to the power of k.
 pub fn instances(
     alloc: Global,
     window: &Window,
@@ -76,11 +78,10 @@ fn found(
     ensures { IfOk result (λ found. found ≡ first_instances [] (map (numbered number) (search window.now.segments atoms.now (map (candidates_of window.now.segments) atoms.now)))) }
 {
     let mut found = Row::new(alloc);
-    let segments = window.segments();
-    if let Some(domains) = first_domains(alloc, segments, atoms)? {
+    let segments = Segments::new(alloc, window)?;
+    if let Some(domains) = first_domains(&segments, atoms)? {
         search(
-            alloc,
-            segments,
+            &segments,
             number,
             atoms,
             domains.as_slice(),

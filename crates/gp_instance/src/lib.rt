@@ -3,25 +3,31 @@
 //
 // An instance has one event of the window for each atom of the pattern, under six conditions: kinds,
 // names and constants; parameters; threads; regions; no event twice; and the order of each thread.
-// `instances` lists all of them in lexicographic order, by a search that chooses the events atom by
-// atom and keeps for each later atom the events that may still stand beside those chosen; it gives a
-// choice up where an atom has none left, or where no threads are left for the thread variables. `matches`
-// says whether the events of an instance stand in a schedule as the pattern wants: step after step,
-// and those of a group next to one another.
+// `instances` lists all of them in lexicographic order. First each atom's events lose those that have
+// no partner among another atom's, by thread, place, region and parameters. Then a search chooses the
+// events atom by atom and keeps for each later atom the events that may still stand beside those
+// chosen; it gives a choice up where an atom has none left, or where some thread variables have fewer
+// threads in all than they are. `matches` says whether the events of an instance stand in a schedule
+// as the pattern wants: step after step, and those of a group next to one another.
 #![tactic(auto)]
 
-mod atom;
 mod beside;
 mod candidate;
 mod chosen;
 mod instance;
+mod key;
 mod laws;
+mod link;
 mod matching;
+mod partners;
 mod region;
 mod search;
+mod segments;
 mod shape;
+mod span;
 #[cfg(test)]
 mod tests;
+mod thinning;
 mod threads;
 
 pub use instance::{Instance, InstancesFault, MOST_INSTANCES, instances};

@@ -1,7 +1,8 @@
 ghost use Rattle.std.specs.Prelude.{◌≡◌, ◌↔◌, [], length, IsTrue};
 ghost use Rattle.std.specs.List.{list_all};
 ghost use Rattle.gp_instance.specs.Instance.{is_same};
-ghost use Rattle.gp_instance.specs.Matches.{all_before, atom_count, begins_with_group, follow, groups_of, is_among, is_before, is_before_all, matches_events, place_of, stands_together};
+ghost use Rattle.gp_property.specs.Atoms.{atom_count};
+ghost use Rattle.gp_instance.specs.Matches.{all_before, begins_with_group, follow, groups_of, is_among, is_before, is_before_all, matches_events, place_of, stands_together};
 
 use crate::instance::Instance;
 use gp_property::{PatternStep, Property};
@@ -12,7 +13,7 @@ pub fn is_one_for_each(property: &Property, instance: &Instance) -> bool
     ensures { IsTrue result ↔ (length instance.now.events ≡ atom_count property.now.pattern) }
 {
     let mut left = instance.events.len();
-    for step in property.pattern.as_slice() {
+    for step in property.pattern() {
         if step.atoms.len() > left {
             return false;
         }
@@ -28,7 +29,7 @@ pub fn matches(property: &Property, instance: &Instance, schedule: &Schedule) ->
     requires { length instance.now.events ≡ atom_count property.now.pattern }
     ensures { result ≡ matches_events property.now instance.now.events schedule.now.events }
 {
-    let pattern = property.pattern.as_slice();
+    let pattern = property.pattern();
     let events = instance.events.as_slice();
     let schedule = schedule.events.as_slice();
     all_among(schedule, events)
@@ -45,14 +46,7 @@ fn all_among(schedule: &[EventId], events: &[EventId]) -> bool
 fn is_among(events: &[EventId], id: EventId) -> bool
     ensures { result ≡ is_among events.now id }
 {
-    events.iter().any(|other| is_same(*other, id))
-}
-
-/// Whether two ids name one event.
-pub fn is_same(one: EventId, other: EventId) -> bool
-    ensures { result ≡ is_same one other }
-{
-    one.thread == other.thread && one.index == other.index
+    events.iter().any(|other| *other == id)
 }
 
 /// Whether the steps follow one another in the schedule.
@@ -90,7 +84,7 @@ fn is_before_all(schedule: &[EventId], one: EventId, later: &[EventId]) -> bool
 fn place_of(schedule: &[EventId], id: EventId) -> Option<usize>
     ensures { result ≡ place_of schedule.now id }
 {
-    schedule.iter().position(|other| is_same(*other, id))
+    schedule.iter().position(|other| *other == id)
 }
 
 fn is_before(earlier: Option<usize>, later: Option<usize>) -> bool

@@ -1,61 +1,44 @@
-ghost use Rattle.std.specs.Prelude.{◌≡◌, ◌+◌, ◌<◌, ◌^◌, cond, length, position, IfSome};
-ghost use Rattle.gp_instance.specs.Region.{end_behind, end_of, fronts, is_begin, is_end, is_level};
+ghost use Rattle.std.specs.Prelude.{◌≡◌, IfOk, OnOk};
+ghost use Rattle.gp_instance.specs.Region.{end_at, ends_of, waiting_at};
 
+use gp_text::Row;
 use gp_trace::Event;
+use std::alloc::{AllocError, Global};
+use std::collections::VecDeque;
 
-/// The index of the end that closes the region begun at this index of a segment.
-pub fn end_of(segment: &[Event], index: usize) -> Option<usize>
-    ensures { result ≡ end_of segment.now index }
+/// For each event of a segment the index of the end that closes the region that it begins.
+///
+/// This is one walk from the last event to the first. The ends whose begins are still to come wait,
+/// the nearest first; since regions nest, a begin takes the nearest.
+pub fn ends_of(alloc: Global, segment: &[Event]) -> Result<Row<Option<usize>>, AllocError>
+    ensures { IfOk result (λ ends. ends ≡ ends_of segment.now) }
 {
-    if index >= segment.len() {
-        return None;
+    let mut waiting = VecDeque::new(alloc);
+    let mut ends = Vec::new(alloc);
+    for behind in 0..segment.len() {
+        let index = segment.len() - 1 - behind;
+        let end = take_end(&segment[index], index, &mut waiting)?;
+        ends.push(end)?;
     }
-    let behind = end_behind(&segment[index..])?;
-    Some(index + behind)
+    ends.reverse();
+    Ok(Row::from_vec(ends))
 }
 
-fn end_behind(events: &[Event]) -> Option<usize>
-    ensures end { result ≡ end_behind events.now }
-    ensures within { IfSome result (λ behind. behind < length events.now) }
+/// The end that an event takes of those that wait, and the ends that wait before it.
+fn take_end(
+    event: &Event,
+    index: usize,
+    waiting: &mut VecDeque<usize>,
+) -> Result<Option<usize>, AllocError>
+    ensures end { IfOk result (λ end. end ≡ end_at event.now waiting.old.items) }
+    ensures waiting { OnOk result (waiting.new.items ≡ waiting_at event.now index waiting.old.items) }
 {
-    match events {
-        [Event::Begin(_), ..] => first_level(events),
-        _ => None,
-    }
-}
-
-fn is_begin(event: &Event) -> bool
-    ensures { result ≡ is_begin event.now }
-{
-    matches!(event, Event::Begin(_))
-}
-
-fn is_end(event: &Event) -> bool
-    ensures { result ≡ is_end event.now }
-{
-    matches!(event, Event::End(_))
-}
-
-/// The first place up to which as many regions end as begin.
-fn first_level(events: &[Event]) -> Option<usize>
-    ensures first { result ≡ position is_level (fronts events.now) }
-    ensures within { IfSome result (λ place. place < length events.now) }
-{
-    let mut begun = 0;
-    let mut ended = 0;
-    for (place, event) in events.iter().enumerate() {
-        begun = counted(begun, is_begin(event));
-        ended = counted(ended, is_end(event));
-        if begun == ended {
-            return Some(place);
+    match event {
+        Event::Begin(_) => Ok(waiting.pop_front()),
+        Event::End(_) => {
+            waiting.push_front(index)?;
+            Ok(None)
         }
+        _ => Ok(None),
     }
-    None
-}
-
-fn counted(count: usize, one_more: bool) -> usize
-    requires { count < 2 ^ 63 }
-    ensures { result ≡ count + cond one_more 1 0 }
-{
-    if one_more { count + 1 } else { count }
 }

@@ -1,23 +1,24 @@
 ghost use Rattle.std.specs.Prelude.{◌≡◌, ◌++◌, ◌∷◌, [], ◌≤◌, length, map, IfOk, OnOk};
+ghost use Rattle.std.specs.List.{list_any};
 ghost use Rattle.gp_instance.specs.Instances.{numbered};
-ghost use Rattle.gp_instance.specs.Search.{AreSmall, Leaves, candidates_of, chosen_of, first_instances, instance_after, narrowed, search};
+ghost use Rattle.gp_instance.specs.Search.{Leaves, candidates_of, chosen_of, first_instances, instance_after, is_dead, narrowed, search, unless_dead};
 
-use crate::atom::PatternAtom;
 use crate::beside::narrowed;
 use crate::candidate::candidates;
 use crate::chosen::chosen_of;
 use crate::instance::{Instance, MOST_INSTANCES};
-use crate::threads::where_threads_fit;
+use crate::segments::Segments;
+use crate::thinning::thinned;
+use crate::threads::unless_crowded;
+use gp_property::PatternAtom;
 use gp_text::Row;
-use gp_trace::Event;
 use gp_window::EventId;
 use std::alloc::{AllocError, Global};
 
 /// Adds all instances that begin with the events of `front` and go on with events of each atom's
 /// domain, until there is one more than are listed.
 pub fn search(
-    alloc: Global,
-    segments: &[Row<Event>],
+    segments: &Segments,
     number: u32,
     atoms: &[PatternAtom],
     domains: &[Row<EventId>],
@@ -28,6 +29,7 @@ pub fn search(
     requires room { length found.old ≤ 10001 }
     ensures { OnOk result (found.new ≡ first_instances found.old (map (instance_after number front.now) (search segments.now atoms.now domains.now))) }
 {
+    let alloc = segments.alloc();
     let Some((atom, later)) = atoms.split_first() else {
         return add(alloc, number, front, found);
     };
@@ -39,10 +41,9 @@ pub fn search(
         if found.len() > MOST_INSTANCES {
             return Ok(());
         }
-        if let Some(left) = after_choice(alloc, segments, atom, *id, later, others)? {
+        if let Some(left) = after_choice(segments, atom, *id, later, others)? {
             let longer = extended(alloc, front, *id)?;
             search(
-                alloc,
                 segments,
                 number,
                 later,
@@ -55,25 +56,55 @@ pub fn search(
     Ok(())
 }
 
-/// For each atom the events that it may stand for by itself, `None` where that leaves no instance.
+/// For each atom the events with which the search begins, `None` where that leaves no instance.
 pub fn first_domains(
-    alloc: Global,
-    segments: &[Row<Event>],
+    segments: &Segments,
     atoms: &[PatternAtom],
 ) -> Result<Option<Row<Row<EventId>>>, AllocError>
-    requires { AreSmall segments.now }
     ensures { IfOk result (λ left. Leaves segments.now atoms.now (map (candidates_of segments.now) atoms.now) left) }
 {
-    match candidates(alloc, segments, atoms)? {
-        Some(domains) => where_threads_fit(alloc, atoms, domains),
+    let alloc = segments.alloc();
+    match thin_candidates(segments, atoms)? {
+        Some(domains) => unless_crowded(alloc, atoms, domains),
         None => Ok(None),
     }
 }
 
+/// For each atom the events that it may stand for by itself and that have partners, `None` where an
+/// atom has none.
+fn thin_candidates(
+    segments: &Segments,
+    atoms: &[PatternAtom],
+) -> Result<Option<Row<Row<EventId>>>, AllocError>
+    ensures { IfOk result (λ left. Leaves segments.now atoms.now (map (candidates_of segments.now) atoms.now) left) }
+{
+    let found = candidates(segments, atoms)?;
+    let Some(domains) = found else {
+        return Ok(None);
+    };
+    let thin = thinned(segments, atoms, domains)?;
+    Ok(unless_dead(thin))
+}
+
+/// The events of each atom, where each atom has one.
+fn unless_dead(domains: Row<Row<EventId>>) -> Option<Row<Row<EventId>>>
+    ensures { result ≡ unless_dead domains }
+{
+    if some_dead(domains.as_slice()) {
+        return None;
+    }
+    Some(domains)
+}
+
+fn some_dead(domains: &[Row<EventId>]) -> bool
+    ensures { result ≡ list_any is_dead domains.now }
+{
+    domains.iter().any(|ids| ids.is_empty())
+}
+
 /// What is left for each later atom after this choice, `None` where an atom has nothing left.
 fn after_choice(
-    alloc: Global,
-    segments: &[Row<Event>],
+    segments: &Segments,
     atom: &PatternAtom,
     id: EventId,
     later: &[PatternAtom],
@@ -82,9 +113,10 @@ fn after_choice(
     requires { length others.now ≡ length later.now }
     ensures { IfOk result (λ left. Leaves segments.now later.now (narrowed segments.now (chosen_of segments.now atom.now id) later.now others.now) left) }
 {
-    let chosen = chosen_of(alloc, segments, atom, id)?;
-    match narrowed(alloc, segments, &chosen, later, others)? {
-        Some(left) => where_threads_fit(alloc, later, left),
+    let alloc = segments.alloc();
+    let chosen = chosen_of(segments, atom, id)?;
+    match narrowed(segments, &chosen, later, others)? {
+        Some(left) => unless_crowded(alloc, later, left),
         None => Ok(None),
     }
 }

@@ -54,7 +54,7 @@ pub fn names_of(event: &Event) -> &[Name]
         Event::Begin(name) => slice::from_ref(name),
         Event::End(name) => slice::from_ref(name),
         Event::Op(_, objects) => objects.as_slice(),
-        Event::Start(_) | Event::Join(_) => &[],
+        _ => &[],
     }
 }
 
@@ -68,7 +68,7 @@ fn is_kind(shape: &Shape, event: &Event) -> bool
         (Shape::Release(_), Event::Release(_)) => true,
         (Shape::Start(thread), Event::Start(found)) => allows_thread(thread, *found),
         (Shape::Join(thread), Event::Join(found)) => allows_thread(thread, *found),
-        (Shape::Op(name, _), Event::Op(found, _)) => name.as_bytes() == found.as_bytes(),
+        (Shape::Op(name, _), Event::Op(found, _)) => name == found,
         (Shape::Begin(_), Event::Begin(_)) => true,
         (Shape::End(_), Event::End(_)) => true,
         _ => false,
@@ -112,7 +112,7 @@ fn allows(term: &Term, found: &Name) -> bool
     ensures { result ≡ allows term.now found.now }
 {
     match term {
-        Term::Is(name) => name.as_bytes() == found.as_bytes(),
+        Term::Is(name) => name == found,
         Term::Param(_) | Term::Any => true,
     }
 }

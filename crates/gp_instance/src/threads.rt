@@ -1,115 +1,137 @@
-ghost use Rattle.std.specs.Prelude.{◌≡◌, ◌∷◌, false, IfOk, IfSome};
-ghost use Rattle.gp_instance.specs.Search.{is_apt, may_give, thread_fits, threads_fit, where_threads_fit};
+ghost use Rattle.std.specs.Prelude.{◌≡◌, ◌++◌, ◌+◌, ◌<◌, ◌^◌, [], IfOk, OnOk, length};
+ghost use Rattle.gp_instance.specs.Threads.{few_threads, has_thread, is_crowded, is_given, set_part, thread_sets, threads_for, unless_crowded, with_thread, with_threads};
 
-use crate::atom::PatternAtom;
+use gp_property::PatternAtom;
 use gp_text::{Name, Row};
 use gp_window::EventId;
 use std::alloc::{AllocError, Global};
 
-/// The events of each atom, `None` where no threads can be given to the thread variables.
-pub fn where_threads_fit(
+/// The events of each atom, `None` where some of the thread variables have fewer threads in all than
+/// they are.
+pub fn unless_crowded(
     alloc: Global,
     atoms: &[PatternAtom],
     domains: Row<Row<EventId>>,
 ) -> Result<Option<Row<Row<EventId>>>, AllocError>
-    ensures { IfOk result (λ kept. kept ≡ where_threads_fit atoms.now domains) }
+    requires { length domains ≡ length atoms.now }
+    ensures { IfOk result (λ kept. kept ≡ unless_crowded atoms.now domains) }
 {
-    if threads_fit(alloc, &[], atoms, domains.as_slice())? {
-        Ok(Some(domains))
-    } else {
-        Ok(None)
+    let sets = thread_sets(alloc, atoms, domains.as_slice())?;
+    if is_crowded(alloc, sets.as_slice(), &[], 0)? {
+        return Ok(None);
     }
+    Ok(Some(domains))
 }
 
-/// Whether threads can be given to the thread variables of the atoms, beside those that were given
-/// before: equal threads to equal variables, different ones to different ones, and to each atom the
-/// thread of one of its events.
-#[cycle(threads)]
-fn threads_fit(
+/// The threads of each thread variable that has fewer than there are atoms. One that has more is
+/// never among too few.
+fn thread_sets(
     alloc: Global,
-    given: &[(Name, u32)],
     atoms: &[PatternAtom],
     domains: &[Row<EventId>],
-) -> Result<bool, AllocError>
-    ensures { IfOk result (λ fit. fit ≡ threads_fit given.now atoms.now domains.now) }
+) -> Result<Row<Row<u32>>, AllocError>
+    requires { length domains.now ≡ length atoms.now }
+    ensures { IfOk result (λ sets. sets ≡ thread_sets (length atoms.now) [] atoms.now domains.now) }
 {
-    let Some((atom, later)) = atoms.split_first() else {
-        return Ok(true);
-    };
-    let Some((ids, others)) = domains.split_first() else {
-        return Ok(true);
-    };
-    let ids = ids.as_slice();
-    let mut tried = None;
-    for id in ids {
-        if thread_fits(
-            alloc,
-            given,
-            &atom.thread_var,
-            id.thread,
-            tried,
-            later,
-            others,
-        )? {
-            return Ok(true);
-        }
-        tried = Some(id.thread);
+    let mut before = Row::new(alloc);
+    let mut sets = Row::new(alloc);
+    for (place, atom) in atoms.iter().enumerate() {
+        let ids = domains[place].as_slice();
+        let variables = before.as_slice();
+        let set = threads_for(alloc, atoms.len(), variables, &atom.thread_var, ids)?;
+        add_set(&mut sets, set)?;
+        before.push(atom.thread_var)?;
     }
-    Ok(false)
+    Ok(sets)
 }
 
-/// Whether this thread can be given to the variable, and others to the later ones. The thread that
-/// was tried before could not.
-#[cycle(threads)]
-fn thread_fits(
+fn add_set(sets: &mut Row<Row<u32>>, set: Option<Row<u32>>) -> Result<(), AllocError>
+    ensures { OnOk result (sets.new ≡ sets.old ++ set_part set) }
+{
+    match set {
+        Some(set) => sets.push(set),
+        None => Ok(()),
+    }
+}
+
+/// The threads of a variable that did not come before, where they are fewer than the limit.
+fn threads_for(
     alloc: Global,
-    given: &[(Name, u32)],
+    limit: usize,
+    before: &[Name],
     variable: &Name,
-    thread: u32,
-    tried: Option<u32>,
-    later: &[PatternAtom],
-    others: &[Row<EventId>],
-) -> Result<bool, AllocError>
-    requires { IfSome tried (λ before. thread_fits given.now variable.now later.now others.now before ≡ false) }
-    ensures { IfOk result (λ fit. fit ≡ thread_fits given.now variable.now later.now others.now thread) }
+    ids: &[EventId],
+) -> Result<Option<Row<u32>>, AllocError>
+    ensures { IfOk result (λ set. set ≡ threads_for limit before.now variable.now ids.now) }
 {
-    if tried == Some(thread) || !may_give(given, variable, thread) {
-        return Ok(false);
+    if is_given(before, variable) {
+        return Ok(None);
     }
-    let more = given_too(alloc, *variable, thread, given)?;
-    threads_fit(alloc, more.as_slice(), later, others)
+    few_threads(alloc, limit, ids)
 }
 
-fn may_give(given: &[(Name, u32)], variable: &Name, thread: u32) -> bool
-    ensures { result ≡ may_give given.now variable.now thread }
+fn is_given(before: &[Name], variable: &Name) -> bool
+    ensures { result ≡ is_given before.now variable.now }
 {
-    given.iter().all(|pair| is_apt(pair, variable, thread))
+    before.iter().any(|other| other == variable)
 }
 
-/// Whether a variable and its thread are equal to these or both differ.
-fn is_apt(pair: &(Name, u32), variable: &Name, thread: u32) -> bool
-    ensures { result ≡ is_apt pair.now variable.now thread }
+/// The threads of these events, where they are fewer than the limit.
+fn few_threads(alloc: Global, limit: usize, ids: &[EventId]) -> Result<Option<Row<u32>>, AllocError>
+    ensures { IfOk result (λ set. set ≡ few_threads limit [] ids.now) }
 {
-    let same = pair.1 == thread;
-    if pair.0.as_bytes() == variable.as_bytes() {
-        same
-    } else {
-        !same
+    let mut threads = Row::new(alloc);
+    for id in ids {
+        add_thread(&mut threads, id.thread)?;
+        if threads.len() >= limit {
+            return Ok(None);
+        }
     }
+    Ok(Some(threads))
 }
 
-fn given_too(
+fn add_thread(threads: &mut Row<u32>, thread: u32) -> Result<(), AllocError>
+    ensures { OnOk result (threads.new ≡ with_thread threads.old thread) }
+{
+    if has_thread(threads.as_slice(), thread) {
+        return Ok(());
+    }
+    threads.push(thread)
+}
+
+fn has_thread(threads: &[u32], thread: u32) -> bool
+    ensures { result ≡ has_thread threads.now thread }
+{
+    threads.iter().any(|other| *other == thread)
+}
+
+/// Whether some of these sets, and `count` more that have these threads, have fewer threads in all
+/// than they are.
+fn is_crowded(
     alloc: Global,
-    variable: Name,
-    thread: u32,
-    given: &[(Name, u32)],
-) -> Result<Row<(Name, u32)>, AllocError>
-    ensures { IfOk result (λ more. more ≡ (variable, thread) ∷ given.now) }
+    sets: &[Row<u32>],
+    threads: &[u32],
+    count: usize,
+) -> Result<bool, AllocError>
+    requires { count + length sets.now < 2 ^ 63 }
+    ensures { IfOk result (λ crowded. crowded ≡ is_crowded sets.now threads.now count) }
 {
-    let mut more = Row::new(alloc);
-    more.push((variable, thread))?;
-    for pair in given {
-        more.push(*pair)?;
+    let Some((set, rest)) = sets.split_first() else {
+        return Ok(threads.len() < count);
+    };
+    if is_crowded(alloc, rest, threads, count)? {
+        return Ok(true);
     }
-    Ok(more)
+    let more = with_threads(alloc, threads, set.as_slice())?;
+    is_crowded(alloc, rest, more.as_slice(), count + 1)
+}
+
+fn with_threads(alloc: Global, threads: &[u32], more: &[u32]) -> Result<Row<u32>, AllocError>
+    ensures { IfOk result (λ all. all ≡ with_threads threads.now more.now) }
+{
+    let mut all = Row::from_vec(Vec::from_slice(alloc, threads)?);
+    for thread in more {
+        add_thread(&mut all, *thread)?;
+    }
+    Ok(all)
 }

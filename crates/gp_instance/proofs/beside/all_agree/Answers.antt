@@ -6,13 +6,10 @@ use Rattle.gp_instance.proofs.Agreeing.{all_along}
 use Rattle.gp_instance.proofs.Pairs.{all_true}
 use Rattle.gp_instance.proofs.beside.all_agree.Goals as goal
 
-pub returns-in-Some-Some : goal.returns-in-Some-Some
-returns-in-Some-Some c =
-    rw (c.in-Some-Some.is-0, c.in-Some-Some.is-1)
-    (c.each_agrees.ensures ∙ all_along c.args.bindings.now c.terms_of.result.now c.names_of.result.now ∙ ap (λ terms. all_agree c.args.bindings.now (bindings_in terms c.names_of.result.now)) c.terms_of.ensures ∙ ap (λ names. all_agree c.args.bindings.now (bindings_in (terms_of c.in-Some-Some.shape) names)) c.names_of.ensures)
+pub returns-in-Some : goal.returns-in-Some
+returns-in-Some c =
+    rw c.in-Some.is
+    (c.each_agrees.ensures ∙ all_along c.args.bindings.now c.terms_of.result.now c.names_of.result.now ∙ ap (λ terms. all_agree c.args.bindings.now (bindings_in terms c.names_of.result.now)) c.terms_of.ensures ∙ ap (λ names. all_agree c.args.bindings.now (bindings_in (terms_of c.args.shape.now) names)) c.names_of.ensures)
 
-pub returns-in_default : goal.returns-in_default
-returns-in_default c = rw (c.in_default.is-0, c.in_default.is-1) (sym (all_true c.args.bindings.now))
-
-pub returns-in_default-2 : goal.returns-in_default-2
-returns-in_default-2 c = rw c.in_default.is-0 (sym (all_true c.args.bindings.now))
+pub returns-in-None : goal.returns-in-None
+returns-in-None c = rw c.in-None.is (sym (all_true c.args.bindings.now))

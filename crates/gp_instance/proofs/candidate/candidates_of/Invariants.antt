@@ -6,4 +6,4 @@ use Rattle.gp_instance.proofs.candidate.candidates_of.Given as goal
 
 abbrev pub invariant-loop-place : goal.invariant-loop-place
 invariant-loop-place l =
-    l.ids ++ filter (is_candidate l.segments l.atom) (ids_from (l.place + 1) (drop l.place l.segments)) ≡ filter (is_candidate l.segments l.atom) (ids_from 1 l.segments)
+    l.ids ++ filter (is_candidate l.segments l.atom) (ids_from (l.place + 1) (drop l.place l.threads)) ≡ filter (is_candidate l.segments l.atom) (ids_from 1 l.threads)

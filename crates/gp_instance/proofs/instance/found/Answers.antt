@@ -1,22 +1,19 @@
 -- The search begins with the candidates of each atom.
 use Rattle.std.proofs.Common.{◌∙◌}
 use Rattle.gp_instance.proofs.Limit.{begun, never_begun}
-use Rattle.gp_instance.proofs.Small.{small_window}
+use Rattle.gp_instance.proofs.Thin.{copy_finds}
 use Rattle.gp_instance.proofs.instance.found.Goals as goal
 use Rattle.gp_instance.proofs.instance.found.Goals.{in-Some+in_ok-search, in_default}
 
-pub first_domains-requires : goal.first_domains-requires
-first_domains-requires c = rw c.segments-segments.ensures.value (small_window c.args.window.now c.segments-segments.ensures.window)
-
 pub returns : goal.returns
 returns c =
-    let segments = c.segments-segments.result.now in
+    let segments = c.in_ok-segments.segments in
     let atoms = c.args.atoms.now in
-    elim c.match-branch-2.branch [
+    elim c.match-branch-3.branch [
       | in-Some+in_ok-search w ↦
           let same = rw w.in-Some.is at c.in_ok-domains.ensures in
-          w.found-is ∙ begun c.args.window.now.segments segments atoms c.args.number w.as_slice.result.now _ _ c.segments-segments.ensures.value (w.as_slice.ensures ∙ same.0) c.new-found.ensures w.in_ok-search.ensures
+          w.found-is ∙ begun c.args.window.now.segments segments atoms c.args.number w.as_slice.result.now _ _ c.in_ok-segments.ensures (copy_finds _ _ _ _ _ w.as_slice.ensures same) c.new-found.ensures w.in_ok-search.ensures
       | in_default w ↦
           let none = rw w.in_default.is at c.in_ok-domains.ensures in
-          w.found-is ∙ never_begun c.args.window.now.segments segments atoms c.args.number _ c.segments-segments.ensures.value none c.new-found.ensures
+          w.found-is ∙ never_begun c.args.window.now.segments segments atoms c.args.number _ c.in_ok-segments.ensures none c.new-found.ensures
     ]

@@ -1,5 +1,5 @@
 -- All instances are held, and all that is held is in order.
-use Rattle.gp_instance.specs.Atoms.{atoms_of}
+use Rattle.gp_property.specs.Atoms.{atoms_of}
 use Rattle.gp_instance.specs.Instance.{is_instance}
 use Rattle.gp_instance.specs.Instances.{ids_of, lists_of}
 use Rattle.gp_instance.specs.Listed.{IsBefore}

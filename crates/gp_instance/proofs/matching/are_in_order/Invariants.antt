@@ -1,5 +1,6 @@
 use Rattle.std.proofs.Common.{◌≡◌, [], drop, length}
-use Rattle.gp_instance.specs.Matches.{atom_count, follow, groups_of}
+use Rattle.gp_property.specs.Atoms.{atom_count}
+use Rattle.gp_instance.specs.Matches.{follow, groups_of}
 use Rattle.gp_instance.proofs.matching.are_in_order.Given as goal
 
 abbrev pub invariant-loop-step : goal.invariant-loop-step

@@ -1,5 +1,5 @@
 use Rattle.std.proofs.Common.{◌≡◌, ◌+◌, drop, length}
-use Rattle.gp_instance.specs.Matches.{atom_count}
+use Rattle.gp_property.specs.Atoms.{atom_count}
 use Rattle.gp_instance.proofs.matching.is_one_for_each.Given as goal
 
 abbrev pub invariant-loop-step : goal.invariant-loop-step

@@ -1,6 +1,7 @@
 use Rattle.std.proofs.Common.{◌≡◌, drop, length}
 use Rattle.std.specs.List.{list_all}
-use Rattle.gp_instance.specs.Matches.{atom_count, groups_of, stands_together}
+use Rattle.gp_property.specs.Atoms.{atom_count}
+use Rattle.gp_instance.specs.Matches.{groups_of, stands_together}
 use Rattle.gp_instance.proofs.matching.stand_together.Given as goal
 
 abbrev pub invariant-loop-step : goal.invariant-loop-step

@@ -1,28 +1,26 @@
 -- The answer of task list: the instances of each property in each window, as a function of the files.
-use Rattle.std.specs.Prelude.{ℕ, ◌+◌, ◌++◌, List, [], ◌∷◌, Result, Ok, Err, length, codes, decimal, flat_map}
+use Rattle.std.specs.Prelude.{ℕ, ◌+◌, ◌++◌, List, [], ◌∷◌, Result, Ok, Err, length, codes, decimal, flat_map, sum_by}
 use Rattle.gp_outside.specs.Folders.{File}
+use Rattle.gp_window.specs.declared.file_name.FileName.TheVariants.{Properties}
 use Rattle.gp_window.specs.RecordingForm.{RecordingForm}
 use Rattle.gp_window.specs.WindowForm.{WindowForm, numbers_from, window_of}
-use Rattle.gp_property.specs.declared.property.Property.{Property}
+use Rattle.gp_property.specs.PropertyForm.{PropertyForm}
 use Rattle.gp_property.specs.Reading.{properties_of}
 use Rattle.gp_instance.specs.declared.instance.Instance.{Instance}
 use Rattle.gp_instance.specs.declared.instance.InstancesFault.{InstancesFault}
 use Rattle.gp_instance.specs.declared.instance.InstancesFault.TheVariants.{TooMany, Memory}
 use Rattle.gp_instance.specs.Instances.{due_instances}
 use Rattle.gp_predict.specs.declared.answer.Answer.{Answer}
-use Rattle.gp_predict.specs.Content.{content_of, recording_at}
+use Rattle.gp_predict.specs.declared.listing.Listing.{Listing}
+use Rattle.gp_predict.specs.Content.{content_at, recording_at}
 use Rattle.gp_predict.specs.Lines.{instance_line, property_line, total_line, window_line}
 use Rattle.gp_predict.specs.Refusal.{properties_refusal}
 use Rattle.gp_text.specs.Results.{and_then, or_refused}
 
--- the most bytes of a file of properties
-abbrev pub properties_limit : ℕ
-properties_limit = 262144
-
 -- the properties in the folder
-abbrev pub properties_at : List File → List ℕ → Result (List Property) Answer
+abbrev pub properties_at : List File → List ℕ → Result (List PropertyForm) Answer
 properties_at files folder =
-    and_then (content_of files folder properties_limit (codes "props")) (λ bytes. or_refused properties_refusal (properties_of bytes))
+    and_then (content_at files folder Properties) (λ bytes. or_refused properties_refusal (properties_of bytes))
 
 -- these instances, numbered from this number on
 abbrev pub instance_lines : ℕ → List Instance → List (List ℕ)
@@ -36,30 +34,58 @@ property_lines name (Err TooMany) = property_line name (codes "toomany") ∷ []
 property_lines name (Err Memory) = []
 
 -- what is told of these properties in a window, the first of which has this number
-abbrev pub properties_lines : WindowForm → ℕ → List Property → List (List ℕ)
+abbrev pub properties_lines : WindowForm → ℕ → List PropertyForm → List (List ℕ)
 properties_lines window number [] = []
 properties_lines window number (property ∷ properties) =
     property_lines property.name (due_instances window property number) ++ properties_lines window (number + 1) properties
 
+-- what is told of a window, where its number is k
+abbrev pub told_lines : ℕ → WindowForm → List PropertyForm → List (List ℕ)
+told_lines k window properties = window_line k ∷ properties_lines window 0 properties
+
 -- what is told of window k
-abbrev pub window_lines : RecordingForm → List Property → ℕ → List (List ℕ)
-window_lines recording properties k = window_line k ∷ properties_lines (window_of recording k) 0 properties
+abbrev pub window_lines : RecordingForm → List PropertyForm → ℕ → List (List ℕ)
+window_lines recording properties k = told_lines k (window_of recording k) properties
 
 -- what is told of all windows, in order
-abbrev pub all_lines : RecordingForm → List Property → List (List ℕ)
+abbrev pub all_lines : RecordingForm → List PropertyForm → List (List ℕ)
 all_lines recording properties = flat_map (window_lines recording properties) (numbers_from 1 recording.manifest.epochs)
 
--- these lines, and at the end the total
-abbrev pub with_total : List (List ℕ) → List (List ℕ)
-with_total lines = lines ++ total_line lines ∷ []
+-- how many instances are told of a property; of one that has too many, none
+abbrev pub found_count : Result (List Instance) InstancesFault → ℕ
+found_count (Ok found) = length found
+found_count (Err fault) = 0
 
--- what is told of all windows, and at the end the total
-abbrev pub list_answer : RecordingForm → List Property → Answer
-list_answer recording properties = record { status = 0; lines = with_total (all_lines recording properties) }
+-- how many instances are told of these properties in a window, the first of which has this number
+abbrev pub properties_count : WindowForm → ℕ → List PropertyForm → ℕ
+properties_count window number [] = 0
+properties_count window number (property ∷ properties) =
+    found_count (due_instances window property number) + properties_count window (number + 1) properties
+
+-- how many instances are told of window k
+abbrev pub window_count : RecordingForm → List PropertyForm → ℕ → ℕ
+window_count recording properties k = properties_count (window_of recording k) 0 properties
+
+-- how many instances are told of all windows
+abbrev pub total_count : RecordingForm → List PropertyForm → ℕ
+total_count recording properties = sum_by (window_count recording properties) (numbers_from 1 recording.manifest.epochs)
+
+-- what is told of all windows, and at the end how many instances that are
+abbrev pub list_answer : RecordingForm → List PropertyForm → Answer
+list_answer recording properties =
+    record { status = 0; lines = all_lines recording properties ++ total_line (total_count recording properties) ∷ [] }
+
+-- the recording and the properties in a folder
+abbrev pub listing_at : List File → List ℕ → Result Listing Answer
+listing_at files folder =
+    and_then (recording_at files folder) (λ recording.
+    and_then (properties_at files folder) (λ properties.
+    Ok (record { recording = recording; properties = properties })))
+
+-- the answer that a listing is
+abbrev pub answer_of_listing : Listing → Answer
+answer_of_listing listing = list_answer listing.recording listing.properties
 
 -- the answer of task list on the files of a folder
 abbrev pub list_at : List File → List ℕ → Result Answer Answer
-list_at files folder =
-    and_then (recording_at files folder) (λ recording.
-    and_then (properties_at files folder) (λ properties.
-    Ok (list_answer recording properties)))
+list_at files folder = and_then (listing_at files folder) (λ listing. Ok (answer_of_listing listing))

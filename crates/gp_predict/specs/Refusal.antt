@@ -4,7 +4,10 @@ use Rattle.gp_text.specs.declared.lines.TextFault.{TextFault}
 use Rattle.gp_text.specs.declared.lines.TextFault.TheVariants as text
 use Rattle.gp_trace.specs.declared.fault.TraceFault.{TraceFault}
 use Rattle.gp_trace.specs.declared.fault.TraceFault.TheVariants as trace
-use Rattle.gp_window.specs.declared.fault.FileName.TheVariants as file
+use Rattle.gp_window.specs.declared.content.ContentFault.{ContentFault}
+use Rattle.gp_window.specs.declared.content.ContentFault.TheVariants as content
+use Rattle.gp_window.specs.declared.file_name.FileName.{FileName}
+use Rattle.gp_window.specs.declared.file_name.FileName.TheVariants as file
 use Rattle.gp_window.specs.FileNames.{name_of}
 use Rattle.gp_window.specs.declared.fault.RecordingFault.{RecordingFault}
 use Rattle.gp_window.specs.declared.fault.RecordingFault.TheVariants as recording
@@ -23,12 +26,12 @@ abbrev pub never_due : Answer
 never_due = record { status = 6; lines = [] }
 
 -- a file that is refused as a whole
-abbrev pub refused_as : List ℕ → List ℕ → Answer
-refused_as name rule = one_line 3 (codes "refused " ++ name ++ codes " " ++ rule)
+abbrev pub refused_as : FileName → List ℕ → Answer
+refused_as name rule = one_line 3 (codes "refused " ++ name_of name ++ codes " " ++ rule)
 
 -- a file that is refused at a line
-abbrev pub refused_at : List ℕ → ℕ → List ℕ → Answer
-refused_at name line rule = one_line 3 (codes "refused " ++ name ++ codes " " ++ decimal line ++ codes " " ++ rule)
+abbrev pub refused_at : FileName → ℕ → List ℕ → Answer
+refused_at name line rule = one_line 3 (codes "refused " ++ name_of name ++ codes " " ++ decimal line ++ codes " " ++ rule)
 
 -- a recording whose files do not fit together, told with a thread
 abbrev pub recording_refused : List ℕ → ℕ → Answer
@@ -39,32 +42,39 @@ abbrev pub two_holders : List ℕ → ℕ → Answer
 two_holders lock window = one_line 3 (codes "refused recording twoholders " ++ lock ++ codes " " ++ decimal window)
 
 -- a file whose text has no lines
-abbrev pub text_refusal : List ℕ → TextFault → Answer
+abbrev pub text_refusal : FileName → TextFault → Answer
 text_refusal name (text.NotAscii line) = refused_at name line (codes "notascii")
 text_refusal name (text.LongLine line) = refused_at name line (codes "longline")
 text_refusal name (text.NoLastNewline line) = refused_at name line (codes "nolastnewline")
 text_refusal name text.Memory = never_due
 
--- a trace that breaks a rule
-abbrev pub trace_refusal : List ℕ → TraceFault → Answer
-trace_refusal name (trace.Text fault) = text_refusal name fault
-trace_refusal name (trace.AfterExit line) = refused_at name line (codes "afterexit")
-trace_refusal name (trace.BadWord line) = refused_at name line (codes "badword")
-trace_refusal name (trace.NameSelf line) = refused_at name line (codes "nameself")
-trace_refusal name (trace.ReleaseUnheld line) = refused_at name line (codes "releaseunheld")
-trace_refusal name (trace.AcquireHeld line) = refused_at name line (codes "acquireheld")
-trace_refusal name (trace.RegionUnmatched line) = refused_at name line (codes "regionunmatched")
-trace_refusal name (trace.MarkCount line) = refused_at name line (codes "markcount")
-trace_refusal name trace.Memory = never_due
+-- the trace of this thread, which breaks a rule
+abbrev pub trace_refusal : ℕ → TraceFault → Answer
+trace_refusal thread (trace.Text fault) = text_refusal (file.Trace thread) fault
+trace_refusal thread (trace.AfterExit line) = refused_at (file.Trace thread) line (codes "afterexit")
+trace_refusal thread (trace.BadWord line) = refused_at (file.Trace thread) line (codes "badword")
+trace_refusal thread (trace.NameSelf line) = refused_at (file.Trace thread) line (codes "nameself")
+trace_refusal thread (trace.ReleaseUnheld line) = refused_at (file.Trace thread) line (codes "releaseunheld")
+trace_refusal thread (trace.AcquireHeld line) = refused_at (file.Trace thread) line (codes "acquireheld")
+trace_refusal thread (trace.RegionUnmatched line) = refused_at (file.Trace thread) line (codes "regionunmatched")
+trace_refusal thread (trace.MarkCount line) = refused_at (file.Trace thread) line (codes "markcount")
+trace_refusal thread trace.Memory = never_due
+
+-- a file whose bytes are not told
+abbrev pub content_refusal : ContentFault → Answer
+content_refusal (content.Absent name) = refused_as name (codes "absent")
+content_refusal (content.TooLong name) = refused_as name (codes "toolong")
+content_refusal content.ReadFailed = never_due
+content_refusal content.Memory = never_due
 
 -- files that are no recording
 abbrev pub recording_refusal : RecordingFault → Answer
-recording_refusal (recording.Absent name) = refused_as (name_of name) (codes "absent")
-recording_refusal (recording.TooLong name) = refused_as (name_of name) (codes "toolong")
+recording_refusal (recording.Absent name) = refused_as name (codes "absent")
+recording_refusal (recording.TooLong name) = refused_as name (codes "toolong")
 recording_refusal recording.ReadFailed = never_due
-recording_refusal (recording.ManifestText fault) = text_refusal (name_of file.Manifest) fault
-recording_refusal (recording.ManifestLine line) = refused_at (name_of file.Manifest) line (codes "badline")
-recording_refusal (recording.Trace thread fault) = trace_refusal (name_of (file.Trace thread)) fault
+recording_refusal (recording.ManifestText fault) = text_refusal file.Manifest fault
+recording_refusal (recording.ManifestLine line) = refused_at file.Manifest line (codes "badline")
+recording_refusal (recording.Trace thread fault) = trace_refusal thread fault
 recording_refusal (recording.UnknownThread thread) = recording_refused (codes "unknownthread") thread
 recording_refusal (recording.StartsRoot thread) = recording_refused (codes "startsroot") thread
 recording_refusal (recording.TwoStarts thread) = recording_refused (codes "twostarts") thread
@@ -73,17 +83,17 @@ recording_refusal recording.Memory = never_due
 
 -- a text that is no schedule
 abbrev pub schedule_refusal : ScheduleFault → Answer
-schedule_refusal (schedule.Text fault) = text_refusal (codes "schedule") fault
-schedule_refusal (schedule.BadLine line) = refused_at (codes "schedule") line (codes "badline")
+schedule_refusal (schedule.Text fault) = text_refusal file.Schedule fault
+schedule_refusal (schedule.BadLine line) = refused_at file.Schedule line (codes "badline")
 schedule_refusal schedule.Memory = never_due
 
 -- a text that is no file of properties
 abbrev pub properties_refusal : PropertyFault → Answer
-properties_refusal (property.Text fault) = text_refusal (codes "props") fault
-properties_refusal (property.Empty line) = refused_at (codes "props") line (codes "empty")
-properties_refusal (property.BadWord line) = refused_at (codes "props") line (codes "badword")
-properties_refusal (property.RepeatedName line) = refused_at (codes "props") line (codes "repeatedname")
-properties_refusal (property.TooManyAtoms line) = refused_at (codes "props") line (codes "toomanyatoms")
-properties_refusal (property.UnknownEvent line) = refused_at (codes "props") line (codes "unknownevent")
-properties_refusal (property.RegionUse line) = refused_at (codes "props") line (codes "regionuse")
+properties_refusal (property.Text fault) = text_refusal file.Properties fault
+properties_refusal (property.Empty line) = refused_at file.Properties line (codes "empty")
+properties_refusal (property.BadWord line) = refused_at file.Properties line (codes "badword")
+properties_refusal (property.RepeatedName line) = refused_at file.Properties line (codes "repeatedname")
+properties_refusal (property.TooManyAtoms line) = refused_at file.Properties line (codes "toomanyatoms")
+properties_refusal (property.UnknownEvent line) = refused_at file.Properties line (codes "unknownevent")
+properties_refusal (property.RegionUse line) = refused_at file.Properties line (codes "regionuse")
 properties_refusal property.Memory = never_due

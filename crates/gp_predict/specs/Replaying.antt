@@ -1,6 +1,7 @@
 -- The answer of task replay: whether a schedule can happen, as a function of the files.
 use Rattle.std.specs.Prelude.{ℕ, ◌++◌, List, Result, Ok, Err, length, codes, decimal}
 use Rattle.gp_outside.specs.Folders.{File}
+use Rattle.gp_window.specs.declared.file_name.FileName.TheVariants.{Schedule}
 use Rattle.gp_window.specs.RecordingForm.{RecordingForm}
 use Rattle.gp_window.specs.WindowForm.{window_of}
 use Rattle.gp_replay.specs.Feasible.{end_of}
@@ -12,18 +13,14 @@ use Rattle.gp_replay.specs.declared.running.ReplayFault.TheVariants.{Stuck, Memo
 use Rattle.gp_replay.specs.declared.schedule.WindowSchedule.{WindowSchedule}
 use Rattle.gp_replay.specs.declared.state.State.{State}
 use Rattle.gp_predict.specs.declared.answer.Answer.{Answer}
-use Rattle.gp_predict.specs.Content.{content_of, recording_at}
+use Rattle.gp_predict.specs.Content.{content_at, recording_at}
 use Rattle.gp_predict.specs.Refusal.{never_due, one_line, schedule_refusal}
 use Rattle.gp_text.specs.Results.{and_then, or_refused}
-
--- the most bytes of a schedule
-abbrev pub schedule_limit : ℕ
-schedule_limit = 16777216
 
 -- the schedule in the folder, for a recording of so many epochs
 abbrev pub schedule_at : List File → List ℕ → ℕ → Result WindowSchedule Answer
 schedule_at files folder epochs =
-    and_then (content_of files folder schedule_limit (codes "schedule")) (λ bytes. or_refused schedule_refusal (schedule_of_text epochs bytes))
+    and_then (content_at files folder Schedule) (λ bytes. or_refused schedule_refusal (schedule_of_text epochs bytes))
 
 -- a schedule of so many events can happen
 abbrev pub feasible : ℕ → Answer

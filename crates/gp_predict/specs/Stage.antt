@@ -1,19 +1,20 @@
 -- What a stage of the top call gave, against the definition of what is due.
-use Rattle.std.specs.Prelude.{◌≡◌, Result, Ok, Err}
+use Rattle.std.specs.Prelude.{◌≡◌, Option, Some, None, Result, Ok, Err}
+use Rattle.gp_window.specs.Gives.{StopsAs}
 use Rattle.gp_predict.specs.declared.answer.Answer.{Answer}
 use Rattle.gp_predict.specs.declared.stop.Stop.{Stop}
 use Rattle.gp_predict.specs.declared.stop.Stop.TheVariants.{Refused, ReadFault, Memory}
 
--- a stage that stopped by a refusal was to be refused so; a fault of the folder or of memory says nothing
-abbrev pub StopsAs : {A : Type 0} → Stop → Result A Answer → Type 0
-StopsAs (Refused answer) due = due ≡ Err answer
-StopsAs ReadFault due = Unit {0}
-StopsAs Memory due = Unit {0}
+-- what a stop says of the files: a refusal; a fault of the folder and want of memory say nothing
+abbrev pub refusal_of : Stop → Option Answer
+refusal_of (Refused answer) = Some answer
+refusal_of ReadFault = None
+refusal_of Memory = None
 
--- a stage that gave a value was to give it
-abbrev pub Gives : {A : Type 0} → Result A Stop → Result A Answer → Type 0
-Gives (Ok value) due = due ≡ Ok value
-Gives (Err stop) due = StopsAs stop due
+-- a stage that gave a value was to give what the value stands for
+abbrev pub GivesAs : {A B : Type 0} → (A → B) → Result A Stop → Result B Answer → Type 0
+GivesAs meaning (Ok value) due = due ≡ Ok (meaning value)
+GivesAs meaning (Err stop) due = StopsAs (refusal_of stop) due
 
 -- a refusal of an input file has status 3
 abbrev pub IsRefusal : Stop → Type 0

@@ -1,15 +1,17 @@
-ghost use Rattle.std.specs.Prelude.{ℕ, ◌≡◌, ◌≤◌, List, Some, Ok, Err, IfOk, IfErr, length, string_bytes};
+ghost use Rattle.std.specs.Prelude.{ℕ, ◌≡◌, ◌≤◌, List, Some, Err, IfOk, IfErr, length};
 ghost use Rattle.gp_outside.specs.Faults.{Rose};
 ghost use Rattle.gp_outside.specs.Folders.{File};
-ghost use Rattle.gp_predict.specs.Content.{content_of, path_of, recording_at};
-ghost use Rattle.gp_predict.specs.Stage.{Gives, IsRefusal};
+ghost use Rattle.gp_predict.specs.Content.{content_at, recording_at};
+ghost use Rattle.gp_predict.specs.Stage.{IsRefusal, refusal_of};
+ghost use Rattle.gp_window.specs.FileNames.{limit_of};
+ghost use Rattle.gp_window.specs.Gives.{Gives};
 
-use crate::refusal::{recording_refusal, refused_as};
+use crate::refusal::{content_refusal, recording_refusal};
 use crate::stop::Stop;
-use gp_outside::{Folder, ReadFault};
+use gp_outside::Folder;
 use gp_text::Row;
-use gp_window::{Recording, RecordingFault, read_recording};
-use std::alloc::{AllocError, Global};
+use gp_window::{ContentFault, FileName, Recording, RecordingFault, content_of, read_recording};
+use std::alloc::Global;
 use std::thread::Threads;
 
 /// The recording in the folder.
@@ -21,7 +23,7 @@ pub fn recording_at<R: AllocGlobal + Threads + Sync, F: Folder>(
     ensures later { F.faults folder.old ≤ F.faults folder.new }
     ensures kept { F.files folder.new ≡ F.files folder.old }
     ensures told { (files : List File) → F.files folder.old ≡ Some files
-        → Gives result (recording_at files directory.now) }
+        → Gives refusal_of result (recording_at files directory.now) }
     ensures refused { IfErr result IsRefusal }
     ensures fault { result ≡ Err Stop.ReadFault → Rose (F.faults folder.old) (F.faults folder.new) }
 {
@@ -33,38 +35,25 @@ pub fn recording_at<R: AllocGlobal + Threads + Sync, F: Folder>(
     }
 }
 
-/// The bytes of the file of this name in the folder, where it is there and has at most `limit` bytes.
-pub fn content_of<F: Folder>(
+/// The bytes of an input file in the folder, where it is there and not too long.
+pub fn content_at<F: Folder>(
     alloc: Global,
     folder: &mut F,
     directory: &str,
-    limit: u64,
-    file: &str,
+    file: FileName,
 ) -> Result<Row<u8>, Stop>
     ensures later { F.faults folder.old ≤ F.faults folder.new }
     ensures kept { F.files folder.new ≡ F.files folder.old }
     ensures told { (files : List File) → F.files folder.old ≡ Some files
-        → Gives result (content_of files directory.now limit file.now) }
-    ensures fits { IfOk result (λ bytes. length bytes ≤ limit) }
+        → Gives refusal_of result (content_at files directory.now file) }
+    ensures fits { IfOk result (λ bytes. length bytes ≤ limit_of file) }
     ensures refused { IfErr result IsRefusal }
     ensures fault { result ≡ Err Stop.ReadFault → Rose (F.faults folder.old) (F.faults folder.new) }
 {
-    let path = path_of(alloc, directory, file)?;
-    let mut bytes = Vec::new(alloc);
-    match folder.read(path.as_str(), limit, &mut bytes) {
-        Ok(()) => Ok(Row::from_vec(bytes)),
-        Err(ReadFault::Absent) => Err(Stop::Refused(refused_as(alloc, file, "absent")?)),
-        Err(ReadFault::TooLong) => Err(Stop::Refused(refused_as(alloc, file, "toolong")?)),
-        Err(ReadFault::Failed) => Err(Stop::ReadFault),
-        Err(ReadFault::Memory) => Err(Stop::Memory),
+    match content_of(alloc, folder, directory, &file) {
+        Ok(bytes) => Ok(bytes),
+        Err(ContentFault::ReadFailed) => Err(Stop::ReadFault),
+        Err(ContentFault::Memory) => Err(Stop::Memory),
+        Err(fault) => Err(Stop::Refused(content_refusal(alloc, fault)?)),
     }
-}
-
-fn path_of(alloc: Global, directory: &str, file: &str) -> Result<String, AllocError>
-    ensures { IfOk result (λ path. string_bytes path ≡ path_of directory.now file.now) }
-{
-    let mut path = String::from_str(alloc, directory)?;
-    path.push_str("/")?;
-    path.push_str(file)?;
-    Ok(path)
 }

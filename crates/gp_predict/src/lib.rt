@@ -10,6 +10,7 @@
 
 mod answer;
 mod content;
+mod due;
 mod lines;
 mod listing;
 mod refusal;
@@ -17,5 +18,6 @@ mod replaying;
 mod stop;
 mod top;
 mod words;
+mod writing;
 
 pub use top::{Outcome, run};

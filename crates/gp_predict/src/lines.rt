@@ -1,9 +1,9 @@
-ghost use Rattle.std.specs.Prelude.{◌≡◌, ◌++◌, IfOk, OnOk, count_by, flat_map};
-ghost use Rattle.gp_predict.specs.Lines.{event_text, instance_line, is_instance_line, property_line, total_line, window_line};
+ghost use Rattle.std.specs.Prelude.{◌≡◌, ◌++◌, IfOk, OnOk, flat_map};
+ghost use Rattle.gp_predict.specs.Lines.{event_text, instance_line, property_line, total_line, window_line};
 
 use gp_instance::Instance;
 use gp_text::{Name, Row, print_u64};
-use gp_window::EventId;
+use gp_window::{EventId, put_event_id};
 use std::alloc::{AllocError, Global};
 
 /// The line that begins what is told of window `k`.
@@ -54,28 +54,13 @@ fn put_event(line: &mut Vec<u8>, id: EventId) -> Result<(), AllocError>
     ensures { OnOk result (line.new.items ≡ line.old.items ++ event_text id) }
 {
     line.push(b' ')?;
-    print_u64(line, u64::from(id.thread))?;
-    line.push(b'.')?;
-    print_u64(line, u64::from(id.index))
+    put_event_id(line, id)
 }
 
-/// The line that tells how many of these lines tell an instance.
-pub fn total_line(alloc: Global, lines: &[Row<u8>]) -> Result<Row<u8>, AllocError>
-    ensures { IfOk result (λ line. line ≡ total_line lines.now) }
+/// The line that tells how many instances there are.
+pub fn total_line(alloc: Global, total: u64) -> Result<Row<u8>, AllocError>
+    ensures { IfOk result (λ line. line ≡ total_line total) }
 {
-    let total = instance_count(lines);
     let line = format!(in alloc; "total {total}\n")?;
     Ok(Row::from_vec(line.into_bytes()))
-}
-
-fn instance_count(lines: &[Row<u8>]) -> usize
-    ensures { result ≡ count_by is_instance_line lines.now }
-{
-    lines.iter().filter(|line| is_instance_line(line)).count()
-}
-
-fn is_instance_line(line: &Row<u8>) -> bool
-    ensures { result ≡ is_instance_line line.now }
-{
-    line.as_slice().starts_with(b"instance ")
 }

@@ -3,45 +3,51 @@ ghost use Rattle.gp_outside.specs.Faults.{Rose};
 ghost use Rattle.gp_outside.specs.Folders.{File};
 ghost use Rattle.gp_instance.specs.Instances.{due_instances};
 ghost use Rattle.gp_property.specs.Reading.{properties_of};
-ghost use Rattle.gp_predict.specs.Listing.{all_lines, instance_lines, list_answer, list_at, properties_at, properties_lines, property_lines, window_lines};
+ghost use Rattle.gp_predict.specs.Listing.{found_count, instance_lines, listing_at, properties_at, properties_count, properties_lines, property_lines, told_lines};
 ghost use Rattle.gp_predict.specs.Refusal.{properties_refusal};
 ghost use Rattle.gp_text.specs.Results.{or_refused};
-ghost use Rattle.gp_predict.specs.Stage.{Gives, IsRefusal};
+ghost use Rattle.gp_predict.specs.Stage.{IsRefusal, refusal_of};
+ghost use Rattle.gp_window.specs.Gives.{Gives};
 
-use crate::answer::Answer;
-use crate::content::{content_of, recording_at};
-use crate::lines::{instance_line, property_line, total_line, window_line};
+use crate::content::{content_at, recording_at};
+use crate::lines::{instance_line, property_line, window_line};
 use crate::refusal::properties_refusal;
 use crate::stop::Stop;
 use gp_instance::{Instance, InstancesFault, instances};
 use gp_outside::Folder;
 use gp_property::{Property, PropertyFault, read_properties, reads_exactly};
 use gp_text::{Name, Row};
-use gp_window::{Recording, Window, cut};
+use gp_window::{FileName, Recording, Window};
 use std::alloc::{AllocError, Global};
 use std::thread::Threads;
 
-/// The most bytes of a file of properties.
-const PROPERTIES_LIMIT: u64 = 262_144;
+/// What task list is to list: the instances of each of these properties in each window.
+#[derive(Debug, Drop)]
+pub struct Listing {
+    pub recording: Recording,
+    pub properties: Row<Property>,
+}
 
-/// Reads the recording and the properties in a folder, and lists the instances of each property in each
-/// window.
-pub fn list_at<R: AllocGlobal + Threads + Sync, F: Folder>(
+/// Reads the recording and the properties in a folder.
+pub fn listing_at<R: AllocGlobal + Threads + Sync, F: Folder>(
     rt: &R,
     folder: &mut F,
     directory: &str,
-) -> Result<Answer, Stop>
+) -> Result<Listing, Stop>
     ensures later { F.faults folder.old ≤ F.faults folder.new }
     ensures kept { F.files folder.new ≡ F.files folder.old }
     ensures told { (files : List File) → F.files folder.old ≡ Some files
-        → Gives result (list_at files directory.now) }
-    ensures done { IfOk result (λ answer. answer.status ≤ 1) }
+        → Gives refusal_of result (listing_at files directory.now) }
+    ensures few { IfOk result (λ listing. length listing.properties ≤ 64) }
     ensures refused { IfErr result IsRefusal }
     ensures fault { result ≡ Err Stop.ReadFault → Rose (F.faults folder.old) (F.faults folder.new) }
 {
     let recording = recording_at(rt, folder, directory)?;
     let properties = properties_at(rt.alloc(), folder, directory)?;
-    Ok(list_answer(rt.alloc(), &recording, properties.as_slice())?)
+    Ok(Listing {
+        recording,
+        properties,
+    })
 }
 
 fn properties_at<F: Folder>(
@@ -52,18 +58,18 @@ fn properties_at<F: Folder>(
     ensures later { F.faults folder.old ≤ F.faults folder.new }
     ensures kept { F.files folder.new ≡ F.files folder.old }
     ensures told { (files : List File) → F.files folder.old ≡ Some files
-        → Gives result (properties_at files directory.now) }
+        → Gives refusal_of result (properties_at files directory.now) }
     ensures few { IfOk result (λ properties. length properties ≤ 64) }
     ensures refused { IfErr result IsRefusal }
     ensures fault { result ≡ Err Stop.ReadFault → Rose (F.faults folder.old) (F.faults folder.new) }
 {
-    let bytes = content_of(alloc, folder, directory, PROPERTIES_LIMIT, "props")?;
+    let bytes = content_at(alloc, folder, directory, FileName::Properties)?;
     properties_from(alloc, bytes.as_slice())
 }
 
 fn properties_from(alloc: Global, bytes: &[u8]) -> Result<Row<Property>, Stop>
     requires { length bytes.now < 2 ^ 32 - 1 }
-    ensures due { Gives result (or_refused properties_refusal (properties_of bytes.now)) }
+    ensures due { Gives refusal_of result (or_refused properties_refusal (properties_of bytes.now)) }
     ensures few { IfOk result (λ properties. length properties ≤ 64) }
     ensures refused { IfErr result IsRefusal }
     ensures no_fault { result ≢ Err Stop.ReadFault }
@@ -76,83 +82,71 @@ fn properties_from(alloc: Global, bytes: &[u8]) -> Result<Row<Property>, Stop>
     }
 }
 
-fn list_answer(
+/// What is told of a window: its lines, and how many instances they tell.
+#[derive(Debug, Drop)]
+pub struct Told {
+    pub lines: Row<Row<u8>>,
+    pub count: u64,
+}
+
+/// What is told of a window, where its number is k.
+pub fn told_of(
     alloc: Global,
-    recording: &Recording,
+    k: u32,
+    window: &Window,
     properties: &[Property],
-) -> Result<Answer, AllocError>
+) -> Result<Told, AllocError>
     requires { length properties.now ≤ 64 }
-    ensures { IfOk result (λ answer. answer ≡ list_answer recording.now properties.now) }
+    ensures lines { IfOk result (λ told. told.lines ≡ told_lines k window.now properties.now) }
+    ensures count { IfOk result (λ told. told.count ≡ properties_count window.now 0 properties.now) }
+    ensures most { IfOk result (λ told. told.count ≤ 640000) }
 {
     let mut lines = Row::new(alloc);
-    add_windows(alloc, &mut lines, recording, properties)?;
-    let total = total_line(alloc, lines.as_slice())?;
-    lines.push(total)?;
-    Ok(Answer { status: 0, lines })
-}
-
-/// Adds what is told of all windows. One window is cut at a time.
-fn add_windows(
-    alloc: Global,
-    lines: &mut Row<Row<u8>>,
-    recording: &Recording,
-    properties: &[Property],
-) -> Result<(), AllocError>
-    requires { length properties.now ≤ 64 }
-    ensures { OnOk result (lines.new ≡ lines.old ++ all_lines recording.now properties.now) }
-{
-    for k in 1..recording.manifest().epochs() + 1 {
-        add_window(alloc, lines, recording, properties, k)?;
-    }
-    Ok(())
-}
-
-fn add_window(
-    alloc: Global,
-    lines: &mut Row<Row<u8>>,
-    recording: &Recording,
-    properties: &[Property],
-    k: u32,
-) -> Result<(), AllocError>
-    requires few { length properties.now ≤ 64 }
-    requires first { 1 ≤ k }
-    requires last { k ≤ recording.now.manifest.epochs }
-    ensures { OnOk result (lines.new ≡ lines.old ++ window_lines recording.now properties.now k) }
-{
-    let window = cut(alloc, recording, k)?;
     lines.push(window_line(alloc, k)?)?;
-    add_properties(alloc, lines, &window, properties)
+    let count = add_properties(alloc, &mut lines, window, properties)?;
+    Ok(Told { lines, count })
 }
 
+/// Adds what is told of the properties in a window, and gives how many instances that are.
 fn add_properties(
     alloc: Global,
     lines: &mut Row<Row<u8>>,
     window: &Window,
     properties: &[Property],
-) -> Result<(), AllocError>
+) -> Result<u64, AllocError>
     requires { length properties.now ≤ 64 }
-    ensures { OnOk result (lines.new ≡ lines.old ++ properties_lines window.now 0 properties.now) }
+    ensures lines { OnOk result (lines.new ≡ lines.old ++ properties_lines window.now 0 properties.now) }
+    ensures count { IfOk result (λ count. count ≡ properties_count window.now 0 properties.now) }
+    ensures most { IfOk result (λ count. count ≤ 640000) }
 {
+    let mut count = 0;
     for (number, property) in properties.iter().enumerate() {
-        add_property(alloc, lines, window, property, number as u32)?;
+        count += add_property(alloc, lines, window, property, number as u32)?;
     }
-    Ok(())
+    Ok(count)
 }
 
+/// Adds what is told of a property in a window, and gives how many instances that are.
 fn add_property(
     alloc: Global,
     lines: &mut Row<Row<u8>>,
     window: &Window,
     property: &Property,
     number: u32,
-) -> Result<(), AllocError>
-    ensures { OnOk result (lines.new ≡ lines.old
+) -> Result<u64, AllocError>
+    ensures lines { OnOk result (lines.new ≡ lines.old
         ++ property_lines property.now.name (due_instances window.now property.now number)) }
+    ensures count { IfOk result (λ count. count ≡ found_count (due_instances window.now property.now number)) }
+    ensures most { IfOk result (λ count. count ≤ 10000) }
 {
     match instances(alloc, window, property, number) {
-        Ok(found) => add_found(alloc, lines, &property.name, found.as_slice()),
+        Ok(found) => {
+            add_found(alloc, lines, property.name(), found.as_slice())?;
+            Ok(found.len() as u64)
+        }
         Err(InstancesFault::TooMany) => {
-            lines.push(property_line(alloc, &property.name, "toomany")?)
+            lines.push(property_line(alloc, property.name(), "toomany")?)?;
+            Ok(0)
         }
         Err(InstancesFault::Memory) => Err(AllocError),
     }

@@ -1,16 +1,27 @@
-ghost use Rattle.std.specs.Prelude.{◌≡◌, IfOk, string_bytes};
-ghost use Rattle.gp_window.specs.FileNames.{name_of};
-ghost use Rattle.gp_predict.specs.Refusal.{properties_refusal, recording_refusal, recording_refused, refused_as, refused_at, schedule_refusal, text_refusal, trace_refusal, two_holders};
+ghost use Rattle.std.specs.Prelude.{◌≡◌, IfOk};
+ghost use Rattle.gp_predict.specs.Refusal.{content_refusal, properties_refusal, recording_refusal, recording_refused, refused_as, refused_at, schedule_refusal, text_refusal, trace_refusal, two_holders};
 
 use crate::answer::{Answer, line_of, one_line};
 use gp_property::PropertyFault;
 use gp_replay::ScheduleFault;
 use gp_text::{Name, TextFault, print_u64};
 use gp_trace::TraceFault;
-use gp_window::{FileName, RecordingFault};
+use gp_window::{ContentFault, FileName, RecordingFault};
 use std::alloc::{AllocError, Global};
 
 const REFUSED: u8 = 3;
+
+/// The refusal of a file whose bytes are not told. Want of memory, and a folder that failed, have none.
+pub fn content_refusal(alloc: Global, fault: ContentFault) -> Result<Answer, AllocError>
+    ensures text { IfOk result (λ answer. answer ≡ content_refusal fault) }
+    ensures status { IfOk result (λ answer. answer.status ≡ 3) }
+{
+    match fault {
+        ContentFault::Absent(name) => refused_as(alloc, name, "absent"),
+        ContentFault::TooLong(name) => refused_as(alloc, name, "toolong"),
+        ContentFault::ReadFailed | ContentFault::Memory => Err(AllocError),
+    }
+}
 
 /// The refusal of files that are no recording. Want of memory, and a folder that failed, have none.
 pub fn recording_refusal(alloc: Global, fault: RecordingFault) -> Result<Answer, AllocError>
@@ -18,10 +29,15 @@ pub fn recording_refusal(alloc: Global, fault: RecordingFault) -> Result<Answer,
     ensures status { IfOk result (λ answer. answer.status ≡ 3) }
 {
     match fault {
-        RecordingFault::Absent(name) => file_refused(alloc, name, "absent"),
-        RecordingFault::TooLong(name) => file_refused(alloc, name, "toolong"),
-        RecordingFault::ManifestText(fault) => text_refusal(alloc, "manifest", fault),
-        RecordingFault::ManifestLine(line) => refused_at(alloc, "manifest", line, "badline"),
+        RecordingFault::Absent(name) => refused_as(alloc, name, "absent"),
+        RecordingFault::TooLong(name) => refused_as(alloc, name, "toolong"),
+        RecordingFault::ManifestText(fault) => text_refusal(alloc, FileName::Manifest, fault),
+        RecordingFault::ManifestLine(line) => refused_at(
+            alloc,
+            FileName::Manifest,
+            line,
+            "badline",
+        ),
         RecordingFault::Trace(thread, fault) => trace_refusal(alloc, thread, fault),
         RecordingFault::UnknownThread(thread) => recording_refused(alloc, "unknownthread", thread),
         RecordingFault::StartsRoot(thread) => recording_refused(alloc, "startsroot", thread),
@@ -37,8 +53,8 @@ pub fn schedule_refusal(alloc: Global, fault: ScheduleFault) -> Result<Answer, A
     ensures status { IfOk result (λ answer. answer.status ≡ 3) }
 {
     match fault {
-        ScheduleFault::Text(fault) => text_refusal(alloc, "schedule", fault),
-        ScheduleFault::BadLine(line) => refused_at(alloc, "schedule", line, "badline"),
+        ScheduleFault::Text(fault) => text_refusal(alloc, FileName::Schedule, fault),
+        ScheduleFault::BadLine(line) => refused_at(alloc, FileName::Schedule, line, "badline"),
         ScheduleFault::Memory => Err(AllocError),
     }
 }
@@ -49,22 +65,43 @@ pub fn properties_refusal(alloc: Global, fault: PropertyFault) -> Result<Answer,
     ensures status { IfOk result (λ answer. answer.status ≡ 3) }
 {
     match fault {
-        PropertyFault::Text(fault) => text_refusal(alloc, "props", fault),
-        PropertyFault::Empty(line) => refused_at(alloc, "props", line, "empty"),
-        PropertyFault::BadWord(line) => refused_at(alloc, "props", line, "badword"),
-        PropertyFault::RepeatedName(line) => refused_at(alloc, "props", line, "repeatedname"),
-        PropertyFault::TooManyAtoms(line) => refused_at(alloc, "props", line, "toomanyatoms"),
-        PropertyFault::UnknownEvent(line) => refused_at(alloc, "props", line, "unknownevent"),
-        PropertyFault::RegionUse(line) => refused_at(alloc, "props", line, "regionuse"),
+        PropertyFault::Text(fault) => text_refusal(alloc, FileName::Properties, fault),
+        PropertyFault::Empty(line) => refused_at(alloc, FileName::Properties, line, "empty"),
+        PropertyFault::BadWord(line) => refused_at(alloc, FileName::Properties, line, "badword"),
+        PropertyFault::RepeatedName(line) => refused_at(
+            alloc,
+            FileName::Properties,
+            line,
+            "repeatedname",
+        ),
+        PropertyFault::TooManyAtoms(line) => refused_at(
+            alloc,
+            FileName::Properties,
+            line,
+            "toomanyatoms",
+        ),
+        PropertyFault::UnknownEvent(line) => refused_at(
+            alloc,
+            FileName::Properties,
+            line,
+            "unknownevent",
+        ),
+        PropertyFault::RegionUse(line) => refused_at(
+            alloc,
+            FileName::Properties,
+            line,
+            "regionuse",
+        ),
         PropertyFault::Memory => Err(AllocError),
     }
 }
 
-/// The refusal of a file as a whole.
-pub fn refused_as(alloc: Global, name: &str, rule: &str) -> Result<Answer, AllocError>
-    ensures text { IfOk result (λ answer. answer ≡ refused_as name.now rule.now) }
+fn refused_as(alloc: Global, file: FileName, rule: &str) -> Result<Answer, AllocError>
+    ensures text { IfOk result (λ answer. answer ≡ refused_as file rule.now) }
     ensures status { IfOk result (λ answer. answer.status ≡ 3) }
 {
+    let name = file.name(alloc)?;
+    let name = name.as_str();
     one_line(
         alloc,
         REFUSED,
@@ -72,10 +109,12 @@ pub fn refused_as(alloc: Global, name: &str, rule: &str) -> Result<Answer, Alloc
     )
 }
 
-fn refused_at(alloc: Global, name: &str, line: u32, rule: &str) -> Result<Answer, AllocError>
-    ensures text { IfOk result (λ answer. answer ≡ refused_at name.now line rule.now) }
+fn refused_at(alloc: Global, file: FileName, line: u32, rule: &str) -> Result<Answer, AllocError>
+    ensures text { IfOk result (λ answer. answer ≡ refused_at file line rule.now) }
     ensures status { IfOk result (λ answer. answer.status ≡ 3) }
 {
+    let name = file.name(alloc)?;
+    let name = name.as_str();
     one_line(
         alloc,
         REFUSED,
@@ -107,52 +146,32 @@ fn two_holders(alloc: Global, lock: &Name, window: u32) -> Result<Answer, AllocE
     line_of(alloc, REFUSED, line)
 }
 
-fn file_refused(alloc: Global, name: FileName, rule: &str) -> Result<Answer, AllocError>
-    ensures text { IfOk result (λ answer. answer ≡ refused_as (name_of name) rule.now) }
-    ensures status { IfOk result (λ answer. answer.status ≡ 3) }
-{
-    match name {
-        FileName::Manifest => refused_as(alloc, "manifest", rule),
-        FileName::Trace(thread) => {
-            let name = trace_name(alloc, thread)?;
-            refused_as(alloc, name.as_str(), rule)
-        }
-    }
-}
-
-fn text_refusal(alloc: Global, name: &str, fault: TextFault) -> Result<Answer, AllocError>
-    ensures text { IfOk result (λ answer. answer ≡ text_refusal name.now fault) }
+fn text_refusal(alloc: Global, file: FileName, fault: TextFault) -> Result<Answer, AllocError>
+    ensures text { IfOk result (λ answer. answer ≡ text_refusal file fault) }
     ensures status { IfOk result (λ answer. answer.status ≡ 3) }
 {
     match fault {
-        TextFault::NotAscii(line) => refused_at(alloc, name, line, "notascii"),
-        TextFault::LongLine(line) => refused_at(alloc, name, line, "longline"),
-        TextFault::NoLastNewline(line) => refused_at(alloc, name, line, "nolastnewline"),
+        TextFault::NotAscii(line) => refused_at(alloc, file, line, "notascii"),
+        TextFault::LongLine(line) => refused_at(alloc, file, line, "longline"),
+        TextFault::NoLastNewline(line) => refused_at(alloc, file, line, "nolastnewline"),
         TextFault::Memory => Err(AllocError),
     }
 }
 
 fn trace_refusal(alloc: Global, thread: u32, fault: TraceFault) -> Result<Answer, AllocError>
-    ensures text { IfOk result (λ answer. answer ≡ trace_refusal (name_of (FileName.Trace thread)) fault) }
+    ensures text { IfOk result (λ answer. answer ≡ trace_refusal thread fault) }
     ensures status { IfOk result (λ answer. answer.status ≡ 3) }
 {
-    let name = trace_name(alloc, thread)?;
-    let name = name.as_str();
+    let file = FileName::Trace(thread);
     match fault {
-        TraceFault::Text(fault) => text_refusal(alloc, name, fault),
-        TraceFault::AfterExit(line) => refused_at(alloc, name, line, "afterexit"),
-        TraceFault::BadWord(line) => refused_at(alloc, name, line, "badword"),
-        TraceFault::NameSelf(line) => refused_at(alloc, name, line, "nameself"),
-        TraceFault::ReleaseUnheld(line) => refused_at(alloc, name, line, "releaseunheld"),
-        TraceFault::AcquireHeld(line) => refused_at(alloc, name, line, "acquireheld"),
-        TraceFault::RegionUnmatched(line) => refused_at(alloc, name, line, "regionunmatched"),
-        TraceFault::MarkCount(line) => refused_at(alloc, name, line, "markcount"),
+        TraceFault::Text(fault) => text_refusal(alloc, file, fault),
+        TraceFault::AfterExit(line) => refused_at(alloc, file, line, "afterexit"),
+        TraceFault::BadWord(line) => refused_at(alloc, file, line, "badword"),
+        TraceFault::NameSelf(line) => refused_at(alloc, file, line, "nameself"),
+        TraceFault::ReleaseUnheld(line) => refused_at(alloc, file, line, "releaseunheld"),
+        TraceFault::AcquireHeld(line) => refused_at(alloc, file, line, "acquireheld"),
+        TraceFault::RegionUnmatched(line) => refused_at(alloc, file, line, "regionunmatched"),
+        TraceFault::MarkCount(line) => refused_at(alloc, file, line, "markcount"),
         TraceFault::Memory => Err(AllocError),
     }
-}
-
-fn trace_name(alloc: Global, thread: u32) -> Result<String, AllocError>
-    ensures { IfOk result (λ name. string_bytes name ≡ name_of (FileName.Trace thread)) }
-{
-    format!(in alloc; "t{thread}.trace")
 }

@@ -5,20 +5,18 @@ ghost use Rattle.gp_predict.specs.Replaying.{replay_answer, replay_at, schedule_
 ghost use Rattle.gp_replay.specs.Schedule.{schedule_of_text};
 ghost use Rattle.gp_predict.specs.Refusal.{schedule_refusal};
 ghost use Rattle.gp_text.specs.Results.{or_refused};
-ghost use Rattle.gp_predict.specs.Stage.{Gives, IsRefusal};
+ghost use Rattle.gp_predict.specs.Stage.{IsRefusal, refusal_of};
+ghost use Rattle.gp_window.specs.Gives.{Gives};
 
 use crate::answer::{Answer, feasible, stuck};
-use crate::content::{content_of, recording_at};
+use crate::content::{content_at, recording_at};
 use crate::refusal::schedule_refusal;
 use crate::stop::Stop;
 use gp_outside::Folder;
 use gp_replay::{ReplayFault, ScheduleFault, WindowSchedule, read_schedule, replay};
-use gp_window::{Recording, cut};
+use gp_window::{FileName, Recording, cut};
 use std::alloc::Global;
 use std::thread::Threads;
-
-/// The most bytes of a schedule.
-const SCHEDULE_LIMIT: u64 = 16_777_216;
 
 /// Reads the recording and the schedule in a folder, and answers whether the schedule can happen.
 pub fn replay_at<R: AllocGlobal + Threads + Sync, F: Folder>(
@@ -29,7 +27,7 @@ pub fn replay_at<R: AllocGlobal + Threads + Sync, F: Folder>(
     ensures later { F.faults folder.old ≤ F.faults folder.new }
     ensures kept { F.files folder.new ≡ F.files folder.old }
     ensures told { (files : List File) → F.files folder.old ≡ Some files
-        → Gives result (replay_at files directory.now) }
+        → Gives refusal_of result (replay_at files directory.now) }
     ensures verdict { IfOk result (λ answer. answer.status ≤ 1) }
     ensures refused { IfErr result IsRefusal }
     ensures fault { result ≡ Err Stop.ReadFault → Rose (F.faults folder.old) (F.faults folder.new) }
@@ -49,18 +47,18 @@ fn schedule_at<F: Folder>(
     ensures later { F.faults folder.old ≤ F.faults folder.new }
     ensures kept { F.files folder.new ≡ F.files folder.old }
     ensures told { (files : List File) → F.files folder.old ≡ Some files
-        → Gives result (schedule_at files directory.now epochs) }
+        → Gives refusal_of result (schedule_at files directory.now epochs) }
     ensures window { IfOk result (λ read. (1 ≤ read.window) × (read.window ≤ epochs)) }
     ensures refused { IfErr result IsRefusal }
     ensures fault { result ≡ Err Stop.ReadFault → Rose (F.faults folder.old) (F.faults folder.new) }
 {
-    let bytes = content_of(alloc, folder, directory, SCHEDULE_LIMIT, "schedule")?;
+    let bytes = content_at(alloc, folder, directory, FileName::Schedule)?;
     schedule_from(alloc, epochs, bytes.as_slice())
 }
 
 fn schedule_from(alloc: Global, epochs: u32, bytes: &[u8]) -> Result<WindowSchedule, Stop>
     requires { length bytes.now < 2 ^ 32 - 1 }
-    ensures due { Gives result (or_refused schedule_refusal (schedule_of_text epochs bytes.now)) }
+    ensures due { Gives refusal_of result (or_refused schedule_refusal (schedule_of_text epochs bytes.now)) }
     ensures window { IfOk result (λ read. (1 ≤ read.window) × (read.window ≤ epochs)) }
     ensures refused { IfErr result IsRefusal }
     ensures no_fault { result ≢ Err Stop.ReadFault }

@@ -1,19 +1,19 @@
-ghost use Rattle.std.specs.Prelude.{ℕ, ◌≡◌, ◌≤◌, ◌⊎◌, List, Some, None, Err, IfOk, IfErr, OnOk, OnErr, flat_map, map, string_bytes};
+ghost use Rattle.std.specs.Prelude.{ℕ, ◌≡◌, ◌≤◌, ◌⊎◌, List, Some, None, Err, IfOk, IfErr, map, string_bytes};
 ghost use Rattle.gp_outside.specs.Faults.{Rose};
 ghost use Rattle.gp_outside.specs.Folders.{File};
-ghost use Rattle.gp_outside.specs.Sinks.{Appends, AppendsFront};
-ghost use Rattle.gp_predict.specs.Answer.{due_answer, task_at};
+ghost use Rattle.gp_predict.specs.Answer.{HasFewProperties, answer_of, due_answer, task_at};
 ghost use Rattle.gp_predict.specs.Run.{IsBegun, IsGiven, WhereDue};
-ghost use Rattle.gp_predict.specs.Stage.{Gives, IsRefusal};
+ghost use Rattle.gp_predict.specs.Stage.{GivesAs, IsRefusal};
 ghost use Rattle.gp_predict.specs.Words.{command_of};
 
-use crate::answer::{Answer, words_refused};
-use crate::listing::list_at;
+use crate::answer::words_refused;
+use crate::due::Due;
+use crate::listing::listing_at;
 use crate::replaying::replay_at;
 use crate::stop::Stop;
 use crate::words::{Task, command_of};
-use gp_outside::{Folder, Gate, PutFault, Sink};
-use gp_text::Row;
+use crate::writing::put_due;
+use gp_outside::{Folder, Gate, Sink};
 use std::alloc::AllocError;
 use std::thread::Threads;
 
@@ -56,8 +56,8 @@ pub fn run<R: AllocGlobal + Threads + Sync, F: Folder, S: Sink, G: Gate + Sync>(
     ensures kept { F.files folder.new ≡ F.files folder.old }
     ensures range { result.status ≤ 6 }
 {
-    let status = match answer_of(rt, words, folder) {
-        Ok(answer) => put_answer(sink, &answer),
+    let status = match due_to(rt, words, folder) {
+        Ok(due) => put_due(rt.alloc(), sink, &due),
         Err(Halt::ReadFault) => 4,
         Err(Halt::Memory) => 6,
     };
@@ -83,25 +83,27 @@ impl From<AllocError> for Halt {
     }
 }
 
-/// The answer that is due; a refusal is one.
-fn answer_of<R: AllocGlobal + Threads + Sync, F: Folder>(
+/// What is due; a refusal is an answer too.
+fn due_to<R: AllocGlobal + Threads + Sync, F: Folder>(
     rt: &R,
     words: &[String],
     folder: &mut F,
-) -> Result<Answer, Halt>
+) -> Result<Due, Halt>
     ensures later { F.faults folder.old ≤ F.faults folder.new }
     ensures kept { F.files folder.new ≡ F.files folder.old }
     ensures due { IfOk result (λ given. WhereDue
-        (due_answer (map string_bytes words.now) (F.files folder.old)) (λ answer. given ≡ answer)) }
-    ensures words { IfOk result (λ given. given.status ≡ 2 → command_of (map string_bytes words.now) ≡ None) }
-    ensures range { IfOk result (λ given. given.status ≤ 3) }
+        (due_answer (map string_bytes words.now) (F.files folder.old)) (λ answer. answer_of given ≡ answer)) }
+    ensures words { IfOk result (λ given. (answer_of given).status ≡ 2 → command_of (map string_bytes words.now) ≡ None) }
+    ensures range { IfOk result (λ given. (answer_of given).status ≤ 3) }
+    ensures few { IfOk result HasFewProperties }
     ensures fault { result ≡ Err Halt.ReadFault → Rose (F.faults folder.old) (F.faults folder.new) }
 {
     let Some((task, directory)) = command_of(words) else {
-        return Ok(words_refused(rt.alloc())?);
+        return Ok(Due::Whole(words_refused(rt.alloc())?));
     };
     match task_at(rt, task, folder, directory) {
-        Ok(answer) | Err(Stop::Refused(answer)) => Ok(answer),
+        Ok(due) => Ok(due),
+        Err(Stop::Refused(answer)) => Ok(Due::Whole(answer)),
         Err(Stop::ReadFault) => Err(Halt::ReadFault),
         Err(Stop::Memory) => Err(Halt::Memory),
     }
@@ -113,45 +115,18 @@ fn task_at<R: AllocGlobal + Threads + Sync, F: Folder>(
     task: Task,
     folder: &mut F,
     directory: &str,
-) -> Result<Answer, Stop>
+) -> Result<Due, Stop>
     ensures later { F.faults folder.old ≤ F.faults folder.new }
     ensures kept { F.files folder.new ≡ F.files folder.old }
     ensures told { (files : List File) → F.files folder.old ≡ Some files
-        → Gives result (task_at task files directory.now) }
-    ensures done { IfOk result (λ answer. answer.status ≤ 1) }
+        → GivesAs answer_of result (task_at task files directory.now) }
+    ensures done { IfOk result (λ due. (answer_of due).status ≤ 1) }
+    ensures few { IfOk result HasFewProperties }
     ensures refused { IfErr result IsRefusal }
     ensures fault { result ≡ Err Stop.ReadFault → Rose (F.faults folder.old) (F.faults folder.new) }
 {
     match task {
-        Task::Replay => replay_at(rt, folder, directory),
-        Task::List => list_at(rt, folder, directory),
+        Task::Replay => Ok(Due::Whole(replay_at(rt, folder, directory)?)),
+        Task::List => Ok(Due::InPieces(listing_at(rt, folder, directory)?)),
     }
-}
-
-/// Writes the lines of an answer, each by one call, and gives the status to end with.
-fn put_answer<S: Sink>(sink: &mut S, answer: &Answer) -> u8
-    requires { answer.now.status ≤ 3 }
-    ensures later { S.faults sink.old ≤ S.faults sink.new }
-    ensures given { result ≤ 3 → IsGiven result (S.written sink.old) (S.written sink.new) answer.now }
-    ensures begun { 5 ≤ result → IsBegun (S.written sink.old) (S.written sink.new) answer.now }
-    ensures fault { result ≡ 5 → Rose (S.faults sink.old) (S.faults sink.new) }
-    ensures range { (result ≡ answer.now.status) ⊎ (result ≡ 5) ⊎ (result ≡ 6) }
-{
-    match put_lines(sink, answer.lines.as_slice()) {
-        Ok(()) => answer.status,
-        Err(PutFault::Failed) => 5,
-        Err(PutFault::Memory) => 6,
-    }
-}
-
-fn put_lines<S: Sink>(sink: &mut S, lines: &[Row<u8>]) -> Result<(), PutFault>
-    ensures later { S.faults sink.old ≤ S.faults sink.new }
-    ensures ok { OnOk result (Appends (S.written sink.old) (S.written sink.new) (flat_map (λ line. line) lines.now)) }
-    ensures err { OnErr result (AppendsFront (S.written sink.old) (S.written sink.new) (flat_map (λ line. line) lines.now)) }
-    ensures failed { result ≡ Err PutFault.Failed → Rose (S.faults sink.old) (S.faults sink.new) }
-{
-    for line in lines {
-        sink.put(line.as_slice())?;
-    }
-    Ok(())
 }

@@ -1,7 +1,7 @@
 -- A line that was cut off after whole lines leaves a front part of the text.
 use Rattle.std.proofs.lemmas.Result.{err_from_is_err_and}
 use Rattle.gp_predict.proofs.Pieces.{front_then}
-use Rattle.gp_predict.proofs.top.put_lines.Goals as goal
+use Rattle.gp_predict.proofs.writing.put_lines.Goals as goal
 
 pub returns-in_err-put-clause-err : goal.returns-in_err-put-clause-err
 returns-in_err-put-clause-err g c =

@@ -1,7 +1,7 @@
 use Rattle.std.proofs.Common.{◌≤◌, take}
 use Rattle.std.specs.Prelude.{flat_map}
 use Rattle.gp_outside.specs.Sinks.{Appends}
-use Rattle.gp_predict.proofs.top.put_lines.Given as goal
+use Rattle.gp_predict.proofs.writing.put_lines.Given as goal
 
 abbrev pub invariant-loop-line : goal.invariant-loop-line
 invariant-loop-line g l =

@@ -2,8 +2,11 @@
 // and ends with the status. Nothing that matters is done here.
 #![tactic(auto)]
 
+ghost use Rattle.std.specs.Prelude.{◌≡◌};
+ghost use Rattle.std.specs.Process.{exit_status};
+
 use gp_outside::{DirFolder, FreeGate, StdSink};
-use gp_predict::run;
+use gp_predict::{Outcome, run};
 use std::env;
 use std::io::{self, ErrorKind};
 use std::process::ExitCode;
@@ -24,6 +27,13 @@ fn main(rt: HostRuntime) -> ExitCode {
     let mut folder = DirFolder::new(rt);
     let mut sink = StdSink::new(rt);
     let outcome = run(&rt, words.as_slice(), &mut folder, &mut sink, &FreeGate);
+    exit_code(&outcome)
+}
+
+/// What the process ends with: the status of the run.
+fn exit_code(outcome: &Outcome) -> ExitCode
+    ensures { exit_status result ≡ outcome.now.status }
+{
     ExitCode::from(outcome.status)
 }
 

@@ -1,0 +1,318 @@
+// Whole runs of task replay.
+use super::{AUTH, ONE_ROOT, REPLAY, TWO_ROOTS, USE, add, ends, lengthen, recording, replays_to};
+use std::alloc::AllocError;
+use std::test::Fail;
+use std::thread::Threads;
+
+fn schedules_end_so<R: AllocGlobal + Threads + Sync>(rt: &R) -> Result<bool, AllocError> {
+    let auth = [ONE_ROOT, AUTH, USE];
+    let waits = [
+        ONE_ROOT,
+        "start 2\nop auth r\nwrite ready 1\n",
+        "read ready 1\nop use r\n",
+    ];
+    let writes = [TWO_ROOTS, "write x 1\nread x 1\n", "write x 2\n"];
+    let locks = [
+        TWO_ROOTS,
+        "acquire l\nop a\nrelease l\n",
+        "acquire l\nop b\nrelease l\n",
+    ];
+    let joins = [ONE_ROOT, "start 2\njoin 2\nop done\n", "op e\n"];
+    let exits = [ONE_ROOT, "start 2\njoin 2\nop done\n", "op e\nexit\n"];
+    let epochs = [
+        "gptrace 1\nthreads 2\nepochs 2\nroots 1 2\nvalue 2 x 5\n",
+        "acquire l\nmark\nop a\nrelease l\n",
+        "mark\nacquire l\nread x 5\nop u\n",
+    ];
+    let mut hold = true;
+    for (recorded, schedule, status, text) in [
+        (auth, "window 1\n1.0 2.0 1.1\n", 0u8, "feasible 3\n"),
+        (
+            auth,
+            "# by hand\nwindow 1\n\n1.0\n 2.0  1.1 \n",
+            0,
+            "feasible 3\n",
+        ),
+        (auth, "window 1\n", 0, "feasible 0\n"),
+        (auth, "window 1\n2.0\n", 1, "stuck 0 2\n"),
+        (auth, "window 1\n1.0 1.0\n", 1, "stuck 1 1\n"),
+        (auth, "window 1\n1.0 1.1 1.2\n", 1, "stuck 2 1\n"),
+        (auth, "window 1\n0.0\n", 1, "stuck 0 1\n"),
+        (auth, "window 1\n3.0\n", 1, "stuck 0 1\n"),
+        (auth, "window 2\n", 3, "refused schedule 1 badline\n"),
+        (waits, "window 1\n1.0 2.0\n", 1, "stuck 1 4\n"),
+        (waits, "window 1\n1.0 1.1 1.2 2.0 2.1\n", 0, "feasible 5\n"),
+        (writes, "window 1\n1.0 2.0 1.1\n", 1, "stuck 2 4\n"),
+        (writes, "window 1\n2.0 1.0 1.1\n", 0, "feasible 3\n"),
+        (locks, "window 1\n1.0 2.0\n", 1, "stuck 1 3\n"),
+        (locks, "window 1\n1.0 1.1 1.2 2.0\n", 0, "feasible 4\n"),
+        (joins, "window 1\n1.0 1.1\n", 1, "stuck 1 5\n"),
+        (joins, "window 1\n1.0 2.0 1.1\n", 1, "stuck 2 5\n"),
+        (exits, "window 1\n1.0 1.1\n", 1, "stuck 1 5\n"),
+        (exits, "window 1\n1.0 2.0 1.1 1.2\n", 0, "feasible 4\n"),
+        (epochs, "window 2\n1.0 1.1 2.0 2.1 2.2\n", 0, "feasible 5\n"),
+        (epochs, "window 2\n2.0\n", 1, "stuck 0 3\n"),
+        (epochs, "window 1\n1.0\n", 0, "feasible 1\n"),
+        (epochs, "window 3\n", 3, "refused schedule 1 badline\n"),
+    ] {
+        hold &= replays_to(rt, recorded, schedule, status, text)?;
+    }
+    Ok(hold)
+}
+
+#[test]
+fn schedules_are_replayed(rt: HostRuntime) -> Result<(), Fail> {
+    assert!(rt; schedules_end_so(&rt)?);
+    Ok(())
+}
+
+fn manifests_are_refused<R: AllocGlobal + Threads + Sync>(rt: &R) -> Result<bool, AllocError> {
+    let mut hold = true;
+    for (manifest, text) in [
+        ("", "refused manifest 1 badline\n"),
+        (
+            "gptrace 1\nthreads 1\nepochs 0\nroots 1\n",
+            "refused manifest 3 badline\n",
+        ),
+        (
+            "gptrace 1\nthreads 2\nepochs 1\n",
+            "refused manifest 4 badline\n",
+        ),
+        (
+            "gptrace 1\nthreads 2\nepochs 1\nroots 1",
+            "refused manifest 4 nolastnewline\n",
+        ),
+        (
+            "gptrace 3\nthreads 2\nepochs 1\nroots 1\n",
+            "refused manifest 1 badline\n",
+        ),
+        (
+            "gptrace 1\nthreads 0\nepochs 1\nroots 1\n",
+            "refused manifest 2 badline\n",
+        ),
+        (
+            "gptrace 1\nthreads 65\nepochs 1\nroots 1\n",
+            "refused manifest 2 badline\n",
+        ),
+        (
+            "gptrace 1\nthreads 02\nepochs 1\nroots 1\n",
+            "refused manifest 2 badline\n",
+        ),
+        (
+            "gptrace 1\n\nthreads 2\nepochs 0\nroots 1\n",
+            "refused manifest 4 badline\n",
+        ),
+        (
+            "gptrace 1\nthreads 2\nepochs 4097\nroots 1\n",
+            "refused manifest 3 badline\n",
+        ),
+        (
+            "gptrace 1\nthreads 2\nepochs 1\nroots\n",
+            "refused manifest 4 badline\n",
+        ),
+        (
+            "gptrace 1\nthreads 2\nepochs 1\nroots 0\n",
+            "refused manifest 4 badline\n",
+        ),
+        (
+            "gptrace 1\nthreads 2\nepochs 1\nroots 3\n",
+            "refused manifest 4 badline\n",
+        ),
+        (
+            "gptrace 1\nthreads 2\nepochs 1\nroots 2 1\n",
+            "refused manifest 4 badline\n",
+        ),
+        (
+            "gptrace 1\nthreads 2\nepochs 1\nroots 1 1\n",
+            "refused manifest 4 badline\n",
+        ),
+        (
+            "gptrace 1\nthreads 2\nepochs 1\nroots 1\nvalue 2 x 1\n",
+            "refused manifest 5 badline\n",
+        ),
+        (
+            "gptrace 1\nthreads 2\nepochs 1\nroots 1\nvalue 1 x\n",
+            "refused manifest 5 badline\n",
+        ),
+        (
+            "gptrace 1\nthreads 2\nepochs 1\nroots 1\nvalue 1 x 1\nvalue 1 x 1\n",
+            "refused manifest 6 badline\n",
+        ),
+        (
+            "gptrace 1\nthreads 2\nepochs 2\nroots 1\nvalue 2 x 1\nvalue 1 x 1\n\nvalue 2 x 2\n",
+            "refused manifest 8 badline\n",
+        ),
+        (
+            "gptrace 1\nthreads 2\nepochs 1\nroots 1\nthreads 2\n",
+            "refused manifest 5 badline\n",
+        ),
+        (
+            "gptrace 1\nthreads 2\nepochs 1\tx\nroots 1\n",
+            "refused manifest 3 notascii\n",
+        ),
+        ("gptrace 3", "refused manifest 1 nolastnewline\n"),
+    ] {
+        hold &= replays_to(rt, [manifest, AUTH, USE], "window 1\n", 3, text)?;
+    }
+    Ok(hold)
+}
+
+#[test]
+fn malformed_manifests_are_refused_at_their_line(rt: HostRuntime) -> Result<(), Fail> {
+    assert!(rt; manifests_are_refused(&rt)?);
+    Ok(())
+}
+
+fn traces_are_refused<R: AllocGlobal + Threads + Sync>(rt: &R) -> Result<bool, AllocError> {
+    let mut hold = true;
+    for (trace, text) in [
+        ("read x\n", "refused t1.trace 1 badword\n"),
+        ("read x -0\n", "refused t1.trace 1 badword\n"),
+        ("read x 01\n", "refused t1.trace 1 badword\n"),
+        (
+            "read x 9223372036854775808\n",
+            "refused t1.trace 1 badword\n",
+        ),
+        ("op a\nwrite X 1\n", "refused t1.trace 2 badword\n"),
+        ("start 4294967296\n", "refused t1.trace 1 badword\n"),
+        ("op\n", "refused t1.trace 1 badword\n"),
+        (
+            "op a_name_of_thirty_three_bytes_xyz00\n",
+            "refused t1.trace 1 badword\n",
+        ),
+        ("op a b c d e f\n", "refused t1.trace 1 badword\n"),
+        ("mark 1\n", "refused t1.trace 1 badword\n"),
+        ("start 1\n", "refused t1.trace 1 nameself\n"),
+        ("join 1\n", "refused t1.trace 1 nameself\n"),
+        ("op a\nrelease l\n", "refused t1.trace 2 releaseunheld\n"),
+        ("acquire l\nacquire l\n", "refused t1.trace 2 acquireheld\n"),
+        ("end r\n", "refused t1.trace 1 regionunmatched\n"),
+        (
+            "begin a\nbegin b\nend a\n",
+            "refused t1.trace 3 regionunmatched\n",
+        ),
+        ("op a\nmark\n", "refused t1.trace 2 markcount\n"),
+        ("exit\nop a\n", "refused t1.trace 2 afterexit\n"),
+        ("exit\nmark 1\n", "refused t1.trace 2 afterexit\n"),
+        ("op a", "refused t1.trace 1 nolastnewline\n"),
+        ("op a\nop \u{e9}\n", "refused t1.trace 2 notascii\n"),
+    ] {
+        hold &= replays_to(rt, [ONE_ROOT, trace, USE], "window 1\n", 3, text)?;
+    }
+    Ok(hold)
+}
+
+/// Whether a root that is alone is refused so.
+fn one_thread_is_refused<R: AllocGlobal + Threads + Sync>(rt: &R) -> Result<bool, AllocError> {
+    let one = "gptrace 1\nthreads 1\nepochs 1\nroots 1\n";
+    let two = "gptrace 1\nthreads 1\nepochs 2\nroots 1\n";
+    let released = "refused t1.trace 2 releaseunheld\n";
+    let unmarked = "refused t1.trace 2 markcount\n";
+    Ok(
+        replays_to(rt, [one, "op a\nrelease l\n", ""], "", 3, released)?
+            && replays_to(rt, [two, "op a\n", ""], "", 3, unmarked)?,
+    )
+}
+
+#[test]
+fn malformed_traces_are_refused_at_their_line(rt: HostRuntime) -> Result<(), Fail> {
+    assert!(rt; traces_are_refused(&rt)? && one_thread_is_refused(&rt)?);
+    Ok(())
+}
+
+fn schedules_are_refused<R: AllocGlobal + Threads + Sync>(rt: &R) -> Result<bool, AllocError> {
+    let mut hold = true;
+    for (schedule, text) in [
+        ("", "refused schedule 1 badline\n"),
+        ("# none\n", "refused schedule 2 badline\n"),
+        ("window 0\n", "refused schedule 1 badline\n"),
+        ("window 01\n", "refused schedule 1 badline\n"),
+        ("window\n", "refused schedule 1 badline\n"),
+        ("window 1 1\n", "refused schedule 1 badline\n"),
+        ("windows 1\n", "refused schedule 1 badline\n"),
+        ("\n# none\n", "refused schedule 3 badline\n"),
+        ("\nwindow 2\nx\n", "refused schedule 2 badline\n"),
+        ("1.0\n", "refused schedule 1 badline\n"),
+        ("window 1\n1\n", "refused schedule 2 badline\n"),
+        ("window 1\n1.0.0\n", "refused schedule 2 badline\n"),
+        ("window 1\n1.00\n", "refused schedule 2 badline\n"),
+        ("window 1\n1.0\n1.\n", "refused schedule 3 badline\n"),
+        ("window 1\n4294967296.0\n", "refused schedule 2 badline\n"),
+        ("window 1\n1.0\nwindow 1\n", "refused schedule 3 badline\n"),
+        (
+            "window 1\n1.0\n\n1.1 1\n1\n",
+            "refused schedule 4 badline\n",
+        ),
+        ("foo\nbar\t\n", "refused schedule 2 notascii\n"),
+        ("window 1", "refused schedule 1 nolastnewline\n"),
+    ] {
+        hold &= replays_to(rt, [ONE_ROOT, AUTH, USE], schedule, 3, text)?;
+    }
+    Ok(hold)
+}
+
+#[test]
+fn malformed_schedules_are_refused_at_their_line(rt: HostRuntime) -> Result<(), Fail> {
+    assert!(rt; schedules_are_refused(&rt)?);
+    Ok(())
+}
+
+/// Whether replaying ends so where a file has this length.
+fn length_ends<R: AllocGlobal + Threads + Sync>(
+    rt: &R,
+    place: usize,
+    length: usize,
+    status: u8,
+    text: &str,
+) -> Result<bool, AllocError> {
+    let mut files = recording(rt.alloc(), [ONE_ROOT, AUTH, USE])?;
+    add(&mut files, rt.alloc(), "schedule", "window 1\n")?;
+    if let Some((_, bytes)) = files.get_mut(place) {
+        lengthen(bytes, length)?;
+    }
+    ends(rt, REPLAY, files, status, text)
+}
+
+fn lengths_are_limited<R: AllocGlobal + Threads + Sync>(rt: &R) -> Result<bool, AllocError> {
+    let mut hold = true;
+    for (place, limit, text) in [
+        (0usize, 1_048_576usize, "refused manifest toolong\n"),
+        (1, 2_097_152, "refused t1.trace toolong\n"),
+        (2, 2_097_152, "refused t2.trace toolong\n"),
+        (3, 16_777_216, "refused schedule toolong\n"),
+    ] {
+        hold &= length_ends(rt, place, limit, 0, "feasible 0\n")?;
+        hold &= length_ends(rt, place, limit + 1, 3, text)?;
+    }
+    Ok(hold)
+}
+
+#[test]
+fn a_file_may_be_as_long_as_its_limit(rt: HostRuntime) -> Result<(), Fail> {
+    assert!(rt; lengths_are_limited(&rt)?);
+    Ok(())
+}
+
+/// Whether a trace whose line has this length ends so.
+fn line_ends<R: AllocGlobal + Threads + Sync>(
+    rt: &R,
+    length: usize,
+    status: u8,
+    text: &str,
+) -> Result<bool, AllocError> {
+    let mut files = recording(rt.alloc(), [ONE_ROOT, "op a", USE])?;
+    add(&mut files, rt.alloc(), "schedule", "window 1\n")?;
+    if let Some((_, trace)) = files.get_mut(1) {
+        trace.resize(length, b' ')?;
+        trace.push(b'\n')?;
+    }
+    ends(rt, REPLAY, files, status, text)
+}
+
+#[test]
+fn a_line_may_have_4096_bytes(rt: HostRuntime) -> Result<(), Fail> {
+    let longest = line_ends(&rt, 4_096, 0, "feasible 0\n")?;
+    let longer = line_ends(&rt, 4_097, 3, "refused t1.trace 1 longline\n")?;
+    assert!(rt; longest && longer);
+    Ok(())
+}

@@ -1,0 +1,169 @@
+// Whole runs over recordings with shared locks, which the format of `gptrace 2` admits.
+use super::{TWO_ROOTS, replays_to};
+use std::alloc::AllocError;
+use std::test::Fail;
+use std::thread::Threads;
+
+/// Two threads, both roots, one epoch.
+const SHARED: &str = "gptrace 2\nthreads 2\nepochs 1\nroots 1 2\n";
+
+/// The same in two epochs.
+const SHARED_EPOCHS: &str = "gptrace 2\nthreads 2\nepochs 2\nroots 1 2\n";
+
+/// A read under a lock that is shared.
+const READER: &str = "racquire l\nread x 0\nrrelease l\n";
+
+fn schedules_end_so<R: AllocGlobal + Threads + Sync>(rt: &R) -> Result<bool, AllocError> {
+    let both_share = "racquire l\nwrite x 1\nrrelease l\n";
+    let one_holds = "acquire l\nwrite x 1\nrelease l\n";
+    let over_mark = "racquire l\nmark\nop a\nrrelease l\n";
+    let shares_later = "mark\nracquire l\nop u\n";
+    let holds_later = "mark\nacquire l\nop u\n";
+    let mut hold = true;
+    for (recorded, schedule, status, text) in [
+        (
+            [SHARED, READER, both_share],
+            "window 1\n1.0 2.0\n",
+            0u8,
+            "feasible 2\n",
+        ),
+        (
+            [TWO_ROOTS, READER, both_share],
+            "window 1\n1.0 2.0\n",
+            3,
+            "refused t1.trace 1 badword\n",
+        ),
+        (
+            [SHARED, READER, one_holds],
+            "window 1\n1.0 2.0\n",
+            1,
+            "stuck 1 3\n",
+        ),
+        (
+            [SHARED, READER, one_holds],
+            "window 1\n2.0 1.0\n",
+            1,
+            "stuck 1 3\n",
+        ),
+        (
+            [SHARED, READER, one_holds],
+            "window 1\n1.0 1.1 1.2 2.0\n",
+            0,
+            "feasible 4\n",
+        ),
+        (
+            [SHARED, READER, both_share],
+            "window 1\n1.0 2.0 1.1 1.2 2.1 2.2\n",
+            0,
+            "feasible 6\n",
+        ),
+        (
+            [SHARED_EPOCHS, over_mark, shares_later],
+            "window 2\n2.0 2.1 1.0\n",
+            0,
+            "feasible 3\n",
+        ),
+        (
+            [SHARED_EPOCHS, over_mark, holds_later],
+            "window 2\n2.0 2.1 1.0\n",
+            1,
+            "stuck 0 3\n",
+        ),
+        (
+            [SHARED_EPOCHS, over_mark, holds_later],
+            "window 2\n1.0 1.1 2.0\n",
+            0,
+            "feasible 3\n",
+        ),
+    ] {
+        hold &= replays_to(rt, recorded, schedule, status, text)?;
+    }
+    Ok(hold)
+}
+
+#[test]
+fn several_threads_may_share_a_lock(rt: HostRuntime) -> Result<(), Fail> {
+    assert!(rt; schedules_end_so(&rt)?);
+    Ok(())
+}
+
+fn traces_are_refused<R: AllocGlobal + Threads + Sync>(rt: &R) -> Result<bool, AllocError> {
+    let mut hold = true;
+    for (trace, text) in [
+        (
+            "racquire l\nracquire l\n",
+            "refused t1.trace 2 acquireheld\n",
+        ),
+        (
+            "acquire l\nracquire l\n",
+            "refused t1.trace 2 acquireheld\n",
+        ),
+        (
+            "racquire l\nacquire l\n",
+            "refused t1.trace 2 acquireheld\n",
+        ),
+        ("rrelease l\n", "refused t1.trace 1 releaseunheld\n"),
+        (
+            "acquire l\nrrelease l\n",
+            "refused t1.trace 2 releaseunheld\n",
+        ),
+        (
+            "racquire l\nrelease l\n",
+            "refused t1.trace 2 releaseunheld\n",
+        ),
+        ("racquire\n", "refused t1.trace 1 badword\n"),
+    ] {
+        hold &= replays_to(rt, [SHARED, trace, "op a\n"], "window 1\n", 3, text)?;
+    }
+    Ok(hold)
+}
+
+#[test]
+fn a_lock_is_given_back_as_it_was_taken(rt: HostRuntime) -> Result<(), Fail> {
+    assert!(rt; traces_are_refused(&rt)?);
+    Ok(())
+}
+
+fn marks_are_checked<R: AllocGlobal + Threads + Sync>(rt: &R) -> Result<bool, AllocError> {
+    let three = "gptrace 2\nthreads 2\nepochs 3\nroots 1 2\n";
+    let mut hold = true;
+    for (recorded, status, text) in [
+        (
+            [SHARED_EPOCHS, "racquire l\nmark\n", "racquire l\nmark\n"],
+            0u8,
+            "feasible 0\n",
+        ),
+        (
+            [SHARED_EPOCHS, "racquire l\nmark\n", "acquire l\nmark\n"],
+            3,
+            "refused recording twoholders l 2\n",
+        ),
+        (
+            [
+                SHARED_EPOCHS,
+                "acquire m\nracquire l\nmark\n",
+                "acquire l\nracquire m\nmark\n",
+            ],
+            3,
+            "refused recording twoholders l 2\n",
+        ),
+        (
+            [
+                three,
+                "racquire m\nmark\nracquire l\nmark\n",
+                "acquire m\nmark\nacquire l\nmark\n",
+            ],
+            3,
+            "refused recording twoholders m 2\n",
+        ),
+    ] {
+        hold &= replays_to(rt, recorded, "window 1\n", status, text)?;
+    }
+    Ok(hold)
+}
+
+#[test]
+fn no_lock_is_shared_and_held_over_a_mark(rt: HostRuntime) -> Result<(), Fail> {
+    assert!(rt; marks_are_checked(&rt)?);
+    Ok(())
+}

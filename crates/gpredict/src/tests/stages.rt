@@ -1,0 +1,240 @@
+// Which of several refusals is told, and that nothing after it is read.
+use super::{
+    AUTH, Files, LIST, ONE_ROOT, REPLAY, Script, TWO_ROOTS, USE, add, ends, recording, replays_to,
+    runs_to, words_of,
+};
+use std::alloc::AllocError;
+use std::test::Fail;
+use std::thread::Threads;
+
+fn refusals_come_in_order<R: AllocGlobal + Threads + Sync>(rt: &R) -> Result<bool, AllocError> {
+    let epochs = "gptrace 1\nthreads 2\nepochs 2\nroots 1 2\n";
+    let mut hold = true;
+    for (manifest, first, second, text) in [
+        (
+            ONE_ROOT,
+            "start 3\n",
+            USE,
+            "refused recording unknownthread 3\n",
+        ),
+        (
+            ONE_ROOT,
+            "join 3\n",
+            USE,
+            "refused recording unknownthread 3\n",
+        ),
+        (
+            ONE_ROOT,
+            "start 0\n",
+            USE,
+            "refused recording unknownthread 0\n",
+        ),
+        (
+            ONE_ROOT,
+            AUTH,
+            "start 1\n",
+            "refused recording startsroot 1\n",
+        ),
+        (
+            ONE_ROOT,
+            "start 2\nstart 2\n",
+            USE,
+            "refused recording twostarts 2\n",
+        ),
+        (
+            TWO_ROOTS,
+            "start 2\n",
+            USE,
+            "refused recording startsroot 2\n",
+        ),
+        (
+            epochs,
+            "acquire l\nmark\n",
+            "acquire l\nmark\n",
+            "refused recording twoholders l 2\n",
+        ),
+        (
+            epochs,
+            "acquire m\nacquire l\nmark\n",
+            "acquire l\nacquire m\nmark\n",
+            "refused recording twoholders l 2\n",
+        ),
+        (
+            epochs,
+            "start 2\nacquire l\nmark\n",
+            "acquire l\nmark\n",
+            "refused recording startsroot 2\n",
+        ),
+        (
+            ONE_ROOT,
+            "start 3\n",
+            "start 2\n",
+            "refused t2.trace 1 nameself\n",
+        ),
+        (ONE_ROOT, "foo\n", "foo\n", "refused t1.trace 1 badword\n"),
+        ("", "foo\n", "foo\n", "refused manifest 1 badline\n"),
+        (ONE_ROOT, AUTH, USE, "refused schedule 1 badline\n"),
+        (
+            epochs,
+            "acquire l\nmark\n",
+            "acquire l\nrelease l\nmark\n",
+            "refused schedule 1 badline\n",
+        ),
+    ] {
+        hold &= replays_to(rt, [manifest, first, second], "", 3, text)?;
+    }
+    Ok(hold)
+}
+
+/// Whether two starts by the first and the third thread are told before the schedule.
+fn two_starts_are_refused<R: AllocGlobal + Threads + Sync>(rt: &R) -> Result<bool, AllocError> {
+    let three = "gptrace 1\nthreads 3\nepochs 1\nroots 1 3\n";
+    let alloc = rt.alloc();
+    let mut files = recording(alloc, [three, "start 2\n", ""])?;
+    add(&mut files, alloc, "t3.trace", "start 2\n")?;
+    ends(rt, REPLAY, files, 3, "refused recording twostarts 2\n")
+}
+
+#[test]
+fn the_first_refusal_in_order_is_told(rt: HostRuntime) -> Result<(), Fail> {
+    assert!(rt; refusals_come_in_order(&rt)? && two_starts_are_refused(&rt)?);
+    Ok(())
+}
+
+/// Whether the files of a task without the one at a place are refused so, where the folder would fail
+/// at the call after this one.
+fn absence_ends<R: AllocGlobal + Threads + Sync>(
+    rt: &R,
+    task: &str,
+    files: Files,
+    place: usize,
+    text: &str,
+) -> Result<bool, AllocError> {
+    let alloc = rt.alloc();
+    let mut files = files;
+    if place < files.len() {
+        let _ = files.remove(place);
+    }
+    let words = words_of(alloc, task)?;
+    let script = Script {
+        reads: vec![in alloc; place as u64 + 2]?,
+        puts: Vec::new(alloc),
+    };
+    Ok(runs_to(rt, words.as_slice(), files, script, 3, text))
+}
+
+fn absences_are_refused<R: AllocGlobal + Threads + Sync>(rt: &R) -> Result<bool, AllocError> {
+    let mut hold = true;
+    for (place, first, text) in [
+        (0usize, "foo\n", "refused manifest absent\n"),
+        (1, "foo\n", "refused t1.trace absent\n"),
+        (2, "foo\n", "refused t2.trace absent\n"),
+        (3, AUTH, "refused schedule absent\n"),
+    ] {
+        let mut files = recording(rt.alloc(), [ONE_ROOT, first, USE])?;
+        add(&mut files, rt.alloc(), "schedule", "window 1\n")?;
+        hold &= absence_ends(rt, REPLAY, files, place, text)?;
+    }
+    let mut files = recording(rt.alloc(), [ONE_ROOT, AUTH, USE])?;
+    add(&mut files, rt.alloc(), "props", "property p\n")?;
+    Ok(hold && absence_ends(rt, LIST, files, 3, "refused props absent\n")?)
+}
+
+#[test]
+fn an_absent_file_is_refused_and_none_after_it_is_read(rt: HostRuntime) -> Result<(), Fail> {
+    assert!(rt; absences_are_refused(&rt)?);
+    Ok(())
+}
+
+/// Whether a task on a recording and one file more is refused so, where the folder would fail at this
+/// call.
+fn refusal_ends<R: AllocGlobal + Threads + Sync>(
+    rt: &R,
+    task: &str,
+    recorded: [&str; 3],
+    file: &str,
+    failing: u64,
+    text: &str,
+) -> Result<bool, AllocError> {
+    let alloc = rt.alloc();
+    let mut files = recording(alloc, recorded)?;
+    add(&mut files, alloc, file, "foo\n")?;
+    let words = words_of(alloc, task)?;
+    let script = Script {
+        reads: vec![in alloc; failing]?,
+        puts: Vec::new(alloc),
+    };
+    let status = if failing == 1 { 2 } else { 3 };
+    Ok(runs_to(rt, words.as_slice(), files, script, status, text))
+}
+
+fn nothing_is_read_after<R: AllocGlobal + Threads + Sync>(rt: &R) -> Result<bool, AllocError> {
+    let mut hold = true;
+    for (task, recorded, file, failing, text) in [
+        (
+            "--task=lists",
+            ["foo\n", "foo\n", "foo\n"],
+            "props",
+            1u64,
+            "words\n",
+        ),
+        (
+            REPLAY,
+            ["gptrace\t1\n", "foo\n", "foo\n"],
+            "schedule",
+            2,
+            "refused manifest 1 notascii\n",
+        ),
+        (
+            REPLAY,
+            ["foo\n", "foo\n", "foo\n"],
+            "schedule",
+            2,
+            "refused manifest 1 badline\n",
+        ),
+        (
+            REPLAY,
+            [ONE_ROOT, AUTH, "foo\n"],
+            "schedule",
+            4,
+            "refused t2.trace 1 badword\n",
+        ),
+        (
+            REPLAY,
+            [ONE_ROOT, "start 3\n", USE],
+            "schedule",
+            4,
+            "refused recording unknownthread 3\n",
+        ),
+        (
+            LIST,
+            [TWO_ROOTS, "start 2\n", USE],
+            "props",
+            4,
+            "refused recording startsroot 2\n",
+        ),
+        (
+            REPLAY,
+            [ONE_ROOT, AUTH, USE],
+            "schedule",
+            5,
+            "refused schedule 1 badline\n",
+        ),
+        (
+            LIST,
+            [ONE_ROOT, AUTH, USE],
+            "props",
+            5,
+            "refused props 1 badword\n",
+        ),
+    ] {
+        hold &= refusal_ends(rt, task, recorded, file, failing, text)?;
+    }
+    Ok(hold)
+}
+
+#[test]
+fn nothing_after_the_first_refusal_is_read(rt: HostRuntime) -> Result<(), Fail> {
+    assert!(rt; nothing_is_read_after(&rt)?);
+    Ok(())
+}

@@ -1,5 +1,5 @@
 -- What is derived from what is true is true.
-use Rattle.std.proofs.Common.{◌≡◌, ◌≢◌, refl, sym, ◌∙◌, subst, ℕ, Bool, true, false, not, List}
+use Rattle.std.proofs.Common.{◌≡◌, ◌≢◌, refl, sym, ◌∙◌, subst, ℕ, Bool, true, false, List}
 use Rattle.std.specs.List.{All, Contains}
 use Rattle.std.proofs.lemmas.List.Elements.{All-contains}
 use Rattle.gp_clause.specs.declared.lit.Lit.{Lit}
@@ -7,12 +7,7 @@ use Rattle.gp_clause.specs.Clause.{HoldsClause, HoldsAll}
 use Rattle.gp_clause.specs.Closure.{Derived, Conflicts}
 use Rattle.gp_clause.specs.Closure.Derived.{given, forced}
 use Rattle.gp_clause.specs.Lit.{HoldsLit, lit_eq, opposite}
-use Rattle.gp_clause.specs.LitLaws.{lit_eq_decides}
-
--- a truth value is not its own negation
-not_both : (b : Bool) → b ≡ not b → ⊥
-not_both true e = cc
-not_both false e = cc
+use Rattle.gp_clause.specs.LitLaws.{lit_eq_decides, not_both}
 
 -- a literal that is true is the one that is left, where the negation of each other one is true
 by_test : (truth : ℕ → Bool) (x lit : Lit) (b : Bool) → lit_eq x lit ≡ b → HoldsLit truth x

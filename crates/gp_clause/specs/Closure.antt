@@ -1,5 +1,5 @@
 -- What unit clauses derive from a start: no order of using the clauses matters.
-use Rattle.std.specs.Prelude.{ℕ, ◌≢◌, Bool, List, All, Contains}
+use Rattle.std.specs.Prelude.{ℕ, ◌≡◌, ◌≢◌, Bool, not, Option, Some, None, List, All, Contains}
 use Rattle.gp_clause.specs.declared.lit.Lit.{Lit}
 use Rattle.gp_clause.specs.Clause.{HoldsAll}
 use Rattle.gp_clause.specs.Lit.{HoldsLit, opposite}
@@ -22,3 +22,25 @@ pub record DerivedMeans : Type 0 where
       → (lit : Lit) → Derived start clauses lit → HoldsLit truth lit
   pub no_conflict : (start : List Lit) (clauses : List (List Lit)) (truth : ℕ → Bool) → All (HoldsLit truth) start → HoldsAll truth clauses
       → Conflicts start clauses → ⊥
+
+-- a partial assignment makes a literal true
+abbrev pub IsTrueIn : (ℕ → Option Bool) → Lit → Type 0
+IsTrueIn values lit = values lit.variable ≡ Some lit.positive
+
+-- a partial assignment makes a literal false
+abbrev pub IsFalseIn : (ℕ → Option Bool) → Lit → Type 0
+IsFalseIn values lit = values lit.variable ≡ Some (not lit.positive)
+
+-- a partial assignment leaves no clause false, and none unit: with one literal unassigned and all others false
+pub record LeavesNone (values : ℕ → Option Bool) (clauses : List (List Lit)) : Type 0 where
+  pub no_false : (clause : List Lit) → Contains clauses clause → ((lit : Lit) → Contains clause lit → IsFalseIn values lit) → ⊥
+  pub no_unit : (clause : List Lit) (lit : Lit) → Contains clauses clause → Contains clause lit
+      → ((other : Lit) → Contains clause other → other ≢ lit → IsFalseIn values other) → values lit.variable ≡ None → ⊥
+
+-- what is derived is the least closure: a partial assignment that makes the start true and leaves no clause false or unit
+-- makes each literal that is derived true, and then no clause is false
+pub record ClosureIsLeast : Type 0 where
+  pub true_too : (start : List Lit) (clauses : List (List Lit)) (values : ℕ → Option Bool) → All (IsTrueIn values) start
+      → LeavesNone values clauses → (lit : Lit) → Derived start clauses lit → IsTrueIn values lit
+  pub no_conflict : (start : List Lit) (clauses : List (List Lit)) (values : ℕ → Option Bool) → All (IsTrueIn values) start
+      → LeavesNone values clauses → Conflicts start clauses → ⊥

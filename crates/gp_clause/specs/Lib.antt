@@ -7,4 +7,7 @@ pub mod Problem
 pub mod Valuation
 pub mod Follows
 pub mod Walk
+pub mod WalkLaws
+pub mod OccurrenceLaws
 pub mod Closure
+pub mod ClosureLaws

@@ -1,4 +1,4 @@
-use Rattle.std.specs.Prelude.{◌≡◌, Bool, true, false, ◌&&◌, refl, List}
+use Rattle.std.specs.Prelude.{◌≡◌, Bool, true, false, not, ◌&&◌, refl, List}
 use Rattle.std.specs.Bool.{Decides}
 use Rattle.std.specs.Cmp.{IsEquivalence, decided, unsigned_Decides}
 use Rattle.std.specs.Cmp.Lexicographic.{pointwise, pointwise_decides, lists_equiv}
@@ -36,3 +36,8 @@ lits_decide = pointwise_decides lit_eq_decides
 -- the test of lists of literals is an equivalence
 pub lits_equivalence : IsEquivalence (pointwise lit_eq)
 lits_equivalence = lists_equiv (decided lit_eq lit_eq_decides)
+
+-- a sign is not its own negation
+pub not_both : (sign : Bool) → sign ≡ not sign → ⊥
+not_both true e = cc
+not_both false e = cc

@@ -1,6 +1,6 @@
 use Rattle.std.proofs.Common.{nat_lt, rules}
 use Rattle.std.proofs.lemmas.List.Sorted.{answers_always}
-use Rattle.gp_clause.proofs.Occurrences.{rises_from_tests}
+use Rattle.gp_clause.specs.OccurrenceLaws.{rises_from_tests}
 use Rattle.gp_clause.proofs.clause.is_rising.Goals as goal
 
 pub returns : goal.returns

@@ -1,7 +1,7 @@
 use Rattle.std.proofs.Common.{◌+◌, ◌<◌, ◌≤◌, ℕ, length, get_or, refl, arith, rules}
 use Rattle.std.proofs.lemmas.List.Sorted.{IsNonDecreasingBy-from_sort_by_key}
 use Rattle.std.specs.List.Sorted.{IsNonDecreasingBy}
-use Rattle.gp_clause.proofs.Occurrences.{twice_from_sorted, once_from_rising, occurrences_permuted}
+use Rattle.gp_clause.specs.OccurrenceLaws.{twice_from_sorted, once_from_rising, occurrences_permuted}
 use Rattle.gp_clause.specs.Clause.{IsRising}
 use Rattle.gp_clause.specs.declared.lit.Lit.{Lit}
 use Rattle.gp_clause.proofs.clause.Clause.of.Goals as goal

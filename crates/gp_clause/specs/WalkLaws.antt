@@ -8,7 +8,7 @@ use Rattle.gp_clause.specs.Edge.{Keeps}
 use Rattle.gp_clause.specs.Walk.{IsWalk, weight, IsAmong, HasNegativeCycle}
 
 -- along a walk that the places keep, they differ by no more than its weight
-place_along : (place : ℕ → ℤ) (edges : List Edge) → All (Keeps place) edges → (from : ℕ) (walk : List Edge) (to : ℕ)
+pub place_along : (place : ℕ → ℤ) (edges : List Edge) → All (Keeps place) edges → (from : ℕ) (walk : List Edge) (to : ℕ)
     → IsWalk from walk to → IsAmong edges walk → place from ≤ℤ (place to +ℤ weight walk)
 place_along place edges keeps from [] to leads among = rw leads (omega (arith, ints))
 place_along place edges keeps from (edge ∷ walk) to leads among =

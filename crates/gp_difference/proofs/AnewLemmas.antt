@@ -6,7 +6,7 @@ use Rattle.std.proofs.lemmas.List.{length-set}
 use Rattle.std.proofs.lemmas.List.Elements.{All-from_get_or}
 use Rattle.gp_difference.specs.Places.{place_at}
 use Rattle.gp_difference.specs.Anew.{below_count, IsNextBelow, IsHigherBelow, AreSpaced, IsLevelled, AreSqueezed, KeepsLike, AreAnew}
-use Rattle.gp_difference.proofs.QueueLemmas.{lt_z_true, lt_z_false}
+use Rattle.gp_difference.proofs.CountLemmas.{lt_z_true, lt_z_false}
 use Rattle.gp_difference.proofs.RunLemmas.{read_set}
 
 -- one more place looked at

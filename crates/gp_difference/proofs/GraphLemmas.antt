@@ -1,4 +1,4 @@
-use Rattle.std.proofs.Common.{◌≡◌, ℕ, ◌+◌, ◌-◌, ◌^◌, ◌<◌, ◌≤◌, inl, inr, suc, zero, Bool, true, false, List, [], ◌∷◌, ◌++◌, length, map, get_or, take, drop, refl, sym, ap, subst, ◌∙◌, arith, ℤ, pos, ◌+ℤ◌, ◌-ℤ◌, ◌≤ℤ◌, ◌<ℤ◌, vec_capacity, Vec, Global}
+use Rattle.std.proofs.Common.{◌≡◌, ℕ, ◌+◌, ◌-◌, ◌^◌, ◌<◌, ◌≤◌, inl, inr, suc, zero, Bool, true, false, List, [], ◌∷◌, ◌++◌, length, map, get_or, take, drop, refl, sym, ap, subst, ◌∙◌, arith, ℤ, pos, ◌+ℤ◌, ◌-ℤ◌, ◌≤ℤ◌, ◌<ℤ◌, vec_capacity}
 use Rattle.std.specs.List.{Contains}
 use Rattle.std.proofs.lemmas.Int.{ints, by_lt_z}
 use Rattle.std.proofs.lemmas.Bool.{cases_lt, cases_Bool}
@@ -12,14 +12,15 @@ use Rattle.gp_difference.specs.contracts.graph.Graph.{the_view}
 use Rattle.gp_clause.specs.Walk.{IsAmong, HasNegativeCycle}
 use Rattle.gp_difference.specs.Places.{place_at, KeepsAll, IsEdgeOf, AreFresh, AreLow}
 use Rattle.gp_difference.specs.Bounds.{edge_at, edges_of, no_bound, untagged, AreAmong, Closes}
-use Rattle.gp_difference.specs.Graph.{Constraints, IsFeasible, MovesPlaces, Reaches, all_edges}
+use Rattle.gp_difference.specs.Graph.{GraphForm, IsFeasible, MovesPlaces, Reaches, all_edges}
+use Rattle.gp_difference.specs.Placement.{PlacementForm, IsAtRest}
 use Rattle.gp_difference.specs.Inside.{IsSound}
 use Rattle.gp_difference.specs.Settle.{Marks, AreMoved, NoneIsBelow}
 use Rattle.gp_difference.specs.Anew.{AreAnew}
-use Rattle.gp_clause.proofs.Cycles.{none_negative}
+use Rattle.gp_clause.specs.WalkLaws.{none_negative}
 use Rattle.gp_difference.proofs.SettleLemmas.{fresh_at, fresh_marks}
 use Rattle.gp_difference.proofs.WalkLemmas.{IsWalk-push, weight-push, IsAmong-push}
-use Rattle.gp_difference.proofs.QueueLemmas.{push_read}
+use Rattle.gp_difference.proofs.CountLemmas.{push_read}
 
 -- fixed edges and kept bounds together are all bounds
 pub whole : (fixed : ℕ) (bounds : List Bound) → map untagged (edges_of (take fixed bounds)) ≡ take fixed bounds →
@@ -35,13 +36,13 @@ all_keep places bounds kept =
 -- a sound graph is feasible
 pub sound_feasible : (g : Inside) → IsSound g → IsFeasible (the_view g)
 sound_feasible g sound =
-    let keeps : KeepsAll g.places.items (all_edges (the_view g)) =
-    subst (λ bs. KeepsAll g.places.items (edges_of bs)) (sym (whole g.fixed g.bounds.bounds sound.untagged))
-    (all_keep g.places.items g.bounds.bounds sound.kept) in
+    let keeps : KeepsAll g.placement.places (all_edges (the_view g)) =
+    subst (λ bs. KeepsAll g.placement.places (edges_of bs)) (sym (whole g.fixed g.bounds.bounds sound.untagged))
+    (all_keep g.placement.places g.bounds.bounds sound.kept) in
     record {
       placed = refl;
       keeps = keeps;
-      no_cycle = none_negative (place_at g.places.items) (all_edges (the_view g)) keeps;
+      no_cycle = none_negative (place_at g.placement.places) (all_edges (the_view g)) keeps;
     }
 
 -- what is contained stays so in a longer list
@@ -101,10 +102,10 @@ low_mark places low marks some = elim (cases_Bool low) [
 ]
 
 -- how settling an edge moves the places of a graph
-pub moves : (g : Inside) (edge : Edge) (after : List ℤ) (low : Bool) → IsSound g → IsEdgeOf (length g.places.items) edge → length after ≡ length g.places.items →
-    AreMoved g.bounds.bounds edge g.places.items g.low after low → MovesPlaces (the_view g) edge after
+pub moves : (g : Inside) (edge : Edge) (after : List ℤ) (low : Bool) → IsSound g → IsEdgeOf (length g.placement.places) edge → length after ≡ length g.placement.places →
+    AreMoved g.bounds.bounds edge g.placement.places g.low after low → MovesPlaces (the_view g) edge after
 moves g edge after low sound is_edge size moved =
-    let before = g.places.items in
+    let before = g.placement.places in
     record {
       unchanged = λ no keeps. moved.unchanged (not_low_mark before g.low sound.low no) keeps;
       falls = λ no v changed.
@@ -130,13 +131,11 @@ moves g edge after low sound is_edge size moved =
 
 -- a graph is sound again once a bound was settled and added
 pub sound_added : (g h : Inside) (bound : Bound) → IsSound g → h.bounds.bounds ≡ g.bounds.bounds ++ bound ∷ [] → h.bounds.points ≡ g.bounds.points →
-    IsEdgeOf (length g.places.items) bound.edge → AreMoved g.bounds.bounds bound.edge g.places.items g.low h.places.items h.low →
+    IsEdgeOf (length g.placement.places) bound.edge → AreMoved g.bounds.bounds bound.edge g.placement.places g.low h.placement.places h.low →
     h.fixed ≤ length h.bounds.bounds → map untagged (edges_of (take h.fixed h.bounds.bounds)) ≡ take h.fixed h.bounds.bounds →
     (length h.bounds.bounds - h.fixed) + h.room < 2 ^ 32 → h.room ≤ h.bounds.room →
-    length h.places.items ≡ length g.places.items → length h.labels.items ≡ length g.places.items →
-    length h.via.items ≡ length g.places.items → length h.walk.items ≡ length g.places.items →
-    length g.places.items ≤ vec_capacity h.queue → length g.places.items + 1 ≤ vec_capacity h.tags → IsSound h
-sound_added g h bound sound bounds points is_edge moved fixed tags_none marks room size labels via walk queue tags =
+    length h.placement.places ≡ length g.placement.places → IsAtRest h.placement → length g.placement.places + 1 ≤ vec_capacity h.tags → IsSound h
+sound_added g h bound sound bounds points is_edge moved fixed tags_none marks room size rest tags =
     let longer : length (g.bounds.bounds ++ bound ∷ []) ≡ length g.bounds.bounds + 1 = length_push g.bounds.bounds bound in
     let all = ap length bounds in
     let each = λ (P : Edge → Type 0) (old : (i : ℕ) → i < length g.bounds.bounds → P (edge_at g.bounds.bounds i)) (new : P bound.edge) (i : ℕ) (i_in : i < length h.bounds.bounds).
@@ -152,29 +151,26 @@ sound_added g h bound sound bounds points is_edge moved fixed tags_none marks ro
       room = room;
       points = points ∙ sound.points ∙ sym size;
       few = omega (arith, size, sound.few);
-      edges = each (λ e. IsEdgeOf (length h.places.items) e) (λ i i_in. subst (λ n. IsEdgeOf n (edge_at g.bounds.bounds i)) (sym size) (sound.edges i i_in)) (subst (λ n. IsEdgeOf n bound.edge) (sym size) is_edge);
-      kept = each (λ e. Keeps (place_at h.places.items) e) moved.kept moved.edge_kept;
+      edges = each (λ e. IsEdgeOf (length h.placement.places) e) (λ i i_in. subst (λ n. IsEdgeOf n (edge_at g.bounds.bounds i)) (sym size) (sound.edges i i_in)) (subst (λ n. IsEdgeOf n bound.edge) (sym size) is_edge);
+      kept = each (λ e. Keeps (place_at h.placement.places) e) moved.kept moved.edge_kept;
       bottom = moved.bottom;
       top = moved.top;
       low = moved.marks;
-      labels = labels ∙ sym size;
-      via = via ∙ sym size;
-      walk = walk ∙ sym size;
-      queue = omega (arith, size, queue);
+      rest = rest;
       tags = omega (arith, size, tags);
     }
 
 -- graphs with the same fields are the same
 pub same_graph : (p p' : ℕ) (e e' : List Edge) (k k' : List Bound) (r r' : ℕ) (pl pl' : List ℤ) (c c' : List ℕ) →
     p ≡ p' → e ≡ e' → k ≡ k' → r ≡ r' → pl ≡ pl' → c ≡ c' →
-    (let g : Constraints = record { points = p; edges = e; kept = k; room = r; places = pl; cycle = c } in
-    let g' : Constraints = record { points = p'; edges = e'; kept = k'; room = r'; places = pl'; cycle = c' } in g ≡ g')
+    (let g : GraphForm = record { points = p; edges = e; kept = k; room = r; places = pl; cycle = c } in
+    let g' : GraphForm = record { points = p'; edges = e'; kept = k'; room = r'; places = pl'; cycle = c' } in g ≡ g')
 same_graph p p' e e' k k' r r' pl pl' c c' a b d f h i = cc
 
 -- a graph is sound again once its places were made anew
-pub sound_fresh : (g : Inside) (places labels : Vec ℤ Global) → IsSound g → AreAnew g.places.items places.items → length labels.items ≡ length places.items →
-    IsSound (record g { low = false; places = places; labels = labels })
-sound_fresh g places labels sound anew size =
+pub sound_fresh : (g : Inside) (placement : PlacementForm) → IsSound g → AreAnew g.placement.places placement.places → IsAtRest placement →
+    IsSound (record g { low = false; placement = placement })
+sound_fresh g placement sound anew rest =
     record {
       fixed = sound.fixed;
       untagged = sound.untagged;
@@ -184,19 +180,16 @@ sound_fresh g places labels sound anew size =
       few = omega (arith, anew.size, sound.few);
       edges = λ i i_in. subst (λ n. IsEdgeOf n (edge_at g.bounds.bounds i)) (sym anew.size) (sound.edges i i_in);
       kept = λ i i_in. anew.keeps (edge_at g.bounds.bounds i) (sound.edges i i_in) (sound.kept i i_in);
-      bottom = λ v. let f = fresh_at places.items anew.fresh v in omega (arith, ints, f.0);
-      top = λ v. let f = fresh_at places.items anew.fresh v in f.1;
-      low = fresh_marks places.items anew.fresh;
-      labels = size;
-      via = sound.via ∙ sym anew.size;
-      walk = sound.walk ∙ sym anew.size;
-      queue = omega (arith, anew.size, sound.queue);
+      bottom = λ v. let f = fresh_at placement.places anew.fresh v in omega (arith, ints, f.0);
+      top = λ v. let f = fresh_at placement.places anew.fresh v in f.1;
+      low = fresh_marks placement.places anew.fresh;
+      rest = rest;
       tags = omega (arith, anew.size, sound.tags);
     }
 
 -- places of a sound graph that are not below minus 2 ^ 28 are fresh
-pub sound_near : (g : Inside) → IsSound g → (limit : ℤ) → (limit +ℤ pos (2 ^ 28)) ≡ pos 0 → NoneIsBelow g.places.items limit → AreFresh g.places.items
+pub sound_near : (g : Inside) → IsSound g → (limit : ℤ) → (limit +ℤ pos (2 ^ 28)) ≡ pos 0 → NoneIsBelow g.placement.places limit → AreFresh g.placement.places
 sound_near g sound limit is none =
-    All-from_get_or (λ (p : ℤ). (pos 0 ≤ℤ (p +ℤ pos (2 ^ 28))) × (p ≤ℤ pos 0)) g.places.items (pos 0) (λ v v_in.
-    let low : pos 0 ≤ℤ (place_at g.places.items v +ℤ pos (2 ^ 28)) = omega (arith, ints, none v v_in, is) in
+    All-from_get_or (λ (p : ℤ). (pos 0 ≤ℤ (p +ℤ pos (2 ^ 28))) × (p ≤ℤ pos 0)) g.placement.places (pos 0) (λ v v_in.
+    let low : pos 0 ≤ℤ (place_at g.placement.places v +ℤ pos (2 ^ 28)) = omega (arith, ints, none v v_in, is) in
     (low, sound.top v))

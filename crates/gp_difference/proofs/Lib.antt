@@ -1,6 +1,8 @@
 pub mod WalkLemmas
 pub mod RunLemmas
-pub mod QueueLemmas
+pub mod CountLemmas
+pub mod FallenLemmas
+pub mod TidyLemmas
 pub mod ScanLemmas
 pub mod TraceLemmas
 pub mod AnewLemmas
@@ -10,3 +12,4 @@ pub mod WalkBuffer
 pub mod SettleLemmas
 pub mod LinkLemmas
 pub mod GraphLemmas
+pub mod TreeLemmas

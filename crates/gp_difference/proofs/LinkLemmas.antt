@@ -5,7 +5,7 @@ use Rattle.gp_difference.specs.declared.bound.Bound.{Bound}
 use Rattle.gp_difference.specs.Bounds.{edge_at, no_bound}
 use Rattle.gp_difference.specs.Links.{IsLatest, IsLinked}
 use Rattle.gp_difference.proofs.RunLemmas.{read_set}
-use Rattle.gp_difference.proofs.QueueLemmas.{push_read}
+use Rattle.gp_difference.proofs.CountLemmas.{push_read}
 
 -- the edge of a bound among more bounds
 edge_push : (bounds : List Bound) (bound : Bound) (i : ℕ) → i < length bounds → edge_at (bounds ++ bound ∷ []) i ≡ edge_at bounds i

@@ -8,6 +8,7 @@ use Rattle.gp_clause.specs.Edge.{Keeps}
 use Rattle.gp_difference.specs.declared.bound.Bound.{Bound}
 use Rattle.gp_difference.specs.Places.{place_at}
 use Rattle.gp_difference.specs.Bounds.{edge_at}
+use Rattle.gp_difference.specs.Placement.{PlacementForm}
 use Rattle.gp_difference.specs.Lower.{IsInput, IsRoot, IsHung, IsWork, IsScan}
 
 -- what a list reads at an index after a write
@@ -17,15 +18,15 @@ read_set xs i y j d lt =
     elim (cases_eq j i) [ inl e ↦ inl (e, get_or-set_at xs i j y d e lt) | inr n ↦ inr (n, get_or-set_other xs i j y d n) ]
 
 -- a bound out of the point settled last that is broken leads to an open point
-pub unsettled : (bounds : List Bound) (new : Edge) (places labels : List ℤ) (via ranks queue : List ℕ) (done i : ℕ) →
-    IsInput bounds new places → i < length bounds →
-    IsScan bounds new places labels via ranks queue done (edge_at bounds i).b (i + 1) →
-    (place_at labels (edge_at bounds i).b +ℤ (edge_at bounds i).c) <ℤ place_at labels (edge_at bounds i).a →
-    get_or ranks (edge_at bounds i).a 0 ≡ length places
-unsettled bounds new places labels via ranks queue done i input i_in scan broken =
+pub unsettled : (bounds : List Bound) (new : Edge) (p : PlacementForm) (ranks : List ℕ) (done i : ℕ) →
+    IsInput bounds new p.places → i < length bounds →
+    IsScan bounds new p ranks done (edge_at bounds i).b (i + 1) →
+    (place_at p.labels (edge_at bounds i).b +ℤ (edge_at bounds i).c) <ℤ place_at p.labels (edge_at bounds i).a →
+    get_or ranks (edge_at bounds i).a 0 ≡ length p.places
+unsettled bounds new p ranks done i input i_in scan broken =
     let e = edge_at bounds i in
-    let t_in : e.a < length places = (input.edges i i_in).first in
-    let kept : Keeps (place_at places) e = input.kept i i_in in
+    let t_in : e.a < length p.places = (input.edges i i_in).first in
+    let kept : Keeps (place_at p.places) e = input.kept i i_in in
     elim (scan.work.ranked e.a t_in) [
       | inl r ↦
           let le : get_or ranks e.a 0 ≤ get_or ranks e.b 0 = omega (arith, r, scan.last) in
@@ -65,60 +66,60 @@ tree_kept bounds new places labels labels' via via' ranks done v mark label othe
     (omega (arith, ints, parent, hung.fell)) (omega (arith, ints, parent, hung.label, label)))
 
 -- the work after an open point was lowered by a bound out of the point settled last
-pub lowered_work : (bounds : List Bound) (new : Edge) (places labels : List ℤ) (via ranks queue : List ℕ) (done i : ℕ) (x : ℤ) →
-    IsInput bounds new places → i < length bounds →
-    IsScan bounds new places labels via ranks queue done (edge_at bounds i).b (i + 1) →
-    x ≡ (place_at labels (edge_at bounds i).b +ℤ (edge_at bounds i).c) →
-    x <ℤ place_at labels (edge_at bounds i).a →
+pub lowered_work : (bounds : List Bound) (new : Edge) (p : PlacementForm) (ranks : List ℕ) (done i : ℕ) (x : ℤ) →
+    IsInput bounds new p.places → i < length bounds →
+    IsScan bounds new p ranks done (edge_at bounds i).b (i + 1) →
+    x ≡ (place_at p.labels (edge_at bounds i).b +ℤ (edge_at bounds i).c) →
+    x <ℤ place_at p.labels (edge_at bounds i).a →
     (edge_at bounds i).a ≢ new.b →
-    get_or ranks (edge_at bounds i).a 0 ≡ length places →
-    IsWork bounds new places (set labels (edge_at bounds i).a x) (set via (edge_at bounds i).a i) ranks done
-lowered_work bounds new places labels via ranks queue done i x input i_in scan value broken away unranked =
+    get_or ranks (edge_at bounds i).a 0 ≡ length p.places →
+    IsWork bounds new p.places (set p.labels (edge_at bounds i).a x) (set p.via (edge_at bounds i).a i) ranks done
+lowered_work bounds new p ranks done i x input i_in scan value broken away unranked =
     let e = edge_at bounds i in
     let work = scan.work in
-    let t_in : e.a < length places = (input.edges i i_in).first in
-    let kept : Keeps (place_at places) e = input.kept i i_in in
+    let t_in : e.a < length p.places = (input.edges i i_in).first in
+    let kept : Keeps (place_at p.places) e = input.kept i i_in in
     let c_low : pos 0 ≤ℤ (e.c +ℤ pos 4096) = (input.edges i i_in).low in
-    let l_in : e.a < length labels = omega (arith, work.labels_size) in
-    let v_in : e.a < length via = omega (arith, work.via_size) in
-    let read = λ (v : ℕ). read_set labels e.a x v (pos 0) l_in in
-    let mark = λ (v : ℕ). read_set via e.a i v 0 v_in in
-    let other = λ (v : ℕ) (r : get_or ranks v 0 < done). let far : v ≢ e.a = λ q. let same : get_or ranks v 0 ≡ get_or ranks e.a 0 = ap (λ w. get_or ranks w 0) q in omega (arith, r, same, unranked, work.few) in get_or-set_other labels e.a v x (pos 0) far in
+    let l_in : e.a < length p.labels = omega (arith, work.labels_size) in
+    let v_in : e.a < length p.via = omega (arith, work.via_size) in
+    let read = λ (v : ℕ). read_set p.labels e.a x v (pos 0) l_in in
+    let mark = λ (v : ℕ). read_set p.via e.a i v 0 v_in in
+    let other = λ (v : ℕ) (r : get_or ranks v 0 < done). let far : v ≢ e.a = λ q. let same : get_or ranks v 0 ≡ get_or ranks e.a 0 = ap (λ w. get_or ranks w 0) q in omega (arith, r, same, unranked, work.few) in get_or-set_other p.labels e.a v x (pos 0) far in
     record {
-      labels_size = length-set labels e.a x ∙ work.labels_size;
-      via_size = length-set via e.a i ∙ work.via_size;
+      labels_size = length-set p.labels e.a x ∙ work.labels_size;
+      via_size = length-set p.via e.a i ∙ work.via_size;
       ranks_size = work.ranks_size;
       few = work.few;
       below = λ v. elim (read v) [
-        | inl h ↦ let same : place_at labels v ≡ place_at labels e.a = ap (place_at labels) h.0 in omega (arith, ints, h.1, same, broken, work.below v)
+        | inl h ↦ let same : place_at p.labels v ≡ place_at p.labels e.a = ap (place_at p.labels) h.0 in omega (arith, ints, h.1, same, broken, work.below v)
         | inr h ↦ omega (arith, ints, h.1, work.below v)
       ];
       ranked = work.ranked;
       order = λ v u vi ui r le. elim (read u) [
         | inl h ↦
             let first = work.order v e.b vi scan.small r (omega (arith, r, scan.last)) in
-            let same : place_at places u ≡ place_at places e.a = ap (place_at places) h.0 in
+            let same : place_at p.places u ≡ place_at p.places e.a = ap (place_at p.places) h.0 in
             omega (arith, ints, other v r, h.1, same, first, kept, value)
         | inr h ↦ omega (arith, ints, other v r, h.1, work.order v u vi ui r le)
       ];
       tree = λ v vi fell. elim (read v) [
         | inl h ↦
-            let here : get_or (set via e.a i) v 0 ≡ i = get_or-set_at via e.a v i 0 h.0 v_in in
-            let rank : get_or ranks v 0 ≡ length places = ap (λ w. get_or ranks w 0) h.0 ∙ unranked in
+            let here : get_or (set p.via e.a i) v 0 ≡ i = get_or-set_at p.via e.a v i 0 h.0 v_in in
+            let rank : get_or ranks v 0 ≡ length p.places = ap (λ w. get_or ranks w 0) h.0 ∙ unranked in
             let before : get_or ranks e.b 0 < done = omega (arith, scan.last) in
-            let parent : place_at (set labels e.a x) e.b ≡ place_at labels e.b = other e.b before in
-            inr (hung_by bounds places (set labels e.a x) (set via e.a i) ranks done v i here i_in (sym h.0) before
+            let parent : place_at (set p.labels e.a x) e.b ≡ place_at p.labels e.b = other e.b before in
+            inr (hung_by bounds p.places (set p.labels e.a x) (set p.via e.a i) ranks done v i here i_in (sym h.0) before
             (omega (arith, rank, before, work.few)) (omega (arith, ints, parent, scan.fell))
             (omega (arith, ints, h.1, value, parent)))
         | inr h ↦
-            let mark : get_or (set via e.a i) v 0 ≡ get_or via v 0 = get_or-set_other via e.a v i 0 h.0 in
-            tree_kept bounds new places labels (set labels e.a x) via (set via e.a i) ranks done v mark h.1 other
+            let mark : get_or (set p.via e.a i) v 0 ≡ get_or p.via v 0 = get_or-set_other p.via e.a v i 0 h.0 in
+            tree_kept bounds new p.places p.labels (set p.labels e.a x) p.via (set p.via e.a i) ranks done v mark h.1 other
             (work.tree v vi (omega (arith, ints, h.1, fell)))
       ];
-      new_end = get_or-set_other labels e.a new.b x (pos 0) (λ q. away (sym q)) ∙ work.new_end;
+      new_end = get_or-set_other p.labels e.a new.b x (pos 0) (λ q. away (sym q)) ∙ work.new_end;
       end_open = work.end_open;
       new_start = elim (read new.a) [
-        | inl h ↦ let same : place_at labels new.a ≡ place_at labels e.a = ap (place_at labels) h.0 in omega (arith, ints, h.1, same, broken, work.new_start)
+        | inl h ↦ let same : place_at p.labels new.a ≡ place_at p.labels e.a = ap (place_at p.labels) h.0 in omega (arith, ints, h.1, same, broken, work.new_start)
         | inr h ↦ omega (arith, ints, h.1, work.new_start)
       ];
       low = λ v vi fell. elim (read v) [

@@ -1,5 +1,5 @@
-use Rattle.std.proofs.Common.{◌≡◌, ◌≢◌, ℕ, ◌+◌, ◌-◌, ◌<◌, ◌≤◌, ◌⊎◌, inl, inr, suc, zero, List, [], ◌∷◌, length, get_or, set, refl, sym, ap, subst, ◌∙◌, arith, ℤ, pos, ◌+ℤ◌, ◌≤ℤ◌, ◌<ℤ◌}
-use Rattle.std.proofs.lemmas.Int.{ints, by_lt_z}
+use Rattle.std.proofs.Common.{◌≡◌, ◌≢◌, ℕ, ◌+◌, ◌<◌, ◌≤◌, inl, inr, suc, zero, List, [], ◌∷◌, Some, None, length, get_or, set, refl, sym, ap, subst, ◌∙◌, arith, ℤ, pos, ◌+ℤ◌, ◌≤ℤ◌, ◌<ℤ◌}
+use Rattle.std.proofs.lemmas.Int.{ints}
 use Rattle.std.proofs.lemmas.Bool.{cases_eq, cases_lt}
 use Rattle.std.proofs.lemmas.List.{length-set, get_or-set_other}
 use Rattle.std.specs.List.{Contains}
@@ -10,52 +10,55 @@ use Rattle.gp_difference.specs.Places.{place_at}
 use Rattle.gp_difference.specs.Bounds.{edge_at, edges_of}
 use Rattle.gp_difference.specs.Graph.{Reaches}
 use Rattle.gp_difference.specs.Links.{IsLatest}
-use Rattle.gp_difference.specs.Lower.{IsInput, IsWork, IsQueue, IsScan, IsRun, IsLowered, IsMostFallen, still_count}
+use Rattle.gp_difference.specs.Lower.{IsInput, IsWork, IsFallen, IsScan, IsRun, IsLowered, open_count}
+use Rattle.gp_difference.specs.Falls.{IsMost}
+use Rattle.gp_difference.specs.Placement.{PlacementForm, lowered}
 use Rattle.gp_difference.proofs.RunLemmas.{read_set}
-use Rattle.gp_difference.proofs.QueueLemmas.{still_one}
+use Rattle.gp_difference.proofs.CountLemmas.{open_one, open_falls}
+use Rattle.gp_difference.proofs.FallenLemmas.{fallen_closed}
 
 -- a bound that the labels keep is scanned
-pub scan_kept : (bounds : List Bound) (new : Edge) (places labels : List ℤ) (via ranks queue : List ℕ) (done i : ℕ) →
-    IsScan bounds new places labels via ranks queue done (edge_at bounds i).b (i + 1) → Keeps (place_at labels) (edge_at bounds i) →
-    IsScan bounds new places labels via ranks queue done (edge_at bounds i).b i
-scan_kept bounds new places labels via ranks queue done i scan kept =
+pub scan_kept : (bounds : List Bound) (new : Edge) (p : PlacementForm) (ranks : List ℕ) (done i : ℕ) →
+    IsScan bounds new p ranks done (edge_at bounds i).b (i + 1) → Keeps (place_at p.labels) (edge_at bounds i) →
+    IsScan bounds new p ranks done (edge_at bounds i).b i
+scan_kept bounds new p ranks done i scan kept =
     record {
       work = scan.work;
-      queued = scan.queued;
+      fallen = scan.fallen;
       small = scan.small;
       last = scan.last;
       fell = scan.fell;
       low = scan.low;
       settled = scan.settled;
       scanned = λ j le j_in out. elim (cases_eq j i) [
-        | inl e ↦ subst (λ k. Keeps (place_at labels) (edge_at bounds k)) (sym e) kept
+        | inl e ↦ subst (λ k. Keeps (place_at p.labels) (edge_at bounds k)) (sym e) kept
         | inr n ↦ let above : j ≢ i = n in scan.scanned j (omega arith) j_in out
       ];
     }
 
 -- a bound that lowered an open point is scanned, and those that were kept stay so
-pub scan_lowered : (bounds : List Bound) (new : Edge) (places labels : List ℤ) (via via' ranks queue queue' : List ℕ) (done i : ℕ) (x : ℤ) →
-    (edge_at bounds i).a < length labels →
-    IsScan bounds new places labels via ranks queue done (edge_at bounds i).b (i + 1) →
-    x ≡ (place_at labels (edge_at bounds i).b +ℤ (edge_at bounds i).c) →
-    x <ℤ place_at labels (edge_at bounds i).a →
-    get_or ranks (edge_at bounds i).a 0 ≡ length places →
-    IsWork bounds new places (set labels (edge_at bounds i).a x) via' ranks done →
-    IsQueue places (set labels (edge_at bounds i).a x) ranks queue' done →
-    IsScan bounds new places (set labels (edge_at bounds i).a x) via' ranks queue' done (edge_at bounds i).b i
-scan_lowered bounds new places labels via via' ranks queue queue' done i x t_in scan value broken unranked work queued =
+pub scan_lowered : (bounds : List Bound) (new : Edge) (p : PlacementForm) (fallen ranks : List ℕ) (done i : ℕ) (x : ℤ) →
+    (edge_at bounds i).a < length p.labels →
+    IsScan bounds new p ranks done (edge_at bounds i).b (i + 1) →
+    x ≡ (place_at p.labels (edge_at bounds i).b +ℤ (edge_at bounds i).c) →
+    x <ℤ place_at p.labels (edge_at bounds i).a →
+    get_or ranks (edge_at bounds i).a 0 ≡ length p.places →
+    IsWork bounds new p.places (set p.labels (edge_at bounds i).a x) (set p.via (edge_at bounds i).a i) ranks done →
+    IsFallen (lowered (record p { fallen = fallen }) (edge_at bounds i).a x i) ranks done →
+    IsScan bounds new (lowered (record p { fallen = fallen }) (edge_at bounds i).a x i) ranks done (edge_at bounds i).b i
+scan_lowered bounds new p fallen ranks done i x t_in scan value broken unranked work listed =
     let e = edge_at bounds i in
-    let read = λ (v : ℕ). read_set labels e.a x v (pos 0) t_in in
+    let read = λ (v : ℕ). read_set p.labels e.a x v (pos 0) t_in in
     let s_done : get_or ranks e.b 0 < done = omega (arith, scan.last) in
-    let other = λ (v : ℕ) (r : get_or ranks v 0 < done). let far : v ≢ e.a = λ q. let same : get_or ranks v 0 ≡ get_or ranks e.a 0 = ap (λ w. get_or ranks w 0) q in omega (arith, r, same, unranked, work.few) in get_or-set_other labels e.a v x (pos 0) far in
-    let below = λ (v : ℕ). let le : place_at (set labels e.a x) v ≤ℤ place_at labels v = elim (read v) [
-      | inl h ↦ let same : place_at labels v ≡ place_at labels e.a = ap (place_at labels) h.0 in omega (arith, ints, h.1, same, broken)
+    let other = λ (v : ℕ) (r : get_or ranks v 0 < done). let far : v ≢ e.a = λ q. let same : get_or ranks v 0 ≡ get_or ranks e.a 0 = ap (λ w. get_or ranks w 0) q in omega (arith, r, same, unranked, work.few) in get_or-set_other p.labels e.a v x (pos 0) far in
+    let below = λ (v : ℕ). let le : place_at (set p.labels e.a x) v ≤ℤ place_at p.labels v = elim (read v) [
+      | inl h ↦ let same : place_at p.labels v ≡ place_at p.labels e.a = ap (place_at p.labels) h.0 in omega (arith, ints, h.1, same, broken)
       | inr h ↦ omega (arith, ints, h.1)
     ] in le in
-    let here : place_at (set labels e.a x) e.b ≡ place_at labels e.b = other e.b s_done in
+    let here : place_at (set p.labels e.a x) e.b ≡ place_at p.labels e.b = other e.b s_done in
     record {
       work = work;
-      queued = queued;
+      fallen = listed;
       small = scan.small;
       last = scan.last;
       fell = omega (arith, ints, here, scan.fell);
@@ -63,25 +66,25 @@ scan_lowered bounds new places labels via via' ranks queue queue' done i x t_in 
       settled = λ j j_in r far. omega (arith, ints, scan.settled j j_in r far, other (edge_at bounds j).b r, below (edge_at bounds j).a);
       scanned = λ j le j_in out. elim (cases_eq j i) [
         | inl q ↦
-            let at : place_at (set labels e.a x) e.a ≡ x = elim (read e.a) [ inl h ↦ h.1 | inr h ↦ absurd (h.0 refl) ] in
-            let kept : Keeps (place_at (set labels e.a x)) e = omega (arith, ints, at, here, value) in
-            subst (λ k. Keeps (place_at (set labels e.a x)) (edge_at bounds k)) (sym q) kept
+            let at : place_at (set p.labels e.a x) e.a ≡ x = elim (read e.a) [ inl h ↦ h.1 | inr h ↦ absurd (h.0 refl) ] in
+            let kept : Keeps (place_at (set p.labels e.a x)) e = omega (arith, ints, at, here, value) in
+            subst (λ k. Keeps (place_at (set p.labels e.a x)) (edge_at bounds k)) (sym q) kept
         | inr n ↦
             let above : j ≢ i = n in
-            let second : place_at (set labels e.a x) (edge_at bounds j).b ≡ place_at labels (edge_at bounds j).b =
+            let second : place_at (set p.labels e.a x) (edge_at bounds j).b ≡ place_at p.labels (edge_at bounds j).b =
             other (edge_at bounds j).b (omega (arith, s_done, ap (λ w. get_or ranks w 0) out)) in
             omega (arith, ints, scan.scanned j (omega arith) j_in out, second, below (edge_at bounds j).a)
       ];
     }
 
 -- bounds out of other points need no scan
-pub scan_skips : (bounds : List Bound) (new : Edge) (places labels : List ℤ) (via ranks queue : List ℕ) (done s k h : ℕ) →
-    IsScan bounds new places labels via ranks queue done s k → IsLatest bounds k s h →
-    IsScan bounds new places labels via ranks queue done s h
-scan_skips bounds new places labels via ranks queue done s k h scan latest =
+pub scan_skips : (bounds : List Bound) (new : Edge) (p : PlacementForm) (ranks : List ℕ) (done s k h : ℕ) →
+    IsScan bounds new p ranks done s k → IsLatest bounds k s h →
+    IsScan bounds new p ranks done s h
+scan_skips bounds new p ranks done s k h scan latest =
     record {
       work = scan.work;
-      queued = scan.queued;
+      fallen = scan.fallen;
       small = scan.small;
       last = scan.last;
       fell = scan.fell;
@@ -94,96 +97,51 @@ scan_skips bounds new places labels via ranks queue done s k h scan latest =
     }
 
 -- once all bounds out of the point are scanned, the labels keep the bounds out of every settled point
-pub scan_ends : (bounds : List Bound) (new : Edge) (places labels : List ℤ) (via ranks queue : List ℕ) (done s : ℕ) →
-    IsScan bounds new places labels via ranks queue done s 0 → IsRun bounds new places labels via ranks queue done
-scan_ends bounds new places labels via ranks queue done s scan =
+pub scan_ends : (bounds : List Bound) (new : Edge) (p : PlacementForm) (ranks : List ℕ) (done s : ℕ) →
+    IsScan bounds new p ranks done s 0 → IsRun bounds new p ranks done
+scan_ends bounds new p ranks done s scan =
     record {
       work = scan.work;
-      queued = scan.queued;
+      fallen = scan.fallen;
       settled = λ j j_in r. elim (cases_eq (edge_at bounds j).b s) [
         | inl e ↦ scan.scanned j (omega arith) j_in e
         | inr n ↦ scan.settled j j_in r n
       ];
     }
 
--- the queue without the point at an index, whose place the last one takes
-pub record Unqueued (queue after : List ℕ) (index : ℕ) : Type 0 where
-  pub size : length after + 1 ≡ length queue
-  pub moved : index + 1 < length queue → get_or after index 0 ≡ get_or queue (length queue - 1) 0
-  pub rest : (k : ℕ) → k ≢ index → k + 1 < length queue → get_or after k 0 ≡ get_or queue k 0
-
--- where each number of the shorter queue was
-from_before : (queue after : List ℕ) (index k : ℕ) → Unqueued queue after index → k < length after →
-    (j : ℕ) × (j < length queue) × (j ≢ index) × (get_or after k 0 ≡ get_or queue j 0) × ((k ≡ j) ⊎ ((k ≡ index) × (j + 1 ≡ length queue)))
-from_before queue after index k un k_in =
-    elim (cases_eq k index) [
-      | inl e ↦
-          let more : index + 1 < length queue = omega (arith, un.size, k_in, e) in
-          let apart : length queue - 1 ≢ index = omega arith in
-          (length queue - 1, omega arith, apart, ap (λ j. get_or after j 0) e ∙ un.moved more, inr (e, omega arith))
-      | inr n ↦ (k, omega (arith, un.size), n, un.rest k n (omega (arith, un.size)), inl refl)
-    ]
-
--- the queue after a point was settled
-pub queue_picked : (places labels : List ℤ) (ranks queue after : List ℕ) (done index : ℕ) → length labels ≡ length places → length ranks ≡ length places →
-    done < length places → index < length queue → IsQueue places labels ranks queue done → Unqueued queue after index →
-    IsQueue places labels (set ranks (get_or queue index 0) done) after (done + 1)
-queue_picked places labels ranks queue after done index size ranks_size few index_in q un =
-    let s = get_or queue index 0 in
-    let s_in : s < length ranks = omega (arith, ranks_size, q.small index index_in) in
-    let read = λ (v : ℕ). read_set ranks s done v 0 s_in in
-    record {
-      room = omega (arith, un.size, q.room);
-      small = λ k k_in. let b = from_before queue after index k un k_in in rw b.3 (q.small b.0 b.1);
-      unsettled = λ k k_in.
-          let b = from_before queue after index k un k_in in
-          elim (read (get_or after k 0)) [
-            | inl h ↦ absurd (b.2 (q.once b.0 index b.1 index_in (sym b.3 ∙ h.0)))
-            | inr h ↦ h.1 ∙ ap (λ v. get_or ranks v 0) b.3 ∙ q.unsettled b.0 b.1
-          ];
-      fell = λ k k_in. let b = from_before queue after index k un k_in in rw b.3 (q.fell b.0 b.1);
-      once = λ j k j_in k_in same.
-          let a = from_before queue after index j un j_in in
-          let b = from_before queue after index k un k_in in
-          let e : a.0 ≡ b.0 = q.once a.0 b.0 a.1 b.1 (sym a.3 ∙ same ∙ b.3) in
-          omega (arith, e, a.4, b.4, a.1, b.1, j_in, k_in, un.size);
-      listed = λ v v_in free down. elim (read v) [
-        | inl h ↦ absurd (omega (arith, h.1, free, few))
-        | inr h ↦
-            let was = q.listed v v_in (sym h.1 ∙ free) down in
-            let far : was.0 ≢ index = λ e. h.0 (sym was.2 ∙ ap (λ k. get_or queue k 0) e) in
-            elim (cases_lt (was.0 + 1) (length queue)) [
-              | inl lt ↦ (was.0, omega (arith, un.size, lt), un.rest was.0 far lt ∙ was.2)
-              | inr ge ↦
-                  let more : index + 1 < length queue = omega (arith, far, ge, was.1, index_in) in
-                  let end : length queue - 1 ≡ was.0 = omega (arith, ge, was.1) in
-                  (index, omega (arith, un.size, more), un.moved more ∙ ap (λ k. get_or queue k 0) end ∙ was.2)
-            ]
-      ];
-    }
+-- the point with the greatest fall is open and fell
+picked_open : (bounds : List Bound) (new : Edge) (p : PlacementForm) (ranks : List ℕ) (done s : ℕ) →
+    IsRun bounds new p ranks done → IsMost p.falls (Some s) →
+    (s < length p.places) × (get_or ranks s 0 ≡ length p.places) × (place_at p.labels s <ℤ place_at p.places s)
+picked_open bounds new p ranks done s run (s_fall, up, most) =
+    let s_small : s < length p.places = omega (arith, s_fall, run.fallen.falls_size) in
+    let free : get_or ranks s 0 ≡ length p.places = elim (run.work.ranked s s_small) [
+      | inl r ↦ absurd (omega (arith, ints, run.fallen.closed s s_small r, up))
+      | inr r ↦ r
+    ] in
+    (s_small, free, omega (arith, ints, run.fallen.opened s s_small free, up))
 
 -- the work after the open point that fell most was settled
-pub work_picked : (bounds : List Bound) (new : Edge) (places labels : List ℤ) (via ranks queue : List ℕ) (done index : ℕ) →
-    length ranks ≡ length places → new.b < length places →
-    IsWork bounds new places labels via ranks done → IsQueue places labels ranks queue done →
-    IsMostFallen places labels queue (length queue) index →
-    IsWork bounds new places labels via (set ranks (get_or queue index 0) done) (done + 1)
-work_picked bounds new places labels via ranks queue done index ranks_size end_in work q most =
-    let s = get_or queue index 0 in
-    let s_small : s < length places = q.small index most.small in
-    let s_in : s < length ranks = omega (arith, ranks_size, s_small) in
-    let s_free : get_or ranks s 0 ≡ length places = q.unsettled index most.small in
-    let s_fell : place_at labels s <ℤ place_at places s = q.fell index most.small in
+work_picked : (bounds : List Bound) (new : Edge) (p : PlacementForm) (ranks : List ℕ) (done s : ℕ) → new.b < length p.places →
+    IsRun bounds new p ranks done → IsMost p.falls (Some s) → s < length p.places → get_or ranks s 0 ≡ length p.places →
+    place_at p.labels s <ℤ place_at p.places s →
+    IsWork bounds new p.places p.labels p.via (set ranks s done) (done + 1)
+work_picked bounds new p ranks done s end_in run (s_fall, up, most) s_small s_free s_fell =
+    let places = p.places in
+    let labels = p.labels in
+    let work = run.work in
+    let s_in : s < length ranks = omega (arith, work.ranks_size, s_small) in
     let read = λ (v : ℕ). read_set ranks s done v 0 s_in in
-    let still : 1 ≤ still_count places labels = still_one places labels new.b work.labels_size end_in (omega (arith, ints, work.new_end)) in
-    let more : done + 1 < length places = omega (arith, still, q.room, most.small) in
     let apart : new.b ≢ s = λ e. let no : ⊥ = omega (arith, ints, ap (place_at labels) e, ap (place_at places) e, s_fell, work.new_end) in no in
+    let end_rank : get_or (set ranks s done) new.b 0 ≡ length places = elim (read new.b) [ inl h ↦ absurd (apart h.0) | inr h ↦ h.1 ∙ work.end_open ] in
+    let fewer : open_count (length places) (set ranks s done) + 1 ≡ open_count (length places) ranks =
+    open_falls (length places) ranks s done s_in s_free (omega (arith, work.few)) in
+    let left : 1 ≤ open_count (length places) (set ranks s done) =
+    open_one (length places) (set ranks s done) new.b (omega (arith, length-set ranks s done, work.ranks_size, end_in)) end_rank in
+    let more : done + 1 < length places = omega (arith, fewer, left, run.fallen.count) in
     let first = λ (u : ℕ) (u_in : u < length places) (free : get_or ranks u 0 ≡ length places).
     let fact : (place_at places u +ℤ place_at labels s) ≤ℤ (place_at places s +ℤ place_at labels u) =
-    by_lt_z (place_at labels u) (place_at places u)
-    (λ down. let l = q.listed u u_in free down in
-    subst (λ w. (place_at places w +ℤ place_at labels s) ≤ℤ (place_at places s +ℤ place_at labels w)) l.2 (most.most l.0 l.1))
-    (λ up. omega (arith, ints, up, s_fell)) in fact in
+    omega (arith, ints, run.fallen.opened u u_in free, run.fallen.opened s s_small s_free, most u) in fact in
     record {
       labels_size = work.labels_size;
       via_size = work.via_size;
@@ -218,7 +176,7 @@ work_picked bounds new places labels via ranks queue done index ranks_size end_i
       tree = λ v v_in down. elim (work.tree v v_in down) [
         | inl root ↦ inl root
         | inr hung ↦
-            let b = (edge_at bounds (get_or via v 0)).b in
+            let b = (edge_at bounds (get_or p.via v 0)).b in
             let same : get_or (set ranks s done) b 0 ≡ get_or ranks b 0 = elim (read b) [
               | inl h ↦ absurd (omega (arith, ap (λ w. get_or ranks w 0) h.0, s_free, hung.settled, work.few))
               | inr h ↦ h.1
@@ -236,25 +194,25 @@ work_picked bounds new places labels via ranks queue done index ranks_size end_i
             })
       ];
       new_end = work.new_end;
-      end_open = elim (read new.b) [ inl h ↦ absurd (apart h.0) | inr h ↦ h.1 ∙ work.end_open ];
+      end_open = end_rank;
       new_start = work.new_start;
       low = λ v v_in down. omega (arith, ints, work.low v v_in down);
     }
 
 -- after the open point that fell most was settled its bounds are to be scanned
-pub scan_begins : (bounds : List Bound) (new : Edge) (places labels : List ℤ) (via ranks queue after : List ℕ) (done index : ℕ) →
-    IsInput bounds new places → IsRun bounds new places labels via ranks queue done →
-    IsMostFallen places labels queue (length queue) index → Unqueued queue after index →
-    IsScan bounds new places labels via (set ranks (get_or queue index 0) done) after (done + 1) (get_or queue index 0) (length bounds)
-scan_begins bounds new places labels via ranks queue after done index input run most un =
-    let s = get_or queue index 0 in
-    let s_small : s < length places = run.queued.small index most.small in
+pub scan_begins : (bounds : List Bound) (new : Edge) (p : PlacementForm) (ranks : List ℕ) (done s : ℕ) →
+    IsInput bounds new p.places → IsRun bounds new p ranks done → IsMost p.falls (Some s) →
+    IsScan bounds new (record p { falls = set p.falls s (pos 0) }) (set ranks s done) (done + 1) s (length bounds)
+scan_begins bounds new p ranks done s input run most =
+    let picked = picked_open bounds new p ranks done s run most in
+    let s_small : s < length p.places = picked.0 in
+    let s_free : get_or ranks s 0 ≡ length p.places = picked.1 in
+    let s_fell : place_at p.labels s <ℤ place_at p.places s = picked.2 in
     let s_in : s < length ranks = omega (arith, run.work.ranks_size, s_small) in
-    let s_fell : place_at labels s <ℤ place_at places s = run.queued.fell index most.small in
     let read = λ (v : ℕ). read_set ranks s done v 0 s_in in
     record {
-      work = work_picked bounds new places labels via ranks queue done index run.work.ranks_size input.new_edge.second run.work run.queued most;
-      queued = queue_picked places labels ranks queue after done index run.work.labels_size run.work.ranks_size run.work.few most.small run.queued un;
+      work = work_picked bounds new p ranks done s input.new_edge.second run most s_small s_free s_fell;
+      fallen = fallen_closed p ranks done s run.work.ranks_size s_small run.work.few run.work.ranked run.fallen s_free;
       small = s_small;
       last = elim (read s) [ inl h ↦ omega (arith, h.1) | inr h ↦ absurd (h.0 refl) ];
       fell = s_fell;
@@ -271,17 +229,15 @@ scan_begins bounds new places labels via ranks queue after done index input run 
     }
 
 -- where no open point fell, the labels keep every bound
-all_kept : (bounds : List Bound) (new : Edge) (places labels : List ℤ) (via ranks : List ℕ) (done : ℕ) →
-    IsInput bounds new places → IsRun bounds new places labels via ranks [] done →
-    (i : ℕ) → i < length bounds → Keeps (place_at labels) (edge_at bounds i)
-all_kept bounds new places labels via ranks done input run i i_in =
+all_kept : (bounds : List Bound) (new : Edge) (p : PlacementForm) (ranks : List ℕ) (done : ℕ) →
+    IsInput bounds new p.places → IsRun bounds new p ranks done → IsMost p.falls None →
+    (i : ℕ) → i < length bounds → Keeps (place_at p.labels) (edge_at bounds i)
+all_kept bounds new p ranks done input run none i i_in =
     let e = edge_at bounds i in
     elim (run.work.ranked e.b (input.edges i i_in).second) [
       | inl r ↦ run.settled i i_in r
       | inr free ↦
-          by_lt_z (place_at labels e.b) (place_at places e.b)
-          (λ down. let l = run.queued.listed e.b (input.edges i i_in).second free down in absurd (omega (arith, l.1)))
-          (λ up. omega (arith, ints, up, input.kept i i_in, run.work.below e.a))
+          omega (arith, ints, none e.b, run.fallen.opened e.b (input.edges i i_in).second free, input.kept i i_in, run.work.below e.a)
     ]
 
 -- the edge of a bound is among the edges
@@ -315,15 +271,15 @@ reached bounds new places labels via ranks done input work (suc limit) v lt v_in
           (e ∷ rest.0, (hung.point, rest.1), (edge_contained bounds w hung.which, rest.2))
     ]
 
--- a run with an empty queue has places that keep all
-pub run_ends : (bounds : List Bound) (new : Edge) (places labels : List ℤ) (via ranks : List ℕ) (done : ℕ) →
-    IsInput bounds new places → IsRun bounds new places labels via ranks [] done → IsLowered bounds new places labels
-run_ends bounds new places labels via ranks done input run =
+-- a run with no open point that fell has labels that keep all
+pub run_ends : (bounds : List Bound) (new : Edge) (p : PlacementForm) (ranks : List ℕ) (done : ℕ) →
+    IsInput bounds new p.places → IsRun bounds new p ranks done → IsMost p.falls None → IsLowered bounds new p.places p.labels
+run_ends bounds new p ranks done input run none =
     record {
       size = run.work.labels_size;
-      kept = all_kept bounds new places labels via ranks done input run;
+      kept = all_kept bounds new p ranks done input run none;
       new_kept = omega (arith, ints, run.work.new_start, run.work.new_end);
       below = run.work.below;
-      reached = λ v v_in down. reached bounds new places labels via ranks done input run.work (get_or ranks v 0 + 1) v (omega arith) v_in down;
+      reached = λ v v_in down. reached bounds new p.places p.labels p.via ranks done input run.work (get_or ranks v 0 + 1) v (omega arith) v_in down;
       near = λ v v_in down. omega (arith, ints, run.work.low v v_in down, run.work.few, input.few);
     }

@@ -3,14 +3,17 @@ use Rattle.std.proofs.lemmas.Int.{ints}
 use Rattle.std.proofs.lemmas.Grind.{get_or-set_at}
 use Rattle.std.proofs.lemmas.List.{length-set, length_push, length-map, length-replicate, get_or-set_other, get_or-replicate, get_or_default, map-append}
 use Rattle.std.specs.List.{Contains}
+use Rattle.std.proofs.lemmas.List.Elements.{All-nil}
 use Rattle.gp_clause.specs.declared.edge.Edge.{Edge}
 use Rattle.gp_difference.specs.declared.bound.Bound.{Bound}
 use Rattle.gp_difference.specs.Places.{place_at}
 use Rattle.gp_clause.specs.Walk.{IsWalk}
 use Rattle.gp_difference.specs.Bounds.{edge_at, edges_of, no_bound, start_at, AreAmong, Closes}
-use Rattle.gp_difference.specs.Lower.{IsInput, IsWork, IsRun, IsClosing, IsTracing}
+use Rattle.gp_difference.specs.Placement.{PlacementForm, lowered, with_fallen}
+use Rattle.gp_difference.specs.Lower.{IsInput, IsWork, IsRun, IsFallen, IsClosing, IsTracing}
 use Rattle.gp_difference.proofs.RunLemmas.{read_set}
-use Rattle.gp_difference.proofs.QueueLemmas.{still_falls, still_all}
+use Rattle.gp_difference.proofs.CountLemmas.{still_all, open_all}
+use Rattle.gp_difference.proofs.FallenLemmas.{fallen_fell}
 use Rattle.gp_difference.proofs.WalkLemmas.{IsWalk-push, weight-push, start_at-push, IsSimple-push}
 
 edges_of-push : (walk : List Bound) (bound : Bound) → edges_of (walk ++ bound ∷ []) ≡ edges_of walk ++ bound.edge ∷ []
@@ -24,10 +27,10 @@ bound_contained : (bounds : List Bound) (w : ℕ) → w < length bounds → Cont
 bound_contained bounds w w_in = (w, w_in, get_or_default bounds w (get_or bounds w no_bound) no_bound w_in)
 
 -- the walk begins with the bound that closes the cycle
-pub traced_first : (bounds : List Bound) (new : Edge) (places labels : List ℤ) (via ranks : List ℕ) (done i : ℕ) →
-    IsInput bounds new places → IsClosing bounds new places labels via ranks done i →
-    IsTracing bounds new places labels ranks (get_or bounds i no_bound ∷ []) 1 (edge_at bounds i).b
-traced_first bounds new places labels via ranks done i input closing =
+pub traced_first : (bounds : List Bound) (new : Edge) (p : PlacementForm) (ranks : List ℕ) (done i : ℕ) →
+    IsInput bounds new p.places → IsClosing bounds new p ranks done i →
+    IsTracing bounds new p.places p.labels ranks (get_or bounds i no_bound ∷ []) 1 (edge_at bounds i).b
+traced_first bounds new p ranks done i input closing =
     record {
       size = refl;
       small = (input.edges i closing.small).second;
@@ -117,12 +120,35 @@ closes_alone bounds new same low =
       simple = λ j k lt k_in. absurd (omega arith);
     }
 
+-- places that are not being moved, in these buffers
+abbrev pub quiet : List ℤ → List ℕ → List ℕ → PlacementForm
+quiet places via walk = record {
+  places = places;
+  labels = places;
+  via = via;
+  fallen = [];
+  falls = replicate (length places) (pos 0);
+  walk = walk;
+}
+
+pub quiet_fallen : (places : List ℤ) (via walk : List ℕ) → IsFallen (quiet places via walk) (replicate (length places) (length places)) 0
+quiet_fallen places via walk =
+    record {
+      falls_size = length-replicate (length places) (pos 0);
+      room = omega (arith, still_all places);
+      small = All-nil (λ (point : ℕ). point < length places);
+      listed = λ v v_in. inl refl;
+      opened = λ v v_in free. let e : place_at (replicate (length places) (pos 0)) v ≡ pos 0 = get_or-replicate (length places) v (pos 0) (pos 0) v_in in omega (arith, ints, e);
+      closed = λ v v_in r. absurd (omega (arith, r));
+      count = omega (arith, open_all (length places) (length places));
+    }
+
 -- how a run begins: only the new bound's first point is lowered
-pub run_begins : (bounds : List Bound) (new : Edge) (places : List ℤ) (via : List ℕ) (x : ℤ) →
+pub run_begins : (bounds : List Bound) (new : Edge) (places : List ℤ) (via walk : List ℕ) (x : ℤ) →
     IsInput bounds new places → length via ≡ length places → new.a ≢ new.b →
     x ≡ (place_at places new.b +ℤ new.c) → x <ℤ place_at places new.a →
-    IsRun bounds new places (set places new.a x) (set via new.a (length bounds)) (replicate (length places) (length places)) (new.a ∷ []) 0
-run_begins bounds new places via x input via_size apart value broken =
+    IsRun bounds new (lowered (with_fallen (quiet places via walk) new.a) new.a x (length bounds)) (replicate (length places) (length places)) 0
+run_begins bounds new places via walk x input via_size apart value broken =
     let n = length places in
     let a_in : new.a < n = input.new_edge.first in
     let a_via : new.a < length via = omega (arith, via_size, a_in) in
@@ -155,28 +181,7 @@ run_begins bounds new places via x input via_size apart value broken =
         new_start = omega (arith, ints, at, value);
         low = λ v v_in down. omega (arith, ints, ap (place_at (set places new.a x)) (others v down), at, value, input.new_edge.low);
       };
-      queued = record {
-        room = omega (arith, still_falls places places new.a x refl a_in (omega (arith, ints)) broken, still_all places);
-        small = only_small;
-        unsettled = only_free;
-        fell = only_fell;
-        once = only_once;
-        listed = λ v v_in free down. (0, omega arith, sym (others v down));
-      };
+      fallen = fallen_fell (quiet places via walk) (replicate n n) 0 new.a (length bounds) x refl a_in (omega (arith, a_in)) (quiet_fallen places via walk)
+          (rank new.a a_in) (omega (arith, ints)) broken;
       settled = λ i i_in r. absurd (omega (arith, r));
     }
-  where
-    only_small : (k : ℕ) → k < length (new.a ∷ []) → get_or (new.a ∷ []) k 0 < length places
-    only_small zero k_in = input.new_edge.first
-    only_small (suc k) k_in = absurd (omega arith)
-
-    only_free : (k : ℕ) → k < length (new.a ∷ []) → get_or (replicate (length places) (length places)) (get_or (new.a ∷ []) k 0) 0 ≡ length places
-    only_free zero k_in = get_or-replicate (length places) new.a (length places) 0 input.new_edge.first
-    only_free (suc k) k_in = absurd (omega arith)
-
-    only_fell : (k : ℕ) → k < length (new.a ∷ []) → place_at (set places new.a x) (get_or (new.a ∷ []) k 0) <ℤ place_at places (get_or (new.a ∷ []) k 0)
-    only_fell zero k_in = let at : place_at (set places new.a x) new.a ≡ x = get_or-set_at places new.a new.a x (pos 0) refl input.new_edge.first in omega (arith, ints, at, broken)
-    only_fell (suc k) k_in = absurd (omega arith)
-
-    only_once : (j k : ℕ) → j < length (new.a ∷ []) → k < length (new.a ∷ []) → get_or (new.a ∷ []) j 0 ≡ get_or (new.a ∷ []) k 0 → j ≡ k
-    only_once j k j_in k_in same = omega arith

@@ -1,22 +1,13 @@
-use Rattle.std.proofs.Common.{◌≡◌, ◌≢◌, ℕ, ◌+◌, ◌<◌, ◌⊎◌, inl, inr, suc, zero, List, [], ◌∷◌, ◌++◌, length, refl, sym, ap, ◌∙◌, arith, ℤ, ◌+ℤ◌, ◌≤ℤ◌}
+use Rattle.std.proofs.Common.{◌≡◌, ◌≢◌, ℕ, ◌+◌, ◌<◌, ◌⊎◌, inl, inr, suc, zero, List, [], ◌∷◌, ◌++◌, length, refl, sym, ap, ◌∙◌, arith, ℤ, ◌+ℤ◌}
 use Rattle.std.specs.List.{All, Contains}
 use Rattle.std.proofs.lemmas.Int.{ints}
 use Rattle.std.proofs.lemmas.List.{length_push}
-use Rattle.std.proofs.lemmas.List.Elements.{All-contains}
 use Rattle.gp_clause.specs.declared.edge.Edge.{Edge}
 use Rattle.gp_clause.specs.Edge.{Keeps}
 use Rattle.gp_clause.specs.Walk.{IsWalk, weight, IsAmong}
+use Rattle.gp_clause.specs.WalkLaws.{place_along}
 use Rattle.gp_difference.specs.declared.bound.Bound.{Bound}
 use Rattle.gp_difference.specs.Bounds.{start_at, edges_of, Closes, IsSimple}
-
--- along a walk that the places keep, they differ by no more than its weight
-place_along : (place : ℕ → ℤ) (edges : List Edge) → All (Keeps place) edges → (from : ℕ) (walk : List Edge) (to : ℕ) →
-    IsWalk from walk to → IsAmong edges walk → place from ≤ℤ (place to +ℤ weight walk)
-place_along place edges keeps from [] to leads among = rw leads (omega (arith, ints))
-place_along place edges keeps from (edge ∷ walk) to leads among =
-    let first : Keeps place edge = All-contains (Keeps place) edges edge keeps among.0 in
-    let rest : place edge.b ≤ℤ (place to +ℤ weight walk) = place_along place edges keeps edge.b walk to leads.1 among.1 in
-    rw (← leads.0) (omega (arith, ints, first, rest))
 
 -- the edges of a walk are among themselves
 among_longer : (edge : Edge) (edges walk : List Edge) → IsAmong edges walk → IsAmong (edge ∷ edges) walk

@@ -1,4 +1,4 @@
-use Rattle.std.specs.Prelude.{◌≡◌, ◌≢◌, ℕ, ◌-◌, ◌^◌, ℤ, pos, ◌-ℤ◌, ◌<ℤ◌, List, [], ◌∷◌, ◌++◌, length, map, replicate, Result, Ok, Err}
+use Rattle.std.specs.Prelude.{◌≡◌, ◌≢◌, ℕ, ◌-◌, ◌^◌, ℤ, pos, ◌-ℤ◌, ◌<ℤ◌, List, [], ◌∷◌, ◌++◌, length, map, Result, Ok, Err}
 use Rattle.gp_clause.specs.declared.edge.Edge.{Edge}
 use Rattle.gp_clause.specs.Edge.{Keeps}
 use Rattle.gp_difference.specs.declared.bound.Bound.{Bound}
@@ -12,7 +12,7 @@ use Rattle.gp_difference.specs.Bounds.{edges_of, untagged, Explains}
 
 -- a graph of difference constraints: its points, the fixed edges, the kept bounds in the order in which they came,
 -- how many more can be kept without memory, a place for each point, and the tags of the last cycle
-pub record Constraints : Type 0 where
+pub record GraphForm : Type 0 where
   pub points : ℕ
   pub edges : List Edge
   pub kept : List Bound
@@ -21,21 +21,21 @@ pub record Constraints : Type 0 where
   pub cycle : List ℕ
 
 -- the fixed edges, which have no tag, and then the kept bounds
-abbrev pub bounds_of : Constraints → List Bound
+abbrev pub bounds_of : GraphForm → List Bound
 bounds_of graph = map untagged graph.edges ++ graph.kept
 
 -- all fixed edges and kept bounds
-abbrev pub all_edges : Constraints → List Edge
+abbrev pub all_edges : GraphForm → List Edge
 all_edges graph = edges_of (bounds_of graph)
 
 -- what holds of every graph: each point has a place, and the places keep all edges and bounds
-pub record IsFeasible (graph : Constraints) : Type 0 where
+pub record IsFeasible (graph : GraphForm) : Type 0 where
   pub placed : length graph.places ≡ graph.points
   pub keeps : KeepsAll graph.places (all_edges graph)
   pub no_cycle : HasNegativeCycle (all_edges graph) → ⊥
 
 -- a graph of these fixed edges alone, with places that were made anew
-pub record IsNew (number : ℕ) (fixed : List Edge) (graph : Constraints) : Type 0 where
+pub record IsNew (number : ℕ) (fixed : List Edge) (graph : GraphForm) : Type 0 where
   pub points : graph.points ≡ number
   pub edges : graph.edges ≡ fixed
   pub kept : graph.kept ≡ []
@@ -43,7 +43,7 @@ pub record IsNew (number : ℕ) (fixed : List Edge) (graph : Constraints) : Type
   pub feasible : IsFeasible graph
 
 -- what making a graph gives: a new one where the edges hold no negative cycle, and else the fault says so
-abbrev pub NewGives : ℕ → List Edge → Result Constraints GraphFault → Type 0
+abbrev pub NewGives : ℕ → List Edge → Result GraphForm GraphFault → Type 0
 NewGives number fixed (Ok graph) = IsNew number fixed graph
 NewGives number fixed (Err FixedCycle) = HasNegativeCycle fixed
 NewGives number fixed (Err Memory) = Unit {0}
@@ -54,7 +54,7 @@ Reaches edges from to = (walk : List Edge) × IsWalk from walk to × IsAmong edg
 
 -- how the places move where the bound is kept: not at all where they keep it; else those that move fall, and only at
 -- points from which the bound's first point is reached; and where some place was too low they are made anew
-pub record MovesPlaces (old : Constraints) (edge : Edge) (places : List ℤ) : Type 0 where
+pub record MovesPlaces (old : GraphForm) (edge : Edge) (places : List ℤ) : Type 0 where
   pub unchanged : (AreLow old.places → ⊥) → Keeps (place_at old.places) edge → places ≡ old.places
   pub falls : (AreLow old.places → ⊥) → (point : ℕ) → place_at places point ≢ place_at old.places point →
       (place_at places point <ℤ place_at old.places point) × Reaches (all_edges old) point edge.a
@@ -62,34 +62,34 @@ pub record MovesPlaces (old : Constraints) (edge : Edge) (places : List ℤ) : T
   pub anew : AreLow old.places → AreFresh places
 
 -- the bound is added at the end and takes one from the room, and the places keep all
-pub record IsKept (old : Constraints) (bound : Bound) (new : Constraints) : Type 0 where
+pub record IsKept (old : GraphForm) (bound : Bound) (new : GraphForm) : Type 0 where
   pub added : new ≡ record old { kept = old.kept ++ bound ∷ []; room = old.room - 1; places = new.places }
   pub feasible : IsFeasible new
   pub moves : MovesPlaces old bound.edge new.places
 
 -- the edges and bounds hold a negative cycle with the new one, whose tags are told, and the graph is unchanged
-pub record IsRefused (old : Constraints) (bound : Bound) (new : Constraints) : Type 0 where
+pub record IsRefused (old : GraphForm) (bound : Bound) (new : GraphForm) : Type 0 where
   pub unchanged : new ≡ record old { cycle = new.cycle }
   pub negative : HasNegativeCycle (all_edges old ++ bound.edge ∷ [])
   pub explained : Explains (bounds_of old) bound new.cycle
 
 -- what adding a bound leaves, by the answer
-abbrev pub AddGives : Constraints → Bound → Constraints → Asserted → Type 0
+abbrev pub AddGives : GraphForm → Bound → GraphForm → Asserted → Type 0
 AddGives old bound new Kept = IsKept old bound new
 AddGives old bound new Cycle = IsRefused old bound new
 
--- a graph with all places at zero and no edges
-abbrev pub bare_graph : ℕ → Constraints
-bare_graph number = record { points = number; edges = []; kept = []; room = 0; places = replicate number (pos 0); cycle = [] }
+-- a graph with these places and no edges
+abbrev pub bare_graph : List ℤ → GraphForm
+bare_graph places = record { points = length places; edges = []; kept = []; room = 0; places = places; cycle = [] }
 
 -- what adding a fixed edge leaves
-abbrev pub FixGives : Constraints → Edge → Constraints → Result (Unit {0}) GraphFault → Type 0
+abbrev pub FixGives : GraphForm → Edge → GraphForm → Result (Unit {0}) GraphFault → Type 0
 FixGives old edge new (Ok _) = new ≡ record old { edges = old.edges ++ edge ∷ []; places = new.places }
 FixGives old edge new (Err FixedCycle) = HasNegativeCycle (all_edges old ++ edge ∷ [])
 FixGives old edge new (Err Memory) = Unit {0}
 
 -- the graph with places that were made anew
-pub record FreshGives (old new : Constraints) : Type 0 where
+pub record FreshGives (old new : GraphForm) : Type 0 where
   pub same : new ≡ record old { places = new.places }
   pub fresh : AreFresh new.places
   pub feasible : IsFeasible new

@@ -2,7 +2,10 @@ pub mod Places
 pub mod Bounds
 pub mod Graph
 pub mod Links
+pub mod Falls
+pub mod Placement
 pub mod Lower
 pub mod Anew
 pub mod Settle
+pub mod Start
 pub mod Inside

@@ -1,4 +1,4 @@
-use Rattle.std.specs.Prelude.{◌≡◌, ◌≢◌, ℕ, ◌+◌, ◌*◌, ◌^◌, ◌<◌, ◌≤◌, ◌⊎◌, ℤ, pos, ◌+ℤ◌, ◌≤ℤ◌, ◌<ℤ◌, Bool, true, false, Option, Some, None, List, [], ◌∷◌, length, map, cond, slice_index, slice_index_or, take, All}
+use Rattle.std.specs.Prelude.{◌≡◌, ◌≢◌, ◌==◌, ℕ, ◌+◌, ◌*◌, ◌^◌, ◌<◌, ◌≤◌, ◌⊎◌, ℤ, pos, ◌+ℤ◌, ◌-ℤ◌, ◌≤ℤ◌, ◌<ℤ◌, Bool, true, false, Option, Some, None, List, [], ◌∷◌, length, map, cond, slice_index, slice_index_or, take, All}
 use Rattle.std.specs.Int.Signed.{lt_z}
 use Rattle.gp_clause.specs.declared.edge.Edge.{Edge}
 use Rattle.gp_clause.specs.Edge.{Keeps}
@@ -9,6 +9,7 @@ use Rattle.gp_difference.specs.Places.{place_at, IsEdgeOf}
 use Rattle.gp_clause.specs.Walk.{IsWalk, weight}
 use Rattle.gp_difference.specs.Bounds.{edge_at, edges_of, no_bound, start_at, Closes, AreAmong, IsSimple}
 use Rattle.gp_difference.specs.Graph.{Reaches}
+use Rattle.gp_difference.specs.Placement.{PlacementForm, StandsFrom, ListsMoved, IsUntidy, IsAtRest}
 
 -- Labels are the places that are being made. A point is settled once its label is final; its rank is how many were
 -- settled before it, and an open point has the number of points as its rank.
@@ -62,19 +63,21 @@ still_count [] labels = 0
 still_count (place ∷ places) [] = 0
 still_count (place ∷ places) (label ∷ labels) = cond (lt_z label place) 0 1 + still_count places labels
 
--- how many points are not settled
-abbrev pub left_count : List ℤ → List ℤ → List ℕ → ℕ
-left_count places labels queue = length queue + still_count places labels
+-- how many points are open
+abbrev pub open_count : ℕ → List ℕ → ℕ
+open_count points [] = 0
+open_count points (rank ∷ ranks) = cond (rank == points) 1 0 + open_count points ranks
 
--- the queue holds each open point that fell, once
-pub record IsQueue (places labels : List ℤ) (ranks queue : List ℕ) (done : ℕ) : Type 0 where
-  pub room : done + length queue + still_count places labels ≡ length places
-  pub small : (k : ℕ) → k < length queue → slice_index queue k < length places
-  pub unsettled : (k : ℕ) → k < length queue → slice_index ranks (slice_index queue k) ≡ length places
-  pub fell : (k : ℕ) → k < length queue → place_at labels (slice_index queue k) <ℤ place_at places (slice_index queue k)
-  pub once : (j k : ℕ) → j < length queue → k < length queue → slice_index queue j ≡ slice_index queue k → j ≡ k
-  pub listed : (v : ℕ) → v < length places → slice_index ranks v ≡ length places → place_at labels v <ℤ place_at places v →
-      (k : ℕ) × (k < length queue) × (slice_index queue k ≡ v)
+-- the points that fell are listed, and the falls are those of the open points
+pub record IsFallen (p : PlacementForm) (ranks : List ℕ) (done : ℕ) : Type 0 where
+  pub falls_size : length p.falls ≡ length p.places
+  pub room : length p.fallen + still_count p.places p.labels ≡ length p.places
+  pub small : All (λ (point : ℕ). point < length p.places) p.fallen
+  pub listed : (v : ℕ) → v < length p.places → (place_at p.labels v ≡ place_at p.places v) ⊎ StandsFrom p.fallen 0 v
+  pub opened : (v : ℕ) → v < length p.places → slice_index ranks v ≡ length p.places →
+      place_at p.falls v ≡ (place_at p.places v -ℤ place_at p.labels v)
+  pub closed : (v : ℕ) → v < length p.places → slice_index ranks v < done → place_at p.falls v ≡ pos 0
+  pub count : done + open_count (length p.places) ranks ≡ length p.places
 
 -- the labels keep every bound out of a settled point
 abbrev pub Settled : List Bound → List ℤ → List ℕ → ℕ → Type 0
@@ -83,56 +86,54 @@ Settled bounds labels ranks done = (i : ℕ) → i < length bounds → slice_ind
 
 -- the point at hand was settled last and fell, and the labels keep the bounds out of all other settled points, and
 -- those out of it from a number on
-pub record IsScan (bounds : List Bound) (new : Edge) (places labels : List ℤ) (via ranks queue : List ℕ) (done s i : ℕ) : Type 0 where
-  pub work : IsWork bounds new places labels via ranks done
-  pub queued : IsQueue places labels ranks queue done
-  pub small : s < length places
+pub record IsScan (bounds : List Bound) (new : Edge) (p : PlacementForm) (ranks : List ℕ) (done s i : ℕ) : Type 0 where
+  pub work : IsWork bounds new p.places p.labels p.via ranks done
+  pub fallen : IsFallen p ranks done
+  pub small : s < length p.places
   pub last : slice_index ranks s + 1 ≡ done
-  pub fell : place_at labels s <ℤ place_at places s
-  pub low : place_at places new.b ≤ℤ (place_at labels s +ℤ pos (4096 * done))
+  pub fell : place_at p.labels s <ℤ place_at p.places s
+  pub low : place_at p.places new.b ≤ℤ (place_at p.labels s +ℤ pos (4096 * done))
   pub settled : (j : ℕ) → j < length bounds → slice_index ranks (edge_at bounds j).b < done → (edge_at bounds j).b ≢ s →
-      Keeps (place_at labels) (edge_at bounds j)
-  pub scanned : (j : ℕ) → i ≤ j → j < length bounds → (edge_at bounds j).b ≡ s → Keeps (place_at labels) (edge_at bounds j)
+      Keeps (place_at p.labels) (edge_at bounds j)
+  pub scanned : (j : ℕ) → i ≤ j → j < length bounds → (edge_at bounds j).b ≡ s → Keeps (place_at p.labels) (edge_at bounds j)
 
 -- the scan with its ranks, which the program does not store
-abbrev pub Scanning : List Bound → Edge → List ℤ → List ℤ → List ℕ → List ℕ → ℕ → ℕ → Type 0
-Scanning bounds new places labels via queue s i =
-    (ranks : List ℕ) × (done : ℕ) × IsScan bounds new places labels via ranks queue done s i
+abbrev pub Scanning : List Bound → Edge → PlacementForm → ℕ → ℕ → ℕ → Type 0
+Scanning bounds new p done s i = (ranks : List ℕ) × IsScan bounds new p ranks done s i
 
 -- a bound out of a settled point that fell would lower the new bound's second point
-pub record IsClosing (bounds : List Bound) (new : Edge) (places labels : List ℤ) (via ranks : List ℕ) (done i : ℕ) : Type 0 where
-  pub work : IsWork bounds new places labels via ranks done
+pub record IsClosing (bounds : List Bound) (new : Edge) (p : PlacementForm) (ranks : List ℕ) (done i : ℕ) : Type 0 where
+  pub work : IsWork bounds new p.places p.labels p.via ranks done
+  pub fallen : IsFallen p ranks done
   pub small : i < length bounds
   pub start : (edge_at bounds i).a ≡ new.b
   pub settled : slice_index ranks (edge_at bounds i).b < done
-  pub fell : place_at labels (edge_at bounds i).b <ℤ place_at places (edge_at bounds i).b
-  pub less : (place_at labels (edge_at bounds i).b +ℤ (edge_at bounds i).c) <ℤ place_at places new.b
+  pub fell : place_at p.labels (edge_at bounds i).b <ℤ place_at p.places (edge_at bounds i).b
+  pub less : (place_at p.labels (edge_at bounds i).b +ℤ (edge_at bounds i).c) <ℤ place_at p.places new.b
 
 -- the bound that closes a cycle, with the ranks that the program does not store
-abbrev pub Closing : List Bound → Edge → List ℤ → List ℤ → List ℕ → ℕ → Type 0
-Closing bounds new places labels via i =
-    (ranks : List ℕ) × (done : ℕ) × IsClosing bounds new places labels via ranks done i
+abbrev pub Closing : List Bound → Edge → PlacementForm → ℕ → Type 0
+Closing bounds new p i = (ranks : List ℕ) × (done : ℕ) × IsClosing bounds new p ranks done i
 
 -- what relaxing one bound leaves
-abbrev pub RelaxGives : List Bound → Edge → List ℤ → List ℤ → List ℕ → List ℕ → ℕ → ℕ → Bool → Type 0
-RelaxGives bounds new places labels via queue s i true = Closing bounds new places labels via i
-RelaxGives bounds new places labels via queue s i false = Scanning bounds new places labels via queue s i
+abbrev pub RelaxGives : List Bound → Edge → PlacementForm → ℕ → ℕ → ℕ → Bool → Type 0
+RelaxGives bounds new p done s i true = Closing bounds new p i
+RelaxGives bounds new p done s i false = Scanning bounds new p done s i
 
 -- between two scans: the labels keep all bounds out of settled points
-pub record IsRun (bounds : List Bound) (new : Edge) (places labels : List ℤ) (via ranks queue : List ℕ) (done : ℕ) : Type 0 where
-  pub work : IsWork bounds new places labels via ranks done
-  pub queued : IsQueue places labels ranks queue done
-  pub settled : Settled bounds labels ranks done
+pub record IsRun (bounds : List Bound) (new : Edge) (p : PlacementForm) (ranks : List ℕ) (done : ℕ) : Type 0 where
+  pub work : IsWork bounds new p.places p.labels p.via ranks done
+  pub fallen : IsFallen p ranks done
+  pub settled : Settled bounds p.labels ranks done
 
 -- the run with its ranks, which the program does not store
-abbrev pub Running : List Bound → Edge → List ℤ → List ℤ → List ℕ → List ℕ → Type 0
-Running bounds new places labels via queue =
-    (ranks : List ℕ) × (done : ℕ) × IsRun bounds new places labels via ranks queue done
+abbrev pub Running : List Bound → Edge → PlacementForm → ℕ → Type 0
+Running bounds new p done = (ranks : List ℕ) × IsRun bounds new p ranks done
 
 -- what settling one point leaves
-abbrev pub SettleGives : List Bound → Edge → List ℤ → List ℤ → List ℕ → List ℕ → Option ℕ → Type 0
-SettleGives bounds new places labels via queue (Some i) = Closing bounds new places labels via i
-SettleGives bounds new places labels via queue None = Running bounds new places labels via queue
+abbrev pub SettleGives : List Bound → Edge → PlacementForm → ℕ → Option ℕ → Type 0
+SettleGives bounds new p done (Some i) = Closing bounds new p i
+SettleGives bounds new p done None = Running bounds new p done
 
 -- the labels keep all bounds and the new one; those that changed fell, reach the new bound's first point, and are near
 pub record IsLowered (bounds : List Bound) (new : Edge) (places labels : List ℤ) : Type 0 where
@@ -145,9 +146,9 @@ pub record IsLowered (bounds : List Bound) (new : Edge) (places labels : List �
       place_at places new.b ≤ℤ (place_at labels v +ℤ pos (2 ^ 28))
 
 -- what a run leaves: a bound that closes a cycle, or labels that keep all
-abbrev pub LowerGives : List Bound → Edge → List ℤ → List ℤ → List ℕ → Option ℕ → Type 0
-LowerGives bounds new places labels via (Some i) = Closing bounds new places labels via i
-LowerGives bounds new places labels via None = IsLowered bounds new places labels
+abbrev pub LowerGives : List Bound → Edge → PlacementForm → Option ℕ → Type 0
+LowerGives bounds new p (Some i) = Closing bounds new p i
+LowerGives bounds new p None = IsLowered bounds new p.places p.labels × IsUntidy p 0
 
 -- the bounds of these numbers
 abbrev pub walk_of : List Bound → List ℕ → List Bound
@@ -159,27 +160,13 @@ pub record IsClosed (bounds : List Bound) (new : Edge) (walk : List ℕ) (count 
   pub numbers : All (λ number. number < length bounds) (take count walk)
   pub closes : Closes bounds new (walk_of bounds (take count walk))
 
--- what trying a new bound leaves: places that keep it, new labels, or a walk that closes a cycle with it
-abbrev pub TryGives : List Bound → Edge → List ℤ → List ℤ → List ℕ → Tried → Type 0
-TryGives bounds new places labels walk Unchanged = Keeps (place_at places) new
-TryGives bounds new places labels walk Lowered =
-    (Keeps (place_at places) new → ⊥) × IsLowered bounds new places labels
-TryGives bounds new places labels walk (Closed count) = IsClosed bounds new walk count
-
--- queued points with labels not above their places, all far enough from the ends of the integers to be subtracted
-pub record AreFallen (places labels : List ℤ) (queue : List ℕ) : Type 0 where
-  pub size : length labels ≡ length places
-  pub small : (k : ℕ) → k < length queue → slice_index queue k < length places
-  pub bottom : (v : ℕ) → pos 0 ≤ℤ (place_at labels v +ℤ pos (2 ^ 62 + 2 ^ 29))
-  pub below : (v : ℕ) → place_at labels v ≤ℤ place_at places v
-  pub top : (v : ℕ) → place_at places v ≤ℤ pos 0
-
--- of the first queued points, none fell more than the one at this index
-pub record IsMostFallen (places labels : List ℤ) (queue : List ℕ) (count index : ℕ) : Type 0 where
-  pub small : index < length queue
-  pub most : (k : ℕ) → k < count →
-      (place_at places (slice_index queue k) +ℤ place_at labels (slice_index queue index))
-      ≤ℤ (place_at places (slice_index queue index) +ℤ place_at labels (slice_index queue k))
+-- what trying a new bound leaves: places that keep it, lower places, or a walk that closes a cycle with it
+abbrev pub TryGives : List Bound → Edge → PlacementForm → PlacementForm → Tried → Type 0
+TryGives bounds new old p Unchanged = (p ≡ old) × Keeps (place_at old.places) new
+TryGives bounds new old p Lowered =
+    (Keeps (place_at old.places) new → ⊥) × IsLowered bounds new old.places p.places × IsAtRest p
+    × All (λ (point : ℕ). point < length p.places) p.fallen × ListsMoved p.fallen old.places p.places
+TryGives bounds new old p (Closed count) = (p.places ≡ old.places) × IsAtRest p × IsClosed bounds new p.walk count
 
 -- a walk of this many bounds from the new bound's second point to a point that fell, each lowered by the next
 pub record IsTracing (bounds : List Bound) (new : Edge) (places labels : List ℤ) (ranks : List ℕ) (walk : List Bound) (count v : ℕ) : Type 0 where
@@ -202,6 +189,6 @@ pub record IsTraced (bounds : List Bound) (new : Edge) (places labels : List ℤ
   pub tracing : IsTracing bounds new places labels ranks (walk_of bounds (take count walk)) count v
 
 -- the walk so far with the ranks of the run, which the program does not store
-abbrev pub Tracing : List Bound → Edge → List ℤ → List ℤ → List ℕ → List ℕ → ℕ → ℕ → Type 0
-Tracing bounds new places labels via walk count v =
-    (ranks : List ℕ) × (done : ℕ) × IsTraced bounds new places labels via ranks walk done count v
+abbrev pub Tracing : List Bound → Edge → PlacementForm → ℕ → ℕ → Type 0
+Tracing bounds new p count v =
+    (ranks : List ℕ) × (done : ℕ) × IsTraced bounds new p.places p.labels p.via ranks p.walk done count v

@@ -4,7 +4,9 @@ use crate::bound::Bound;
 use crate::bounds::Bounds;
 use crate::fault::{Asserted, GraphFault};
 use crate::lower::put_tags;
-use crate::settle::{any_below, make_fresh, settle};
+use crate::placement::Placement;
+use crate::settle::{any_below, settle};
+use crate::start::start_places;
 use gp_clause::Edge;
 use std::alloc::{AllocError, Global};
 use std::marker::Model;
@@ -20,29 +22,25 @@ pub struct Graph {
     room: usize,
     low: bool,
     bounds: Bounds,
-    places: Vec<i64>,
-    labels: Vec<i64>,
-    via: Vec<usize>,
-    queue: Vec<usize>,
-    walk: Vec<usize>,
+    placement: Placement,
     tags: Vec<u32>,
 }
 
 impl Model for Graph {
     ghost use Rattle.std.specs.Prelude.{length, take, drop};
-    ghost use Rattle.gp_difference.specs.Graph.{Constraints};
+    ghost use Rattle.gp_difference.specs.Graph.{GraphForm};
 
-    ghost Value = { Constraints };
+    ghost Value = { GraphForm };
 
     ghost use Rattle.gp_difference.specs.Bounds.{edges_of};
     ghost use Rattle.gp_difference.specs.Inside.{IsSound};
 
     ghost view = { λ g. record {
-      points = length g.places.items;
+      points = length g.placement.places;
       edges = edges_of (take g.fixed g.bounds.bounds);
       kept = drop g.fixed g.bounds.bounds;
       room = g.room;
-      places = g.places.items;
+      places = g.placement.places;
       cycle = g.tags.items;
     } };
 
@@ -50,7 +48,7 @@ impl Model for Graph {
 }
 
 impl Graph {
-    ghost use Rattle.gp_difference.specs.Places.{IsEdgeOf, KeepsAll};
+    ghost use Rattle.gp_difference.specs.Places.{IsEdgeOf, AreFresh};
     ghost use Rattle.gp_difference.specs.Bounds.{tagged};
     ghost use Rattle.gp_clause.specs.Walk.{HasNegativeCycle};
     ghost use Rattle.gp_difference.specs.Graph.{IsFeasible, bare_graph, NewGives, FixGives, FreshGives, AddGives, all_edges};
@@ -62,7 +60,8 @@ impl Graph {
         requires within { All (IsEdgeOf points) edges.now }
         ensures { NewGives points edges.now result }
     {
-        let mut graph = Graph::bare(alloc, points as usize)?;
+        let places = start_places(alloc, points as usize, edges)?;
+        let mut graph = Graph::bare(alloc, places)?;
         for &edge in edges {
             graph.fix(edge)?;
         }
@@ -75,6 +74,7 @@ impl Graph {
         requires { length self.old.kept + count < 2 ^ 32 }
         ensures ok { OnOk result (self.new ≡ record self.old { room = self.new.room }) }
         ensures room { OnOk result (count ≤ self.new.room) }
+        ensures more { OnOk result (self.old.room ≤ self.new.room) }
         ensures err { OnErr result (self.new ≡ self.old) }
     {
         self.bounds.reserve(count as usize)?;
@@ -84,23 +84,16 @@ impl Graph {
 
     /// Keeps a bound under a tag, or refuses it where it closes a negative cycle with the fixed edges and the kept
     /// bounds; `cycle` then gives the tags. The places move by Dijkstra's rule with the old places as potential: the
-    /// point that fell most is settled first, and a cycle is closed where the bound's second point would fall.
+    /// point that fell most is settled first, and a cycle is closed where the bound's second point would fall. It
+    /// takes time by the points that fall, the bounds out of them, and the logarithm of all points; a bound that the
+    /// places keep takes none of this.
     pub fn assert(&mut self, edge: Edge, tag: u32) -> Asserted
         requires room { 0 < self.old.room }
         requires within { IsEdgeOf self.old.points edge }
         ensures { AddGives self.old (tagged edge tag) self.new result }
     {
-        if let Some(count) = settle(
-            &self.bounds,
-            edge,
-            &mut self.low,
-            &mut self.places,
-            &mut self.labels,
-            &mut self.via,
-            &mut self.queue,
-            &mut self.walk,
-        ) {
-            put_tags(&self.bounds, &self.walk[..count], &mut self.tags);
+        if let Some(count) = settle(&self.bounds, edge, &mut self.placement, &mut self.low) {
+            put_tags(&self.bounds, self.placement.walk(count), &mut self.tags);
             self.tags.push_reserved(tag);
             return Asserted::Cycle;
         }
@@ -145,32 +138,22 @@ impl Graph {
         ensures places { result.now ≡ self.now.places }
         ensures feasible { IsFeasible self.now }
     {
-        &self.places
+        self.placement.places()
     }
 
-    /// A graph with all places at zero and no edges.
-    fn bare(alloc: Global, points: usize) -> Result<Graph, AllocError>
-        requires { points ≤ 65536 }
-        ensures { IfOk result (λ graph. graph ≡ bare_graph points) }
+    /// A graph with these places and no edges.
+    fn bare(alloc: Global, places: Vec<i64>) -> Result<Graph, AllocError>
+        requires few { length places.items ≤ 65536 }
+        requires fresh { AreFresh places.items }
+        ensures { IfOk result (λ graph. graph ≡ bare_graph places.items) }
     {
-        let mut places = Vec::new(alloc);
-        places.resize(points, 0)?;
-        let mut labels = Vec::new(alloc);
-        labels.resize(points, 0)?;
-        let mut via = Vec::new(alloc);
-        via.resize(points, 0)?;
-        let mut walk = Vec::new(alloc);
-        walk.resize(points, 0)?;
+        let points = places.len();
         Ok(Graph {
             fixed: 0,
             room: 0,
             low: false,
             bounds: Bounds::new(alloc, points)?,
-            places,
-            labels,
-            via,
-            queue: Vec::with_capacity(alloc, points)?,
-            walk,
+            placement: Placement::new(alloc, places)?,
             tags: Vec::with_capacity(alloc, points + 1)?,
         })
     }
@@ -182,16 +165,7 @@ impl Graph {
         ensures { FixGives self.old edge self.new result }
     {
         self.bounds.reserve(self.room + 1)?;
-        match settle(
-            &self.bounds,
-            edge,
-            &mut self.low,
-            &mut self.places,
-            &mut self.labels,
-            &mut self.via,
-            &mut self.queue,
-            &mut self.walk,
-        ) {
+        match settle(&self.bounds, edge, &mut self.placement, &mut self.low) {
             Some(_) => Err(GraphFault::FixedCycle),
             None => {
                 self.bounds.push(Bound { edge, tag: None });
@@ -205,8 +179,8 @@ impl Graph {
     fn freshen(&mut self)
         ensures { FreshGives self.old self.new }
     {
-        if any_below(&self.places, FRESH) {
-            make_fresh(&mut self.places, &mut self.labels);
+        if any_below(self.placement.places(), FRESH) {
+            self.placement.make_anew();
             self.low = false;
         }
     }

@@ -8,11 +8,14 @@
 mod anew;
 mod bound;
 mod bounds;
+mod falls;
 mod fault;
 mod graph;
 mod laws;
 mod lower;
+mod placement;
 mod settle;
+mod start;
 #[cfg(test)]
 mod tests;
 

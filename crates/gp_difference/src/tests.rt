@@ -69,6 +69,17 @@ fn refuses_a_fixed_cycle(rt: HostRuntime) -> Result<(), Fail> {
 }
 
 #[test]
+fn places_a_chain_given_from_either_end(rt: HostRuntime) -> Result<(), Fail> {
+    let first = Edge { a: 0, b: 1, c: -1 };
+    let second = Edge { a: 1, b: 2, c: -1 };
+    let forward = Graph::new(rt.alloc(), 3, &[first, second])?;
+    let backward = Graph::new(rt.alloc(), 3, &[second, first])?;
+    assert_eq!(rt; forward.places(), [-2, -1, 0].as_slice());
+    assert_eq!(rt; backward.places(), [-2, -1, 0].as_slice());
+    Ok(())
+}
+
+#[test]
 fn leaves_places_that_keep_the_bound(rt: HostRuntime) -> Result<(), Fail> {
     let mut graph = Graph::new(rt.alloc(), 4, &[])?;
     assert_eq!(rt; graph.places(), [0, 0, 0, 0].as_slice());
@@ -101,7 +112,8 @@ fn random(state: &mut u64, limit: u32) -> u32 {
 fn keeps_all_bounds_of_a_long_chain(rt: HostRuntime) -> Result<(), Fail> {
     let mut edges = Vec::new(rt.alloc());
     let mut graph = Graph::new(rt.alloc(), 2000, &[])?;
-    for point in 0..1999 {
+    for step in 0..1999u32 {
+        let point = 1998u32.saturating_sub(step);
         let edge = Edge {
             a: point,
             b: point + 1,

@@ -1,80 +1,53 @@
-use Rattle.std.proofs.Common.{◌≡◌, ◌≢◌, ℕ, ◌+◌, ◌-◌, ◌<◌, ℤ, pos, length, List, [], arith, inl, inr, get_or, set, subst, sym, ap, ◌∙◌}
+use Rattle.std.proofs.Common.{◌≡◌, ℕ, ◌+◌, List, length, set, Some, None, sym, ap, subst, ◌∙◌, pos}
 use Rattle.gp_clause.specs.declared.edge.Edge.{Edge}
 use Rattle.gp_difference.specs.declared.bound.Bound.{Bound}
-use Rattle.std.proofs.lemmas.Int.{ints, by_lt_z}
-use Rattle.std.proofs.lemmas.Bool.{cases_lt, eqb-true}
-use Rattle.std.proofs.lemmas.List.{get_or_past, nil_from_length, get_or_read}
-use Rattle.gp_difference.specs.Places.{place_at}
-use Rattle.gp_difference.specs.Lower.{IsInput, IsScan, IsRun, IsMostFallen, AreFallen, Scanning, Running, IsLowered}
-use Rattle.gp_difference.proofs.ScanLemmas.{Unqueued, scan_begins, run_ends}
+use Rattle.gp_difference.specs.Falls.{IsMost}
+use Rattle.gp_difference.specs.Placement.{PlacementForm, Stays, IsUntidy}
+use Rattle.gp_difference.specs.Lower.{IsInput, IsLowered, Running, Scanning}
+use Rattle.gp_difference.proofs.ScanLemmas.{scan_begins, run_ends}
+use Rattle.gp_difference.proofs.TidyLemmas.{run_untidy}
 use Rattle.gp_difference.proofs.lower.lower.Goals as goal
 
--- the queued points fell, and their labels are far from the ends of the integers
-queued : (bounds : List Bound) (new : Edge) (places labels : List ℤ) (via queue : List ℕ) → IsInput bounds new places →
-    Running bounds new places labels via queue → AreFallen places labels queue
-queued bounds new places labels via queue input (ranks, done, run) =
-    record {
-      size = run.work.labels_size;
-      small = run.queued.small;
-      bottom = λ v. elim (cases_lt v (length places)) [
-        | inl v_in ↦ by_lt_z (place_at labels v) (place_at places v)
-            (λ fell. omega (arith, ints, run.work.low v v_in fell, input.bottom new.b, run.work.few, input.few))
-            (λ still. omega (arith, ints, still, input.bottom v))
-        | inr past ↦
-            let l : place_at labels v ≡ pos 0 = get_or_past labels v (pos 0) (omega (arith, past, run.work.labels_size)) in
-            omega (arith, ints, l)
-      ];
-      below = run.work.below;
-      top = input.top;
-    }
+ends : (bounds : List Bound) (new : Edge) (p q : PlacementForm) (done : ℕ) → IsInput bounds new p.places → Stays p q → Running bounds new q done →
+    IsMost q.falls None → IsLowered bounds new q.places q.labels × IsUntidy q 0
+ends bounds new p q done input stays (ranks, run) none =
+    let at : IsInput bounds new q.places = subst (λ ps. IsInput bounds new ps) (sym stays.same_places) input in
+    (run_ends bounds new q ranks done at run none, run_untidy bounds new q ranks done run.work run.fallen)
 
--- the scan that begins once the point that fell most left the queue
-begins : (bounds : List Bound) (new : Edge) (places labels : List ℤ) (via queue after : List ℕ) (index point : ℕ) → IsInput bounds new places →
-    Running bounds new places labels via queue → IsMostFallen places labels queue (length queue) index → Unqueued queue after index →
-    point ≡ get_or queue index 0 → Scanning bounds new places labels via after point (length bounds)
-begins bounds new places labels via queue after index point input (ranks, done, run) most un at = (
-  set ranks (get_or queue index 0) done,
-  done + 1,
-  subst (λ s. IsScan bounds new places labels via (set ranks (get_or queue index 0) done) after (done + 1) s (length bounds)) (sym at)
-      (scan_begins bounds new places labels via ranks queue after done index input run most un),
-)
+-- the scan of the point that fell most
+begins : (bounds : List Bound) (new : Edge) (p q r : PlacementForm) (done s : ℕ) → IsInput bounds new p.places → Stays p q → Running bounds new q done →
+    IsMost q.falls (Some s) → r ≡ record q { falls = set q.falls s (pos 0) } → Scanning bounds new r (done + 1) s (length bounds)
+begins bounds new p q r done s input stays (ranks, run) most is =
+    let at : IsInput bounds new q.places = subst (λ ps. IsInput bounds new ps) (sym stays.same_places) input in
+    subst (λ t. Scanning bounds new t (done + 1) s (length bounds)) (sym is) (set ranks s done, scan_begins bounds new q ranks done s at run most)
 
-ends : (bounds : List Bound) (new : Edge) (places labels : List ℤ) (via queue : List ℕ) → IsInput bounds new places → queue ≡ [] →
-    Running bounds new places labels via queue → IsLowered bounds new places labels
-ends bounds new places labels via queue input none (ranks, done, run) =
-    run_ends bounds new places labels via ranks done input (subst (λ q. IsRun bounds new places labels via ranks q done) none run)
-
-pub most_fallen-index-requires-clause-fallen : goal.most_fallen-index-requires-clause-fallen
-most_fallen-index-requires-clause-fallen c =
-    rw c.deref.ensures.value (queued _ c.args.new _ _ _ _ c.requires.input c.settling.invariant.run)
-
--- the queue after `swap_remove`, by its clauses
-unqueued : (queue after : List ℕ) (n m index : ℕ) → n ≡ length queue → m ≡ length after → m + 1 ≡ n →
-    ((d : ℕ) → index + 1 < n → get_or after index d ≡ get_or queue (n - 1) d) →
-    ((k d : ℕ) → k ≢ index → k + 1 < n → get_or after k d ≡ get_or queue k d) → Unqueued queue after index
-unqueued queue after n m index n_is m_is one moved rest =
-    record {
-      size = omega (arith, n_is, m_is, one);
-      moved = λ lt. moved 0 (omega (arith, n_is, lt)) ∙ ap (λ k. get_or queue (k - 1) 0) n_is;
-      rest = λ k far lt. rest k 0 far (omega (arith, n_is, lt));
-    }
+pub returns-in_default-clause-gives : goal.returns-in_default-clause-gives
+returns-in_default-clause-gives c =
+    ends c.args.bounds.now.bounds c.args.new c.args.run.now c.settling.run c.settling.counter c.requires.input c.settling.invariant.stays c.settling.invariant.run c.in_default.ensures
 
 pub scan-requires-clause-scan : goal.scan-requires-clause-scan
-scan-requires-clause-scan c =
-    let most : IsMostFallen c.args.places.now c.settling.labels c.settling.queue.items (length c.settling.queue.items) c.most_fallen-index.result =
-    subst (λ q. IsMostFallen c.args.places.now c.settling.labels q (length q) c.most_fallen-index.result) c.deref.ensures.value c.most_fallen-index.ensures in
-    let removed = c.swap_remove-point.ensures in
-    let un = unqueued c.settling.queue.items c.swap_remove-point.new.self.items c.settling.queue.len c.swap_remove-point.new.self.len c.most_fallen-index.result
-    c.settling.queue.ok.0 c.swap_remove-point.new.self.ok.0 removed.len removed.by_index.0 removed.by_index.1 in
-    begins _ _ _ _ _ c.settling.queue.items c.swap_remove-point.new.self.items c.most_fallen-index.result c.swap_remove-point.result
-    c.requires.input c.settling.invariant.run most un
-    (get_or_read c.settling.queue.items c.most_fallen-index.result c.swap_remove-point.result most.small removed.value 0)
+scan-requires-clause-scan c = (
+  c.settling.counter + 1,
+  begins c.args.bounds.now.bounds c.args.new c.args.run.now c.settling.run c.close.new.self c.settling.counter c.in-Some.point c.requires.input
+      c.settling.invariant.stays c.settling.invariant.run c.in-Some.ensures c.close.ensures,
+)
 
-pub settling-smaller : goal.settling-smaller
-settling-smaller c =
-    omega (arith, c.in_default.ensures.left, c.swap_remove-point.ensures.len, c.settling.queue.ok.0, c.swap_remove-point.new.self.ok.0)
+pub returns-in-Some-scan-clause-gives : goal.returns-in-Some-scan-clause-gives
+returns-in-Some-scan-clause-gives c =
+    c.in-Some-scan.ensures.gives (c.settling.counter + 1)
+    (begins c.args.bounds.now.bounds c.args.new c.args.run.now c.settling.run c.close.new.self c.settling.counter c.in-Some.point c.requires.input
+    c.settling.invariant.stays c.settling.invariant.run c.in-Some.ensures c.close.ensures)
 
-pub returns-clause-gives : goal.returns-clause-gives
-returns-clause-gives c =
-    let none : length c.settling.queue.items ≡ 0 = omega (arith, c.settling.queue.ok.0, eqb-true c.settling.queue.len 0 (sym c.settling-test.ensures)) in
-    ends _ _ _ _ _ c.settling.queue.items c.requires.input (nil_from_length c.settling.queue.items none) c.settling.invariant.run
+pub settling-preserved : goal.settling-preserved
+settling-preserved c =
+    let after = c.in_default-scan.ensures in
+    let was = c.settling.invariant.stays in
+    record {
+      stays = record {
+        same_places = after.stays.same_places ∙ ap (λ (p : PlacementForm). p.places) c.close.ensures ∙ was.same_places;
+        same_walk = after.stays.same_walk ∙ ap (λ (p : PlacementForm). p.walk) c.close.ensures ∙ was.same_walk;
+      };
+      run = after.gives (c.settling.counter + 1)
+          (begins c.args.bounds.now.bounds c.args.new c.args.run.now c.settling.run c.close.new.self c.settling.counter c.in-Some.point c.requires.input
+          was c.settling.invariant.run c.in-Some.ensures c.close.ensures);
+    }

@@ -1,9 +1,13 @@
-use Rattle.std.proofs.Common.{◌-◌, length}
+use Rattle.std.proofs.Common.{◌≡◌, ◌-◌, length}
 use Rattle.gp_difference.specs.Lower.{Tracing}
 use Rattle.gp_difference.proofs.lower.trace.Given as goal
 
-abbrev pub invariant-loop-point : goal.invariant-loop-point
-invariant-loop-point l = Tracing l.bounds.bounds l.fn.new l.places l.labels l.via l.walk l.count l.point
+abbrev pub invariant-tracing : goal.invariant-tracing
+invariant-tracing l = record {
+  same : l.run ≡ record l.fn.run { walk = l.run.walk };
+  size : length l.run.walk ≡ length l.fn.run.walk;
+  tracing : Tracing l.bounds.bounds l.fn.new l.run l.count l.point;
+}
 
-abbrev pub decreases-loop-point : goal.decreases-loop-point
-decreases-loop-point l = length l.places - l.count
+abbrev pub decreases-tracing : goal.decreases-tracing
+decreases-tracing l = length l.run.walk - l.count

@@ -1,5 +1,5 @@
 use Rattle.std.proofs.Common.{subst, refl, sym, ap, ◌∙◌, ◌≡◌, ℕ, ◌≤◌, ◌<◌, List, ℤ, [], ◌∷◌, ◌++◌, length, take, drop, map, arith}
-use Rattle.std.proofs.lemmas.List.{take-append-le, drop-append-le, length_push, with_items_is}
+use Rattle.std.proofs.lemmas.List.{take-append-le, drop-append-le, length_push}
 use Rattle.gp_clause.specs.declared.edge.Edge.{Edge}
 use Rattle.gp_difference.specs.declared.bound.Bound.{Bound}
 use Rattle.gp_difference.specs.Places.{IsEdgeOf}
@@ -7,7 +7,7 @@ use Rattle.gp_clause.specs.Walk.{HasNegativeCycle}
 use Rattle.gp_difference.specs.Bounds.{edges_of, tagged, untagged, tags_of, Closes, Explains}
 use Rattle.gp_difference.specs.Links.{BoundList}
 use Rattle.gp_difference.specs.Lower.{walk_of}
-use Rattle.gp_difference.specs.Graph.{Constraints}
+use Rattle.gp_difference.specs.Graph.{GraphForm}
 use Rattle.gp_difference.proofs.TagLemmas.{tags_of-push}
 use Rattle.gp_difference.proofs.GraphLemmas.{whole, moves, closes_negative, sound_feasible, sound_added, same_graph}
 use Rattle.gp_difference.proofs.graph.Graph.assert.Goals as goal
@@ -34,8 +34,7 @@ returns-in-Some c =
     let gives = c.in-Some.ensures.gives in
     let places = gives.0 in
     let same = sym (whole inside.fixed bounds c.self.invariant.untagged) in
-    let buffer = c.deref.ensures.value ∙ with_items_is inside.walk c.settle.new.walk (omega (arith, c.settle.auto.walk, inside.walk.ok.0)) in
-    let found = c.put_tags.ensures.tags ∙ ap (λ (ws : List ℕ). tags_of (walk_of bounds (take c.in-Some.count ws))) buffer in
+    let found = c.put_tags.ensures.tags ∙ ap (λ (ws : List ℕ). tags_of (walk_of bounds ws)) c.walk.ensures in
     rw (← c.self.view_is) (record {
       unchanged = same_graph _ _ _ _ _ _ _ _ _ _ _ _ (ap (λ (ps : List ℤ). length ps) places) refl refl refl places refl;
       negative = subst (λ bs. HasNegativeCycle (edges_of bs ++ c.args.edge ∷ [])) same (closes_negative bounds c.args.edge _ gives.2.closes);
@@ -52,20 +51,15 @@ invariant_of-self-2 c =
     let more = ap (λ (b : BoundList). b.bounds) c.push.ensures in
     let longer = ap (λ (bs : List Bound). length bs) more ∙ length_push bounds bound in
     let room = ap (λ (b : BoundList). b.room) c.push.ensures in
-    let is_edge : IsEdgeOf (length inside.places.items) c.args.edge = subst (λ (g : Constraints). IsEdgeOf g.points c.args.edge) (sym c.self.view_is) c.requires.within in
-    let some : 0 < inside.room = subst (λ (g : Constraints). 0 < g.room) (sym c.self.view_is) c.requires.room in
+    let is_edge : IsEdgeOf (length inside.placement.places) c.args.edge = subst (λ (g : GraphForm). IsEdgeOf g.points c.args.edge) (sym c.self.view_is) c.requires.within in
+    let some : 0 < inside.room = subst (λ (g : GraphForm). 0 < g.room) (sym c.self.view_is) c.requires.room in
     let stays = fixed_stays inside.fixed bounds bound c.push.new.self.bounds sound.fixed more in
-    let via = with_items_is inside.via c.settle.new.via (omega (arith, c.settle.auto.via, inside.via.ok.0)) in
-    let walk = with_items_is inside.walk c.settle.new.walk (omega (arith, c.settle.auto.walk, inside.walk.ok.0)) in
     sound_added inside _ bound sound more (ap (λ (b : BoundList). b.points) c.push.ensures) is_edge c.in_default.ensures.gives
     (omega (arith, longer, sound.fixed))
     (ap (λ bs. map untagged (edges_of bs)) stays ∙ sound.untagged ∙ sym stays)
     (omega (arith, longer, some, sound.fixed, sound.marks))
     (omega (arith, room, sound.room))
-    c.in_default.ensures.size c.in_default.ensures.labels
-    (ap (λ (vs : List ℕ). length vs) via ∙ omega (arith, c.settle.auto.via, sound.via))
-    (ap (λ (vs : List ℕ). length vs) walk ∙ omega (arith, c.settle.auto.walk, sound.walk))
-    c.in_default.ensures.room sound.tags
+    c.in_default.ensures.size c.in_default.ensures.rest sound.tags
 
 pub returns : goal.returns
 returns c =
@@ -74,7 +68,7 @@ returns c =
     let bounds = inside.bounds.bounds in
     let bound = tagged c.args.edge c.args.tag in
     let more = ap (λ (b : BoundList). b.bounds) c.push.ensures in
-    let is_edge : IsEdgeOf (length inside.places.items) c.args.edge = subst (λ (g : Constraints). IsEdgeOf g.points c.args.edge) (sym c.self.view_is) c.requires.within in
+    let is_edge : IsEdgeOf (length inside.placement.places) c.args.edge = subst (λ (g : GraphForm). IsEdgeOf g.points c.args.edge) (sym c.self.view_is) c.requires.within in
     rw (← c.self.view_is) (record {
       added = same_graph _ _ _ _ _ _ _ _ _ _ _ _ c.in_default.ensures.size
           (ap edges_of (fixed_stays inside.fixed bounds bound c.push.new.self.bounds sound.fixed more))

@@ -1,12 +1,12 @@
 use Rattle.std.proofs.Common.{subst, sym, ap, ◌∙◌, ◌≡◌, ℕ, ◌≤◌, List, [], ◌∷◌, ◌++◌, length, take, drop, map, arith}
-use Rattle.std.proofs.lemmas.List.{take_all, map-append, length_push, length-drop, with_items_is}
+use Rattle.std.proofs.lemmas.List.{take_all, map-append, length_push, length-drop}
 use Rattle.gp_clause.specs.declared.edge.Edge.{Edge}
 use Rattle.gp_difference.specs.declared.bound.Bound.{Bound}
 use Rattle.gp_difference.specs.Places.{IsEdgeOf}
 use Rattle.gp_clause.specs.Walk.{HasNegativeCycle}
 use Rattle.gp_difference.specs.Bounds.{edges_of, untagged}
 use Rattle.gp_difference.specs.Links.{BoundList}
-use Rattle.gp_difference.specs.Graph.{Constraints}
+use Rattle.gp_difference.specs.Graph.{GraphForm}
 use Rattle.gp_difference.specs.Settle.{AreMoved}
 use Rattle.gp_difference.proofs.GraphLemmas.{whole, closes_negative, sound_added}
 use Rattle.gp_difference.proofs.graph.Graph.fix.Goals as goal
@@ -41,22 +41,17 @@ invariant_of-self-in-None c =
     let reserved = ap (λ (b : BoundList). b.bounds) c.in_ok-reserve.ensures.ok in
     let more = ap (λ (b : BoundList). b.bounds) c.push.ensures ∙ ap (λ bs. bs ++ bound ∷ []) reserved in
     let longer = ap (λ (bs : List Bound). length bs) more ∙ length_push bounds bound in
-    let is_edge : IsEdgeOf (length inside.places.items) c.args.edge = subst (λ (g : Constraints). IsEdgeOf g.points c.args.edge) (sym c.self.view_is) c.requires.within in
-    let none : drop inside.fixed bounds ≡ [] = ap (λ (g : Constraints). g.kept) c.self.view_is ∙ c.requires.none in
+    let is_edge : IsEdgeOf (length inside.placement.places) c.args.edge = subst (λ (g : GraphForm). IsEdgeOf g.points c.args.edge) (sym c.self.view_is) c.requires.within in
+    let none : drop inside.fixed bounds ≡ [] = ap (λ (g : GraphForm). g.kept) c.self.view_is ∙ c.requires.none in
     let fits = all_fixed inside.fixed bounds none in
     let count = c.len-self-inside.ensures in
     let all : take c.len-self-inside.result c.push.new.self.bounds ≡ bounds ++ bound ∷ [] =
     take_all c.len-self-inside.result c.push.new.self.bounds (omega (arith, count)) ∙ more in
-    let via = with_items_is inside.via c.settle.new.via (omega (arith, c.settle.auto.via, inside.via.ok.0)) in
-    let walk = with_items_is inside.walk c.settle.new.walk (omega (arith, c.settle.auto.walk, inside.walk.ok.0)) in
     sound_added inside _ bound sound more
     (ap (λ (b : BoundList). b.points) c.push.ensures ∙ ap (λ (b : BoundList). b.points) c.in_ok-reserve.ensures.ok) is_edge
-    (subst (λ bs. AreMoved bs c.args.edge inside.places.items inside.low c.settle.new.places.items c.settle.new.low) reserved c.in-None.ensures.gives)
+    (subst (λ bs. AreMoved bs c.args.edge inside.placement.places inside.low c.settle.new.run.places c.settle.new.low) reserved c.in-None.ensures.gives)
     (omega (arith, count))
     (ap (λ bs. map untagged (edges_of bs)) all ∙ untagged_more inside.fixed bounds c.args.edge fits sound.untagged ∙ sym all)
     (omega (arith, count, sound.marks, fits))
     (omega (arith, ap (λ (b : BoundList). b.room) c.push.ensures, c.in_ok-reserve.ensures.room))
-    c.in-None.ensures.size c.in-None.ensures.labels
-    (ap (λ (vs : List ℕ). length vs) via ∙ omega (arith, c.settle.auto.via, sound.via))
-    (ap (λ (vs : List ℕ). length vs) walk ∙ omega (arith, c.settle.auto.walk, sound.walk))
-    c.in-None.ensures.room sound.tags
+    c.in-None.ensures.size c.in-None.ensures.rest sound.tags

@@ -6,21 +6,21 @@ use Rattle.gp_difference.proofs.graph.Graph.freshen.Goals as goal
 
 pub invariant_of-self : goal.invariant_of-self
 invariant_of-self c =
-    sound_fresh c.self.inside c.make_fresh.new.places c.make_fresh.new.labels c.self.invariant c.make_fresh.ensures.anew c.make_fresh.ensures.size
+    sound_fresh c.self.inside c.make_anew.new.self c.self.invariant c.make_anew.ensures.anew c.make_anew.ensures.rest
 
 pub returns-then-any_below : goal.returns-then-any_below
 returns-then-any_below c =
-    let anew = c.make_fresh.ensures.anew in
+    let anew = c.make_anew.ensures.anew in
     rw (← c.self.view_is) (record {
       same = same_graph _ _ _ _ _ _ _ _ _ _ _ _ anew.size refl refl refl refl refl;
       fresh = anew.fresh;
-      feasible = sound_feasible _ (sound_fresh c.self.inside c.make_fresh.new.places c.make_fresh.new.labels c.self.invariant anew c.make_fresh.ensures.size);
+      feasible = sound_feasible _ (sound_fresh c.self.inside c.make_anew.new.self c.self.invariant anew c.make_anew.ensures.rest);
     })
 
 pub returns-else-any_below : goal.returns-else-any_below
 returns-else-any_below c =
-    let none : NoneIsBelow c.self.inside.places.items _ =
-    subst (λ (ps : List ℤ). NoneIsBelow ps _) c.deref.ensures.value c.if-any_below.ensures in
+    let none : NoneIsBelow c.self.inside.placement.places _ =
+    subst (λ (ps : List ℤ). NoneIsBelow ps _) c.places.ensures c.if-any_below.ensures in
     rw (← c.self.view_is) (record {
       same = refl;
       fresh = sound_near c.self.inside c.self.invariant _ (omega (arith, ints)) none;

@@ -7,7 +7,7 @@ use Rattle.gp_difference.specs.declared.fault.GraphFault.{GraphFault}
 use Rattle.gp_difference.specs.declared.fault.GraphFault.TheVariants.{FixedCycle, Memory}
 use Rattle.gp_clause.specs.Walk.{IsAmong, HasNegativeCycle}
 use Rattle.gp_difference.specs.Bounds.{edges_of, untagged, no_edge}
-use Rattle.gp_difference.specs.Graph.{Constraints, FixGives, NewGives, all_edges}
+use Rattle.gp_difference.specs.Graph.{GraphForm, FixGives, NewGives, all_edges}
 use Rattle.gp_difference.proofs.graph.Graph.new.Goals as goal
 
 -- what the first of the edges contain, the edges contain
@@ -29,7 +29,7 @@ edges_of-untagged [] = refl
 edges_of-untagged (edge ∷ edges) = ap (λ es. edge ∷ es) (edges_of-untagged edges)
 
 -- a cycle of the first edges with the next one is a cycle of the edges
-next_cycle : (old : Constraints) (edges : List Edge) (i : ℕ) → i < length edges → old.edges ≡ take i edges → old.kept ≡ [] →
+next_cycle : (old : GraphForm) (edges : List Edge) (i : ℕ) → i < length edges → old.edges ≡ take i edges → old.kept ≡ [] →
     HasNegativeCycle (all_edges old ++ get_or edges i no_edge ∷ []) → HasNegativeCycle edges
 next_cycle old edges i lt first none cycle =
     let all : all_edges old ≡ take i edges =
@@ -38,7 +38,7 @@ next_cycle old edges i lt first none cycle =
     ap (λ es. es ++ get_or edges i no_edge ∷ []) all ∙ sym (take_more edges i no_edge lt) in
     cycle_of_all (i + 1) edges (subst (λ es. HasNegativeCycle es) more cycle)
 
-faults : (points : ℕ) (old new : Constraints) (edges : List Edge) (i : ℕ) (fault : GraphFault) → i < length edges → old.edges ≡ take i edges → old.kept ≡ [] →
+faults : (points : ℕ) (old new : GraphForm) (edges : List Edge) (i : ℕ) (fault : GraphFault) → i < length edges → old.edges ≡ take i edges → old.kept ≡ [] →
     FixGives old (get_or edges i no_edge) new (Err fault) → NewGives points edges (Err fault)
 faults points old new edges i FixedCycle lt first none gives = next_cycle old edges i lt first none gives
 faults points old new edges i Memory lt first none gives = tt

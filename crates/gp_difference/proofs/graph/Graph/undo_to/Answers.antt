@@ -2,7 +2,7 @@ use Rattle.std.proofs.Common.{subst, refl, sym, ap, ◌∙◌, ◌≡◌, ◌+�
 use Rattle.std.proofs.lemmas.List.{take-take, drop-take, length-drop}
 use Rattle.gp_difference.specs.Bounds.{edges_of}
 use Rattle.gp_difference.specs.Links.{BoundList}
-use Rattle.gp_difference.specs.Graph.{Constraints}
+use Rattle.gp_difference.specs.Graph.{GraphForm}
 use Rattle.gp_difference.proofs.GraphLemmas.{same_graph}
 use Rattle.gp_difference.proofs.graph.Graph.undo_to.Goals as goal
 
@@ -12,7 +12,7 @@ returns c =
     let bounds = inside.bounds.bounds in
     let mark = c.args.mark in
     let kept = length-drop inside.fixed bounds in
-    let mark_in : mark ≤ length (drop inside.fixed bounds) = subst (λ (g : Constraints). mark ≤ length g.kept) (sym c.self.view_is) c.requires in
+    let mark_in : mark ≤ length (drop inside.fixed bounds) = subst (λ (g : GraphForm). mark ≤ length g.kept) (sym c.self.view_is) c.requires in
     let count : c.len-len.result - (c.len-len.result - inside.fixed - mark) ≡ inside.fixed + mark = omega (arith, c.len-len.ensures, kept, mark_in, c.self.invariant.fixed) in
     let cut : c.truncate.new.self.bounds ≡ take (inside.fixed + mark) bounds =
     ap (λ (b : BoundList). b.bounds) c.truncate.ensures ∙ ap (λ n. take n bounds) count in

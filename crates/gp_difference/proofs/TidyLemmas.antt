@@ -1,0 +1,183 @@
+use Rattle.std.proofs.Common.{◌≡◌, ◌≢◌, ℕ, ◌+◌, ◌<◌, ◌≤◌, ◌⊎◌, inl, inr, List, length, get_or, set, replicate, sym, ap, subst, ◌∙◌, arith, ℤ, pos}
+use Rattle.std.proofs.lemmas.Int.{ints}
+use Rattle.std.specs.List.{All}
+use Rattle.std.proofs.lemmas.Bool.{cases_eq, cases_lt}
+use Rattle.std.proofs.lemmas.List.{length-set, length-replicate, get_or-replicate, get_or_past, ext_get_or}
+use Rattle.gp_clause.specs.declared.edge.Edge.{Edge}
+use Rattle.gp_difference.specs.declared.bound.Bound.{Bound}
+use Rattle.gp_difference.specs.Places.{place_at}
+use Rattle.gp_difference.specs.Placement.{PlacementForm, StandsFrom, IsUntidy, IsAtRest, ListsMoved}
+use Rattle.gp_difference.specs.Lower.{IsWork, IsFallen, Closing, IsLowered}
+use Rattle.gp_difference.proofs.RunLemmas.{read_set}
+
+-- after a run only the fallen points are untidy
+pub run_untidy : (bounds : List Bound) (new : Edge) (p : PlacementForm) (ranks : List ℕ) (done : ℕ) →
+    IsWork bounds new p.places p.labels p.via ranks done → IsFallen p ranks done → IsUntidy p 0
+run_untidy bounds new p ranks done work fallen =
+    record {
+      labels_size = work.labels_size;
+      via_size = work.via_size;
+      falls_size = fallen.falls_size;
+      small = fallen.small;
+      tidy = λ v v_in. elim (fallen.listed v v_in) [
+        | inr stands ↦ inl stands
+        | inl same ↦ inr (
+          same,
+          elim (work.ranked v v_in) [
+            | inl r ↦ fallen.closed v v_in r
+            | inr free ↦ omega (arith, ints, fallen.opened v v_in free, same)
+          ],
+        )
+      ];
+    }
+
+-- a point that stands from an index on is the one there or stands later
+stands_on : (points : List ℕ) (index v : ℕ) → StandsFrom points index v → (get_or points index 0 ≡ v) ⊎ StandsFrom points (index + 1) v
+stands_on points index v (k, le, lt, e) = elim (cases_eq k index) [
+  | inl q ↦ inl (sym (ap (λ j. get_or points j 0) q) ∙ e)
+  | inr n ↦ let far : k ≢ index = n in inr (k, omega arith, lt, e)
+]
+
+-- the point at an index was tidied, and the others are as before
+tidied : (p q : PlacementForm) (index : ℕ) → IsUntidy p index → index < length p.fallen → q.fallen ≡ p.fallen → length q.places ≡ length p.places →
+    length q.labels ≡ length p.labels → length q.via ≡ length p.via → length q.falls ≡ length p.falls →
+    ((v : ℕ) → ((v ≡ get_or p.fallen index 0) × (place_at q.labels v ≡ place_at q.places v) × (place_at q.falls v ≡ pos 0))
+    ⊎ ((v ≢ get_or p.fallen index 0) × (place_at q.labels v ≡ place_at p.labels v) × (place_at q.places v ≡ place_at p.places v) × (place_at q.falls v ≡ place_at p.falls v))) →
+    IsUntidy q (index + 1)
+tidied p q index was lt list places labels via falls each =
+    record {
+      labels_size = labels ∙ was.labels_size ∙ sym places;
+      via_size = via ∙ was.via_size ∙ sym places;
+      falls_size = falls ∙ was.falls_size ∙ sym places;
+      small = subst (λ n. (k : ℕ) (d : ℕ) → k < length q.fallen → get_or q.fallen k d < n) (sym places)
+          (subst (λ (ps : List ℕ). (k : ℕ) (d : ℕ) → k < length ps → get_or ps k d < length p.places) (sym list) was.small);
+      tidy = λ v v_in. elim (each v) [
+        | inl here ↦ inr (here.1, here.2)
+        | inr far ↦ elim (was.tidy v (omega (arith, v_in, places))) [
+          | inl stands ↦ elim (stands_on p.fallen index v stands) [
+            | inl e ↦ absurd (far.0 (sym e))
+            | inr later ↦ inl (subst (λ (ps : List ℕ). StandsFrom ps (index + 1) v) (sym list) later)
+          ]
+          | inr rest ↦ inr (far.1 ∙ rest.0 ∙ sym far.2, far.3 ∙ rest.1)
+        ]
+      ];
+    }
+
+-- the label at an index became the place
+pub keeps_on : (p : PlacementForm) (index : ℕ) → IsUntidy p index → index < length p.fallen →
+    IsUntidy (record p { places = set p.places (get_or p.fallen index 0) (place_at p.labels (get_or p.fallen index 0)); falls = set p.falls (get_or p.fallen index 0) (pos 0) }) (index + 1)
+keeps_on p index was lt =
+    let t = get_or p.fallen index 0 in
+    let t_in : t < length p.places = was.small index 0 lt in
+    let t_fall : t < length p.falls = omega (arith, t_in, was.falls_size) in
+    let x = place_at p.labels t in
+    tidied p (record p { places = set p.places t x; falls = set p.falls t (pos 0) }) index was lt (λ i. p.fallen) (length-set p.places t x) (λ i. length p.labels) (λ i. length p.via) (length-set p.falls t (pos 0))
+    (λ v. elim (read_set p.places t x v (pos 0) t_in) [
+      | inl h ↦ elim (read_set p.falls t (pos 0) v (pos 0) t_fall) [
+        | inl g ↦ inl (h.0, ap (place_at p.labels) h.0 ∙ sym h.1, g.1)
+        | inr g ↦ absurd (g.0 h.0)
+      ]
+      | inr h ↦ elim (read_set p.falls t (pos 0) v (pos 0) t_fall) [
+        | inl g ↦ absurd (h.0 g.0)
+        | inr g ↦ inr (h.0, (λ i. place_at p.labels v), h.1, g.1)
+      ]
+    ])
+
+-- the place at an index became the label
+pub restores_on : (p : PlacementForm) (index : ℕ) → IsUntidy p index → index < length p.fallen →
+    IsUntidy (record p { labels = set p.labels (get_or p.fallen index 0) (place_at p.places (get_or p.fallen index 0)); falls = set p.falls (get_or p.fallen index 0) (pos 0) }) (index + 1)
+restores_on p index was lt =
+    let t = get_or p.fallen index 0 in
+    let t_in : t < length p.places = was.small index 0 lt in
+    let t_fall : t < length p.falls = omega (arith, t_in, was.falls_size) in
+    let t_label : t < length p.labels = omega (arith, t_in, was.labels_size) in
+    let x = place_at p.places t in
+    tidied p (record p { labels = set p.labels t x; falls = set p.falls t (pos 0) }) index was lt (λ i. p.fallen) (λ i. length p.places) (length-set p.labels t x) (λ i. length p.via) (length-set p.falls t (pos 0))
+    (λ v. elim (read_set p.labels t x v (pos 0) t_label) [
+      | inl h ↦ elim (read_set p.falls t (pos 0) v (pos 0) t_fall) [
+        | inl g ↦ inl (h.0, h.1 ∙ sym (ap (place_at p.places) h.0), g.1)
+        | inr g ↦ absurd (g.0 h.0)
+      ]
+      | inr h ↦ elim (read_set p.falls t (pos 0) v (pos 0) t_fall) [
+        | inl g ↦ absurd (h.0 g.0)
+        | inr g ↦ inr (h.0, h.1, (λ i. place_at p.places v), g.1)
+      ]
+    ])
+
+-- once all fallen points are tidied the labels are the places, and no fall is kept
+tidy_labels : (p : PlacementForm) (index : ℕ) → IsUntidy p index → length p.fallen ≤ index → p.labels ≡ p.places
+tidy_labels p index was end = ext_get_or (pos 0) p.labels p.places was.labels_size (λ v v_in.
+    elim (was.tidy v (omega (arith, v_in, was.labels_size))) [
+      | inl stands ↦ absurd (omega (arith, stands.1, stands.2, end))
+      | inr rest ↦ rest.0
+    ])
+
+tidy_falls : (p : PlacementForm) (index : ℕ) → IsUntidy p index → length p.fallen ≤ index → p.falls ≡ replicate (length p.places) (pos 0)
+tidy_falls p index was end = ext_get_or (pos 0) p.falls (replicate (length p.places) (pos 0)) (was.falls_size ∙ sym (length-replicate (length p.places) (pos 0))) (λ v v_in.
+    let at : v < length p.places = omega (arith, v_in, was.falls_size) in
+    elim (was.tidy v at) [
+      | inl stands ↦ absurd (omega (arith, stands.1, stands.2, end))
+      | inr rest ↦ rest.1 ∙ sym (get_or-replicate (length p.places) v (pos 0) (pos 0) at)
+    ])
+
+pub kept_all : (p q : PlacementForm) (index : ℕ) → q ≡ record p { places = q.places; falls = q.falls } → length q.places ≡ length p.places →
+    IsUntidy q index → length q.fallen ≤ index → q ≡ record p { places = p.labels; falls = replicate (length p.places) (pos 0) }
+kept_all p q index same size was end =
+    let labels : q.labels ≡ p.labels = ap (λ (r : PlacementForm). r.labels) same in
+    let places : q.places ≡ p.labels = sym (tidy_labels q index was end) ∙ labels in
+    let falls : q.falls ≡ replicate (length p.places) (pos 0) = tidy_falls q index was end ∙ ap (λ n. replicate n (pos 0)) size in
+    same ∙ (λ i. record p { places = places i; falls = falls i })
+
+pub restored_all : (p q : PlacementForm) (index : ℕ) → q ≡ record p { labels = q.labels; falls = q.falls } →
+    IsUntidy q index → length q.fallen ≤ index → q ≡ record p { labels = p.places; falls = replicate (length p.places) (pos 0) }
+restored_all p q index same was end =
+    let places : q.places ≡ p.places = ap (λ (r : PlacementForm). r.places) same in
+    let labels : q.labels ≡ p.places = tidy_labels q index was end ∙ places in
+    let falls : q.falls ≡ replicate (length p.places) (pos 0) = tidy_falls q index was end ∙ ap (λ (ps : List ℤ). replicate (length ps) (pos 0)) places in
+    same ∙ (λ i. record p { labels = labels i; falls = falls i })
+
+-- the buffer of a cycle does not matter
+pub untidy_walk : (p : PlacementForm) (walk : List ℕ) → IsUntidy p 0 → IsUntidy (record p { walk = walk }) 0
+untidy_walk p walk was =
+    record { labels_size = was.labels_size; via_size = was.via_size; falls_size = was.falls_size; small = was.small; tidy = was.tidy }
+
+pub closing_untidy : (bounds : List Bound) (new : Edge) (p : PlacementForm) (i : ℕ) → Closing bounds new p i → IsUntidy p 0
+closing_untidy bounds new p i (ranks, done, h) = run_untidy bounds new p ranks done h.work h.fallen
+
+-- labels that were kept are places that are not being moved, and the fallen points list those that moved
+pub kept_rest : (bounds : List Bound) (new : Edge) (p l k : PlacementForm) → IsAtRest p → l.places ≡ p.places → length l.walk ≡ length p.walk →
+    IsLowered bounds new l.places l.labels → IsUntidy l 0 → k ≡ record l { places = l.labels; falls = replicate (length l.places) (pos 0) } →
+    IsLowered bounds new p.places k.places × IsAtRest k × All (λ (point : ℕ). point < length k.places) k.fallen × ListsMoved k.fallen p.places k.places
+kept_rest bounds new p l k rest same walk lowered untidy is =
+    let size = untidy.labels_size in
+    subst (λ (r : PlacementForm). IsLowered bounds new p.places r.places × IsAtRest r × All (λ (point : ℕ). point < length r.places) r.fallen × ListsMoved r.fallen p.places r.places) (sym is) (
+      subst (λ ps. IsLowered bounds new ps l.labels) same lowered,
+      record {
+        labels_rest = λ i. l.labels;
+        falls_rest = ap (λ n. replicate n (pos 0)) (sym size);
+        via_size = untidy.via_size ∙ sym size;
+        walk_size = walk ∙ rest.walk_size ∙ sym (ap length same) ∙ sym size;
+      },
+      subst (λ n. (k : ℕ) (d : ℕ) → k < length l.fallen → get_or l.fallen k d < n) (sym size) untidy.small,
+      λ v. elim (cases_lt v (length l.places)) [
+        | inl v_in ↦ elim (untidy.tidy v v_in) [
+          | inl stands ↦ inl stands
+          | inr h ↦ inr (h.0 ∙ ap (λ ps. place_at ps v) same)
+        ]
+        | inr past ↦ inr (get_or_past l.labels v (pos 0) (omega (arith, past, size)) ∙ sym (get_or_past l.places v (pos 0) past) ∙ ap (λ ps. place_at ps v) same)
+      ],
+    )
+
+-- places that were restored are not being moved
+pub restored_rest : (p l k : PlacementForm) → IsAtRest p → l.places ≡ p.places → length l.walk ≡ length p.walk → IsUntidy l 0 →
+    k ≡ record l { labels = l.places; falls = replicate (length l.places) (pos 0) } → (k.places ≡ p.places) × IsAtRest k
+restored_rest p l k rest same walk untidy is =
+    subst (λ (r : PlacementForm). (r.places ≡ p.places) × IsAtRest r) (sym is) (
+      same,
+      record {
+        labels_rest = λ i. l.places;
+        falls_rest = λ i. replicate (length l.places) (pos 0);
+        via_size = untidy.via_size;
+        walk_size = walk ∙ rest.walk_size ∙ sym (ap length same);
+      },
+    )

@@ -1,5 +1,5 @@
 -- What a certificate that checks shows.
-use Rattle.std.proofs.Common.{◌≡◌, ℕ, ℤ, Bool, true, false, not, List, [], ◌∷◌, ◌++◌, All, Contains, sym, ◌∙◌, subst}
+use Rattle.std.proofs.Common.{◌≡◌, ℕ, ℤ, Bool, not, List, [], ◌∷◌, ◌++◌, All, Contains, sym, ◌∙◌, subst}
 use Rattle.std.proofs.lemmas.List.{append-nil}
 use Rattle.std.proofs.lemmas.List.Elements.{All-append, All-nil, All-cons, All-push, All-weaker, All-contains, All-contains_itself, Contains-push}
 use Rattle.gp_clause.specs.declared.edge.Edge.{Edge}
@@ -9,13 +9,14 @@ use Rattle.gp_clause.specs.declared.problem.Problem.{Problem}
 use Rattle.gp_clause.specs.declared.problem.Query.{Query}
 use Rattle.gp_clause.specs.Clause.{HoldsClause, HoldsAll}
 use Rattle.gp_clause.specs.Follows.{Follows, LocalsChangeNothing}
+use Rattle.gp_clause.specs.LitLaws.{not_both}
 use Rattle.gp_clause.specs.Lit.{HoldsLit, opposite}
 use Rattle.gp_clause.specs.Problem.{IsValidKind, IsValidProblem, IsValidQuery}
 use Rattle.gp_clause.specs.Valuation.{truth_of, place_of}
 use Rattle.gp_derivation.specs.declared.step.Step.{Step}
 use Rattle.gp_derivation.specs.declared.certificate.Certificate.{Certificate}
 use Rattle.gp_derivation.specs.Certificate.{hinted, StepsCheck, Checks, IsLast, Proves, Refutes, CertificateFollows, RefutedMeans}
-use Rattle.gp_derivation.proofs.Lists.{named_all, contains_got}
+use Rattle.gp_derivation.specs.ListLaws.{named_all, contains_got}
 use Rattle.gp_derivation.proofs.Passing.{Laws, IsModel, model_from_valuation, passing_true}
 
 -- what a step may use comes before it
@@ -63,13 +64,8 @@ certificates laws locals = record {
       proved_true laws problem certificate clause truth place (model_from_valuation laws problem.points problem.edges problem.kinds truth place valid.kinds valuation) holds proves;
 }
 
--- a truth value is not its own negation
-not_both : (b : Bool) → b ≡ not b → ⊥
-not_both true e = cc
-not_both false e = cc
-
 -- a clause of negations of what is true is false
-negations_false : (truth : ℕ → Bool) (assumed clause : List Lit) → All (HoldsLit truth) assumed → All (λ lit. Contains assumed (opposite lit)) clause → HoldsClause truth clause → ⊥
+pub negations_false : (truth : ℕ → Bool) (assumed clause : List Lit) → All (HoldsLit truth) assumed → All (λ lit. Contains assumed (opposite lit)) clause → HoldsClause truth clause → ⊥
 negations_false truth assumed clause holds negated (k, lit, within, is, told) =
     let P : Lit → Type 0 = λ l. Contains assumed (opposite l) in
     let against : truth lit.variable ≡ not lit.positive = All-contains (HoldsLit truth) assumed (opposite lit) holds (subst P is (negated k lit within)) in

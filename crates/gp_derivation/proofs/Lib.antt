@@ -1,4 +1,3 @@
-pub mod Lists
 pub mod Passing
 pub mod Checking
 pub mod Purity
@@ -8,3 +7,9 @@ pub mod Drafts
 pub mod Rehinting
 pub mod Coning
 pub mod Growing
+pub mod Standing
+pub mod Settling
+pub mod BoundsAt
+pub mod Bounding
+pub mod Trying
+pub mod Sharing

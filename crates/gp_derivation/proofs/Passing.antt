@@ -8,6 +8,7 @@ use Rattle.gp_clause.specs.declared.lit.Lit.{Lit}
 use Rattle.gp_clause.specs.Clause.{HoldsClause, HoldsAll, NamesBelow, TrueOrFalse}
 use Rattle.gp_clause.specs.Closure.{Derived, DerivedMeans}
 use Rattle.gp_clause.specs.Closure.Derived.{given, forced}
+use Rattle.gp_clause.specs.ClosureLaws.{derived_more}
 use Rattle.gp_clause.specs.Edge.{Keeps}
 use Rattle.gp_clause.specs.Kind.{bound_of, KeepsBound}
 use Rattle.gp_clause.specs.Lit.{HoldsLit, opposite}
@@ -15,7 +16,7 @@ use Rattle.gp_clause.specs.Problem.{IsValidKind}
 use Rattle.gp_clause.specs.Valuation.{IsValuation, BoundsMean}
 use Rattle.gp_clause.specs.Walk.{KeepingLeavesNoCycle}
 use Rattle.gp_derivation.specs.Step.{negations, IsDerivedBound, IsRefuted, Passes, PassingFollows, MorePasses}
-use Rattle.gp_derivation.proofs.Lists.{contains_map, got_all}
+use Rattle.gp_derivation.specs.ListLaws.{contains_map, got_all}
 
 -- what is known of clauses, bounds and walks
 pub record Laws : Type 0 where
@@ -66,15 +67,7 @@ pub passing : Laws → PassingFollows
 passing laws points edges kinds clauses clause valid passes = λ truth place valuation holds.
     passing_true laws edges kinds clauses clause truth place (model_from_valuation laws points edges kinds truth place valid valuation) holds passes
 
--- more clauses derive more from more
-pub derived_more : (start : List Lit) (clauses : List (List Lit)) (longer : List Lit) (more : List (List Lit)) → All (Contains longer) start → All (Contains more) clauses
-    → (lit : Lit) → Derived start clauses lit → Derived longer more lit
-derived_more start clauses longer more starts among lit (given l is) = given l (All-contains (Contains longer) start l starts is)
-derived_more start clauses longer more starts among lit (forced clause l one within others) =
-    forced clause l (All-contains (Contains more) clauses clause among one) within
-    (λ other is apart. derived_more start clauses longer more starts among (opposite other) (others other is apart))
-
--- and refute more
+-- more clauses refute more from more
 refuted_more : (edges : List Edge) (kinds : List Kind) (start : List Lit) (clauses : List (List Lit)) (longer : List Lit) (more : List (List Lit)) → All (Contains longer) start → All (Contains more) clauses
     → IsRefuted edges kinds clauses start → IsRefuted edges kinds more longer
 refuted_more edges kinds start clauses longer more starts among (inl (clause, one, negated)) =

@@ -1,7 +1,13 @@
+pub mod Places
 pub mod Step
+pub mod Assignment
 pub mod Certificate
+pub mod Shared
 pub mod Log
+pub mod Tight
 pub mod Spent
 pub mod Reach
 pub mod Numbering
 pub mod Cones
+pub mod ListLaws
+pub mod Tester

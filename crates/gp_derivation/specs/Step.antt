@@ -28,7 +28,8 @@ ClosesCycle edges kinds clauses start = (bounds : List Edge) × All (IsDerivedBo
 abbrev pub IsRefuted : List Edge → List Kind → List (List Lit) → List Lit → Type 0
 IsRefuted edges kinds clauses start = Conflicts start clauses ⊎ ClosesCycle edges kinds clauses start
 
--- a clause passes with some clauses where it names variables that there are, and they refute the negation of its literals
+-- a clause passes with some clauses where it names variables that there are, and they refute the negation of its literals:
+-- this is reverse unit propagation, with difference bounds
 pub record Passes (edges : List Edge) (kinds : List Kind) (clauses : List (List Lit)) (clause : List Lit) : Type 0 where
   pub in_range : NamesBelow (length kinds) clause
   pub refuted : IsRefuted edges kinds clauses (negations clause)

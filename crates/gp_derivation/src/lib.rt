@@ -5,17 +5,23 @@
 // certificate that is made of the steps on which it rests.
 #![tactic(auto)]
 
+mod assignment;
 mod certificate;
 mod cones;
 mod log;
 mod numbering;
+mod places;
 mod reach;
 mod record;
+mod shared;
 mod step;
+mod tester;
 
 pub use certificate::{Certificate, certificate_follows, refuted_means};
 pub use cones::{cone, cone_checks};
 pub use log::{LogEntry, Origin, log_grows, pure_follows};
 pub use numbering::can_be_numbered;
 pub use record::{Offered, Sent, Turn, WorkerRecord};
+pub use shared::{refuted_over_means, shared_follows, shares_nothing};
 pub use step::{Step, more_passes, passing_follows};
+pub use tester::Tester;

@@ -1,0 +1,171 @@
+-- The loops over an assignment: taking a start, going over clauses, and taking all back.
+use Rattle.std.proofs.Common.{◌≡◌, ◌≢◌, ℕ, ◌+◌, ◌<◌, ◌≤◌, zero, suc, Bool, Option, None, Some, List, [], ◌∷◌, ◌++◌, length, map, take, get_or, set, replicate, vec_capacity, All, Contains, ◌⊎◌, inl, inr, refl, ap, sym, ◌∙◌, subst, arith}
+use Rattle.std.proofs.lemmas.Bool.{cases_eq, cases_lt}
+use Rattle.std.proofs.lemmas.List.{length-set, length-map, length-take, get_or-take, get_or-map, get_or-set_same, get_or-set_other, get_or_past, get_or_default, get_or-replicate, length-replicate, take_more, take_all}
+use Rattle.std.proofs.lemmas.List.Elements.{All-nil, All-push}
+use Rattle.std.proofs.lemmas.List.Sums.{sum_by-cons}
+use Rattle.gp_clause.specs.declared.lit.Lit.{Lit}
+use Rattle.gp_clause.specs.Clause.{NamesOnce, occurrences}
+use Rattle.gp_clause.specs.Closure.{Conflicts, IsTrueIn, IsFalseIn}
+use Rattle.gp_clause.specs.Lit.{opposite}
+use Rattle.gp_clause.specs.OccurrenceLaws.{twice_from_places}
+use Rattle.gp_derivation.specs.declared.assignment.Assignment.{Assignment}
+use Rattle.gp_derivation.specs.declared.assignment.Progress.{Progress}
+use Rattle.gp_derivation.specs.declared.assignment.Progress.TheVariants.{Refuted, Moved, Still}
+use Rattle.gp_derivation.specs.Assignment.{value_of, IsDue, IsOpen, spare, unassigned, IsKept, IsClosing, SweepGives}
+use Rattle.gp_derivation.specs.Step.{negations}
+use Rattle.gp_derivation.proofs.Standing.{some_clash, true_within, unassigned_less, closing_more, conflicts}
+
+-- while a start is taken, the variables to come have no value
+pub not_yet : (assignment : Assignment) (lits : List Lit) (i : ℕ) (d : Lit) → IsKept assignment → assignment.trail.items ≡ negations (take i lits) → NamesOnce lits → i < length lits
+    → value_of assignment.values.items (get_or lits i d).variable ≡ None
+not_yet assignment lits i d kept trail once within = at (value_of assignment.values.items (get_or lits i d).variable) refl
+  where
+    from : (other : Lit) → other.variable ≡ (get_or lits i d).variable → Contains (negations (take i lits)) other → ⊥
+    from other variable (k, inside, same) =
+        let short : k < length (take i lits) = omega (arith, length-map (take i lits) opposite) in
+        let before : k < i = omega (arith, length-take i lits) in
+        let at_k : opposite (get_or (take i lits) k d) ≡ other = sym (get_or-map opposite (take i lits) k d other short) ∙ same in
+        let variables : (get_or lits k d).variable ≡ (get_or lits i d).variable =
+        ap (λ (l : Lit). l.variable) (sym (get_or-take i lits k d before)) ∙ ap (λ (l : Lit). l.variable) at_k ∙ variable in
+        let twice : 2 ≤ occurrences (get_or lits i d).variable lits = twice_from_places lits k i d before within variables in
+        let few : occurrences (get_or lits i d).variable lits ≤ 1 = once (get_or lits i d).variable in
+        two_in_one (occurrences (get_or lits i d).variable lits) twice few
+      where
+        two_in_one : (n : ℕ) → 2 ≤ n → n ≤ 1 → ⊥
+        two_in_one n more less = omega arith
+
+    at : (o : Option Bool) → value_of assignment.values.items (get_or lits i d).variable ≡ o → value_of assignment.values.items (get_or lits i d).variable ≡ None
+    at None has = has
+    at (Some sign) has =
+        let other : Lit = record { variable = (get_or lits i d).variable; positive = sign } in
+        let P : List Lit → Type 0 = λ ls. Contains ls other in
+        absurd (from other refl (subst P trail (kept.trailed other has)))
+
+-- what going over the first of the clauses gives
+pub SoFar : Assignment → Assignment → List (List Lit) → Progress → Type 0
+SoFar old now seen Refuted = ⊥
+SoFar old now seen Moved = unassigned now.values.items < unassigned old.values.items
+SoFar old now seen Still = All (IsOpen now.values.items) seen
+
+pub record IsSwept (old now : Assignment) (clauses : List (List Lit)) (i : ℕ) (progress : Progress) : Type 0 where
+  pub kept : IsKept now
+  pub size : length now.values.items ≡ length old.values.items
+  pub fewer : unassigned now.values.items ≤ unassigned old.values.items
+  pub closing : (start : List Lit) → IsClosing start clauses old → IsClosing start clauses now
+  pub gives : SoFar old now (take i clauses) progress
+
+pub swept_none : (old : Assignment) (clauses : List (List Lit)) → IsKept old → IsSwept old old clauses 0 Still
+unfolding SoFar
+swept_none old clauses kept = record { kept = kept; size = refl; fewer = omega arith; closing = λ start closing. closing; gives = All-nil (IsOpen old.values.items) }
+
+pub swept_open : (old now : Assignment) (clauses : List (List Lit)) (i : ℕ) (clause : List Lit) (progress : Progress) → i < length clauses → clause ≡ get_or clauses i clause
+    → IsOpen now.values.items clause → IsSwept old now clauses i progress → IsSwept old now clauses (i + 1) progress
+unfolding SoFar
+swept_open old now clauses i clause progress within is stands swept =
+    record { kept = swept.kept; size = swept.size; fewer = swept.fewer; closing = swept.closing; gives = at progress swept.gives }
+  where
+    seen : take (i + 1) clauses ≡ take i clauses ++ clause ∷ []
+    seen = take_more clauses i clause within ∙ ap (λ c. take i clauses ++ c ∷ []) (sym is)
+
+    at : (progress : Progress) → SoFar old now (take i clauses) progress → SoFar old now (take (i + 1) clauses) progress
+    at Refuted gives = gives
+    at Moved gives = gives
+    at Still gives = let P : List (List Lit) → Type 0 = λ cs. All (IsOpen now.values.items) cs in subst P (sym seen) (All-push (IsOpen now.values.items) (take i clauses) clause gives stands)
+
+pub swept_due : (old now new : Assignment) (clauses : List (List Lit)) (i : ℕ) (clause : List Lit) (lit : Lit) (progress : Progress) → i < length clauses → clause ≡ get_or clauses i clause
+    → lit.variable < length now.values.items → IsDue now.values.items clause lit → IsKept new → new.values.items ≡ set now.values.items lit.variable (Some lit.positive)
+    → new.trail.items ≡ now.trail.items ++ lit ∷ [] → IsSwept old now clauses i progress → IsSwept old new clauses (i + 1) Moved
+unfolding SoFar
+swept_due old now new clauses i clause lit progress within is inside due kept values trail swept =
+    let less : unassigned new.values.items + 1 ≡ unassigned now.values.items =
+    ap (λ vs. unassigned vs + 1) values ∙ unassigned_less now.values.items lit.variable lit.positive inside due.unassigned in
+    let contains : Contains clauses clause = (i, within, sym is) in
+    record {
+      kept = kept;
+      size = ap (λ (vs : List (Option Bool)). length vs) values ∙ length-set now.values.items lit.variable (Some lit.positive) ∙ swept.size;
+      fewer = omega (arith, less, swept.fewer);
+      closing = λ start closing. closing_more start clauses now new clause lit (swept.closing start closing) kept contains due trail;
+      gives = omega (arith, less, swept.fewer);
+    }
+
+pub swept_false : (old now : Assignment) (clauses : List (List Lit)) (i : ℕ) (clause : List Lit) (progress : Progress) → i < length clauses → clause ≡ get_or clauses i clause
+    → All (IsFalseIn (value_of now.values.items)) clause → IsSwept old now clauses i progress → (start : List Lit) → IsClosing start clauses old → Conflicts start clauses
+swept_false old now clauses i clause progress within is all swept start closing =
+    conflicts start clauses now clause (swept.closing start closing) (i, within, sym is) all
+
+pub swept_all : (old now : Assignment) (clauses : List (List Lit)) (i : ℕ) (progress : Progress) → length clauses ≤ i → IsSwept old now clauses i progress → SweepGives old now clauses progress
+unfolding SoFar
+swept_all old now clauses i Refuted end swept = absurd swept.gives
+swept_all old now clauses i Moved end swept = swept.gives
+swept_all old now clauses i Still end swept = let P : List (List Lit) → Type 0 = λ cs. All (IsOpen now.values.items) cs in subst P (take_all i clauses end) swept.gives
+
+-- where no variable has a value, all are unassigned
+all_unassigned : (values : List (Option Bool)) → ((variable : ℕ) (sign : Bool) → value_of values variable ≡ Some sign → ⊥) → unassigned values ≡ length values
+all_unassigned [] none = refl
+all_unassigned (None ∷ values) none =
+    omega (arith, sum_by-cons spare None values, all_unassigned values (λ variable sign is. none (suc variable) sign is))
+all_unassigned (Some sign ∷ values) none = absurd (none 0 sign refl)
+
+pub none_kept : (assignment : Assignment) → ((variable : ℕ) (sign : Bool) → value_of assignment.values.items variable ≡ Some sign → ⊥) → assignment.trail.items ≡ []
+    → length assignment.values.items ≤ vec_capacity assignment.trail → IsKept assignment
+none_kept assignment none trail room = record {
+  room = room;
+  count = omega (arith, all_unassigned assignment.values.items none, ap (λ (ls : List Lit). length ls) trail);
+  trailed = λ lit holds. absurd (none lit.variable lit.positive holds);
+  noted = let P : List Lit → Type 0 = λ ls. All (IsTrueIn (value_of assignment.values.items)) ls in subst P (sym trail) (All-nil (IsTrueIn (value_of assignment.values.items)));
+}
+
+-- on the way of taking all back, what still has a value stands further on in the trail
+pub record IsClearing (old now : Assignment) (i : ℕ) : Type 0 where
+  pub trail : now.trail ≡ old.trail
+  pub size : length now.values.items ≡ length old.values.items
+  pub left : (lit : Lit) → IsTrueIn (value_of now.values.items) lit → (k : ℕ) × (i ≤ k) × (k < length old.trail.items) × ((get_or old.trail.items k lit).variable ≡ lit.variable)
+
+pub clearing_none : (old : Assignment) → IsKept old → IsClearing old old 0
+clearing_none old kept = record { trail = refl; size = refl; left = λ lit holds. at lit (kept.trailed lit holds) }
+  where
+    at : (lit : Lit) → Contains old.trail.items lit → (k : ℕ) × (0 ≤ k) × (k < length old.trail.items) × ((get_or old.trail.items k lit).variable ≡ lit.variable)
+    at lit (k, within, is) = (k, omega arith, within, ap (λ (l : Lit). l.variable) is)
+
+pub clearing_more : (old now new : Assignment) (i : ℕ) (d : Lit) → i < length old.trail.items → (get_or old.trail.items i d).variable < length now.values.items
+    → new.values.items ≡ set now.values.items (get_or old.trail.items i d).variable None → new.trail ≡ now.trail → IsClearing old now i → IsClearing old new (i + 1)
+clearing_more old now new i d within inside values trail clearing = record {
+  trail = trail ∙ clearing.trail;
+  size = ap (λ (vs : List (Option Bool)). length vs) values ∙ length-set now.values.items (get_or old.trail.items i d).variable None ∙ clearing.size;
+  left = λ lit holds. at lit (ap (λ vs. value_of vs lit.variable) (sym values) ∙ holds);
+}
+  where
+    same_default : (lit : Lit) → get_or old.trail.items i lit ≡ get_or old.trail.items i d
+    same_default lit = get_or_default old.trail.items i lit d within
+
+    further : (lit : Lit) → (lit.variable ≡ (get_or old.trail.items i d).variable → ⊥)
+        → (k : ℕ) × (i ≤ k) × (k < length old.trail.items) × ((get_or old.trail.items k lit).variable ≡ lit.variable)
+        → (k : ℕ) × (i + 1 ≤ k) × (k < length old.trail.items) × ((get_or old.trail.items k lit).variable ≡ lit.variable)
+    further lit apart (k, from, short, is) = (k, above (cases_eq i k), short, is)
+      where
+        above : (i ≡ k) ⊎ (i ≡ k → ⊥) → i + 1 ≤ k
+        above (inl same) = absurd (apart (sym is ∙ ap (λ n. (get_or old.trail.items n lit).variable) (sym same) ∙ ap (λ (l : Lit). l.variable) (same_default lit)))
+        above (inr other) = omega arith
+
+    at : (lit : Lit) → IsTrueIn (value_of (set now.values.items (get_or old.trail.items i d).variable None)) lit
+        → (k : ℕ) × (i + 1 ≤ k) × (k < length old.trail.items) × ((get_or old.trail.items k lit).variable ≡ lit.variable)
+    at lit holds = by (cases_eq lit.variable (get_or old.trail.items i d).variable)
+      where
+        by : (lit.variable ≡ (get_or old.trail.items i d).variable) ⊎ (lit.variable ≡ (get_or old.trail.items i d).variable → ⊥)
+            → (k : ℕ) × (i + 1 ≤ k) × (k < length old.trail.items) × ((get_or old.trail.items k lit).variable ≡ lit.variable)
+        by (inl same) = absurd (some_clash _ lit.positive holds
+            (ap (λ v. value_of (set now.values.items (get_or old.trail.items i d).variable None) v) same ∙ get_or-set_same now.values.items (get_or old.trail.items i d).variable None None inside))
+        by (inr apart) = further lit apart (clearing.left lit (sym (get_or-set_other now.values.items (get_or old.trail.items i d).variable lit.variable None None apart) ∙ holds))
+
+pub clearing_all : (old now : Assignment) (i : ℕ) → length old.trail.items ≤ i → IsClearing old now i → (variable : ℕ) (sign : Bool) → value_of now.values.items variable ≡ Some sign → ⊥
+clearing_all old now i end clearing variable sign has =
+    let left = clearing.left (record { variable = variable; positive = sign }) has in
+    omega (arith, end, left.1, left.2)
+
+pub clearing_at : (old now new : Assignment) (i : ℕ) (lit : Lit) → IsKept old → i < length old.trail.items → lit ≡ get_or now.trail.items i lit
+    → new.values.items ≡ set now.values.items lit.variable None → new.trail ≡ now.trail → IsClearing old now i → IsClearing old new (i + 1)
+clearing_at old now new i lit kept within is values trail clearing =
+    let same : lit ≡ get_or old.trail.items i lit = is ∙ (λ j. get_or (clearing.trail j).items i lit) in
+    let inside : (get_or old.trail.items i lit).variable < length old.values.items = true_within old.values.items (get_or old.trail.items i lit) (kept.noted i lit within) in
+    clearing_more old now new i lit within (omega (arith, inside, clearing.size)) (values ∙ ap (λ (l : Lit). set now.values.items l.variable None) same) trail clearing

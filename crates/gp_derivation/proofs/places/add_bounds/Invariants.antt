@@ -1,0 +1,9 @@
+use Rattle.std.proofs.Common.{◌≡◌, ◌+◌, ◌≤◌, length, take}
+use Rattle.gp_clause.specs.Walk.{HasNegativeCycle}
+use Rattle.gp_difference.specs.Bounds.{edges_of}
+use Rattle.gp_derivation.specs.Places.{bounds_at}
+use Rattle.gp_derivation.proofs.Bounding.{IsBounded}
+use Rattle.gp_derivation.proofs.places.add_bounds.Given as goal
+
+abbrev pub invariant-loop-lit : goal.invariant-loop-lit
+invariant-loop-lit l = IsBounded l.kinds l.lits l.lit-index l.fn.graph l.graph

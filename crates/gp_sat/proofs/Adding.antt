@@ -5,35 +5,13 @@ use Rattle.std.proofs.lemmas.List.{length-set, length_push, get_or_push, get_or_
 use Rattle.std.proofs.lemmas.Bool.{cases_eq, cases_lt}
 use Rattle.gp_clause.specs.declared.lit.Lit.{Lit}
 use Rattle.gp_sat.specs.declared.assigned.Assigned.{Assigned}
-use Rattle.gp_sat.specs.declared.stored.Stored.{Stored}
-use Rattle.gp_sat.specs.State.{State, assigned, clause_at, IsAttached, with_literal}
+use Rattle.gp_sat.specs.Stored.{Stored}
+use Rattle.gp_sat.specs.State.{SolverForm, assigned, clause_at, IsAttached, with_literal}
 use Rattle.gp_sat.specs.Standing.{IsFalse, IsFalseTo, IsFalseBefore, IsFreeTo, IsQuiet, IsClosed, IsForcing}
 use Rattle.gp_sat.specs.Sound.{IsOrdered, IsExplained, IsSound, true_lit}
 use Rattle.gp_sat.specs.Changes.{MayAdd, Propagates}
 use Rattle.gp_sat.specs.Looking.{IsUnit}
-use Rattle.gp_sat.proofs.Storing.{attached_within}
-
--- one variable that was unassigned is assigned
-pub record Adds (f g : ℕ → Option Assigned) (variable : ℕ) (new : Assigned) : Type 0 where
-  pub here : g variable ≡ Some new
-  pub free : f variable ≡ None
-  pub others : (other : ℕ) → other ≢ variable → g other ≡ f other
-
--- what was assigned stays
-pub added_stays : {f g : ℕ → Option Assigned} {variable : ℕ} {new : Assigned} → Adds f g variable new
-    → (other : ℕ) (a : Assigned) → f other ≡ Some a → g other ≡ Some a
-added_stays {f} {g} {variable} adds other a is =
-    let apart : other ≢ variable = λ same. let none : f other ≡ None = ap f same ∙ adds.free in let clash : ⊥ = cc in clash in
-    adds.others other apart ∙ is
-
--- what is assigned is the new one, or was assigned before
-pub added_cases : {f g : ℕ → Option Assigned} {variable : ℕ} {new : Assigned} → Adds f g variable new
-    → (other : ℕ) (a : Assigned) → g other ≡ Some a → ((other ≡ variable) × (a ≡ new)) ⊎ (f other ≡ Some a)
-added_cases {f} {g} {variable} {new} adds other a is =
-    elim (cases_eq other variable) [
-      | inl same ↦ let there : g other ≡ Some new = ap g same ∙ adds.here in inl (same, cc)
-      | inr differ ↦ inr (sym (adds.others other differ) ∙ is)
-    ]
+use Rattle.gp_sat.specs.SolverLaws.{attached_within, added_stays, added, adds_literal, Adds, added_cases}
 
 place_is : {a b : Assigned} → a ≡ b → a.place ≡ b.place
 place_is e = ap (λ (x : Assigned). x.place) e
@@ -157,20 +135,8 @@ quiet_same f g level clause there back quiet = record {
       | inr low ↦ free a (there lit.variable a is low)
     ]
 
--- the new assignment of a solver
-abbrev pub added : State → Lit → ℕ → Option ℕ → Assigned
-added s lit level reason = record { positive = lit.positive; level = level; place = length s.trail; reason = reason }
-
-pub adds_literal : (s : State) (lit : Lit) (level : ℕ) (reason : Option ℕ) → lit.variable < length s.values → assigned s lit.variable ≡ None
-    → Adds (assigned s) (assigned (with_literal s lit level reason)) lit.variable (added s lit level reason)
-adds_literal s lit level reason within free = record {
-  here = get_or-set_same s.values lit.variable (Some (added s lit level reason)) None within;
-  free = free;
-  others = λ other apart. get_or-set_other s.values lit.variable other (Some (added s lit level reason)) None apart;
-}
-
 -- a solver stays sound with one more literal
-pub sound_more : (s : State) (lit : Lit) (level : ℕ) (reason : Option ℕ) → MayAdd s lit level reason → IsSound s → IsSound (with_literal s lit level reason)
+pub sound_more : (s : SolverForm) (lit : Lit) (level : ℕ) (reason : Option ℕ) → MayAdd s lit level reason → IsSound s → IsSound (with_literal s lit level reason)
 sound_more s lit level reason may old =
     let adds : Adds (assigned s) (assigned (with_literal s lit level reason)) lit.variable (added s lit level reason) = adds_literal s lit level reason may.within may.free in
     record {
@@ -185,27 +151,16 @@ sound_more s lit level reason may old =
       small = (omega (arith, old.small.0, length-set s.values lit.variable (Some (added s lit level reason))), old.small.1);
     }
 
--- a solver after a literal was written at a place of a trail
-abbrev pub laid : State → Lit → ℕ → Option ℕ → ℕ → List Lit → State
-laid s lit level reason place trail = record {
-  values = slice_set s.values lit.variable (Some (record { positive = lit.positive; level = level; place = place; reason = reason }));
-  trail = trail;
-  clauses = s.clauses;
-  level = level;
-}
-
--- at the end of the trail this adds the literal
-pub added_is : (s : State) (lit : Lit) (level : ℕ) (reason : Option ℕ) (place : ℕ) (trail : List Lit) → place ≡ length s.trail → trail ≡ s.trail ++ lit ∷ []
-    → laid s lit level reason place trail ≡ with_literal s lit level reason
-added_is s lit level reason place trail at_end longer = λ i. record {
-  values = slice_set s.values lit.variable (Some (record { positive = lit.positive; level = level; place = at_end i; reason = reason }));
-  trail = longer i;
-  clauses = s.clauses;
-  level = level;
-}
+-- a literal that is written at the end of the trail is added
+pub laid_is : (s : SolverForm) (lit : Lit) (level : ℕ) (reason : Option ℕ) (place : ℕ) (values : List (Option Assigned)) (trail : List Lit) → place ≡ length s.trail
+    → values ≡ slice_set s.values lit.variable (Some (record { positive = lit.positive; level = level; place = place; reason = reason })) → trail ≡ s.trail ++ lit ∷ []
+    → record s { values = values; trail = trail; level = level } ≡ with_literal s lit level reason
+laid_is s lit level reason place values trail at_end written longer =
+    let there : values ≡ slice_set s.values lit.variable (Some (added s lit level reason)) = written ∙ ap (λ (n : ℕ). slice_set s.values lit.variable (Some (record { positive = lit.positive; level = level; place = n; reason = reason }))) at_end in
+    λ i. record s { values = there i; trail = longer i; level = level }
 
 -- a decision may be added at the next level
-pub may_decide : (s : State) (lit : Lit) (level : ℕ) → level ≡ s.level + 1 → lit.variable < length s.values → assigned s lit.variable ≡ None → IsClosed s s.level → IsSound s
+pub may_decide : (s : SolverForm) (lit : Lit) (level : ℕ) → level ≡ s.level + 1 → lit.variable < length s.values → assigned s lit.variable ≡ None → IsClosed s s.level → IsSound s
     → MayAdd s lit level None
 may_decide s lit level next within free closed sound = record {
   within = within;
@@ -221,7 +176,7 @@ may_decide s lit level next within free closed sound = record {
 }
 
 -- the last literal of a unit clause may be added at the present level
-pub may_force : (s : State) (lit : Lit) (number level : ℕ) → level ≡ s.level → lit.variable < length s.values → IsAttached s.clauses number
+pub may_force : (s : SolverForm) (lit : Lit) (number level : ℕ) → level ≡ s.level → lit.variable < length s.values → IsAttached s.clauses number
     → IsUnit (assigned s) (clause_at s.clauses number) lit → IsSound s → MayAdd s lit level (Some number)
 may_force s lit number level present within attached unit sound = record {
   within = within;
@@ -240,15 +195,17 @@ may_force s lit number level present within attached unit sound = record {
     }
 
 -- so one literal is propagated
-pub propagates_one : (s : State) (lit : Lit) (number level : ℕ) → level ≡ s.level → IsAttached s.clauses number → MayAdd s lit level (Some number) → IsSound s
+pub propagates_one : (s : SolverForm) (lit : Lit) (number level : ℕ) → level ≡ s.level → IsAttached s.clauses number → MayAdd s lit level (Some number) → IsSound s
     → Propagates s (with_literal s lit level (Some number))
 propagates_one s lit number level present attached may sound =
-    let new : State = with_literal s lit level (Some number) in
+    let new : SolverForm = with_literal s lit level (Some number) in
     let adds : Adds (assigned s) (assigned new) lit.variable (added s lit level (Some number)) = adds_literal s lit level (Some number) may.within may.free in
     let after : IsSound new = sound_more s lit level (Some number) may sound in
     record {
       level = present;
       clauses = refl;
+      order = refl;
+      used = refl;
       variables = length-set s.values lit.variable (Some (added s lit level (Some number)));
       added = (lit ∷ [], refl);
       stays = added_stays adds;

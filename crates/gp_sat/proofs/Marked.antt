@@ -6,7 +6,7 @@ use Rattle.std.proofs.lemmas.List.Elements.{Contains-push, Contains-push_cases, 
 use Rattle.std.proofs.lemmas.Bool.{cases_eq}
 use Rattle.gp_clause.specs.declared.lit.Lit.{Lit}
 use Rattle.gp_sat.specs.declared.assigned.Assigned.{Assigned}
-use Rattle.gp_sat.specs.State.{State, assigned}
+use Rattle.gp_sat.specs.State.{SolverForm, assigned}
 use Rattle.gp_sat.specs.Sound.{IsSound, true_lit}
 use Rattle.gp_sat.specs.Standing.{Each}
 use Rattle.gp_sat.specs.Learning.{IsHighestBelow}
@@ -50,14 +50,14 @@ marks_more old new lits lit within marks = record {
     ]
 
 -- the level of no literal
-pub highest_none : (s : State) → IsHighestBelow s [] 0
+pub highest_none : (s : SolverForm) → IsHighestBelow s [] 0
 highest_none s = record {
   highest = λ lit a is _ _. absurd (none_in_nil lit is);
   reached = inl refl;
 }
 
 -- a literal of a higher level
-pub highest_new : (s : State) (lits : List Lit) (lit : Lit) (level : ℕ) (a : Assigned) → assigned s lit.variable ≡ Some a → level < a.level → a.level < s.level
+pub highest_new : (s : SolverForm) (lits : List Lit) (lit : Lit) (level : ℕ) (a : Assigned) → assigned s lit.variable ≡ Some a → level < a.level → a.level < s.level
     → IsHighestBelow s lits level → IsHighestBelow s (lits ++ lit ∷ []) a.level
 highest_new s lits lit level a is above below old = record {
   highest = λ other b among holds low. elim (Contains-push_cases lits lit other among) [
@@ -71,7 +71,7 @@ highest_new s lits lit level a is above below old = record {
 }
 
 -- a literal that is not of a higher level below the present one
-pub highest_same : (s : State) (lits : List Lit) (lit : Lit) (level : ℕ) → ((a : Assigned) → assigned s lit.variable ≡ Some a → a.level < s.level → a.level ≤ level)
+pub highest_same : (s : SolverForm) (lits : List Lit) (lit : Lit) (level : ℕ) → ((a : Assigned) → assigned s lit.variable ≡ Some a → a.level < s.level → a.level ≤ level)
     → IsHighestBelow s lits level → IsHighestBelow s (lits ++ lit ∷ []) level
 highest_same s lits lit level no_higher old = record {
   highest = λ other b among holds low. elim (Contains-push_cases lits lit other among) [
@@ -85,7 +85,7 @@ highest_same s lits lit level no_higher old = record {
 }
 
 -- two assignments at one place are of one variable
-pub one_at : (s : State) → IsSound s → (v w : ℕ) (a b : Assigned) → assigned s v ≡ Some a → assigned s w ≡ Some b → b.place ≡ a.place → (true_lit w b ≡ true_lit v a) × (w ≡ v) × (b ≡ a)
+pub one_at : (s : SolverForm) → IsSound s → (v w : ℕ) (a b : Assigned) → assigned s v ≡ Some a → assigned s w ≡ Some b → b.place ≡ a.place → (true_lit w b ≡ true_lit v a) × (w ≡ v) × (b ≡ a)
 one_at s sound v w a b va wb same =
     let d : Lit = record { variable = 0; positive = false } in
     let lits : true_lit w b ≡ true_lit v a = sym (sound.ordered.on_trail w b d wb) ∙ ap (λ (p : ℕ). get_or s.trail p d) same ∙ sound.ordered.on_trail v a d va in
@@ -94,7 +94,7 @@ one_at s sound v w a b va wb same =
     (lits, variables, cc)
 
 -- the literal of a place is that of its assignment
-pub at_place : (s : State) → IsSound s → (place : ℕ) (lit : Lit) → place < length s.trail → ((d : Lit) → get_or s.trail place d ≡ lit)
+pub at_place : (s : SolverForm) → IsSound s → (place : ℕ) (lit : Lit) → place < length s.trail → ((d : Lit) → get_or s.trail place d ≡ lit)
     → (a : Assigned) × (assigned s lit.variable ≡ Some a) × (a.place ≡ place) × (true_lit lit.variable a ≡ lit)
 at_place s sound place lit within is =
     let d : Lit = record { variable = 0; positive = false } in
@@ -103,7 +103,7 @@ at_place s sound place lit within is =
     (there.0, holds, there.2, sym (sound.ordered.on_trail lit.variable there.0 d holds) ∙ ap (λ (p : ℕ). get_or s.trail p d) there.2 ∙ is d)
 
 -- what a read of the trail gives, at any default
-pub read_place : (s : State) (trail : List Lit) (place : ℕ) (lit : Lit) → trail ≡ s.trail → place < length s.trail → lit ≡ get_or trail place lit → (d : Lit) → get_or s.trail place d ≡ lit
+pub read_place : (s : SolverForm) (trail : List Lit) (place : ℕ) (lit : Lit) → trail ≡ s.trail → place < length s.trail → lit ≡ get_or trail place lit → (d : Lit) → get_or s.trail place d ≡ lit
 read_place s trail place lit same within is = λ d. sym (is ∙ ap (λ (t : List Lit). get_or t place lit) same ∙ get_or_default s.trail place lit d within)
 
 -- one literal more of a list has a property

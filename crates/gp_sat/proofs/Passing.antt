@@ -13,12 +13,12 @@ use Rattle.gp_clause.specs.Closure.Derived.{given, forced}
 use Rattle.gp_sat.specs.declared.analysis.Stop.{Stop}
 use Rattle.gp_sat.specs.declared.analysis.Stop.TheVariants.{Decisions, FirstPoint}
 use Rattle.gp_sat.specs.declared.assigned.Assigned.{Assigned}
-use Rattle.gp_sat.specs.State.{State, assigned, clause_at}
+use Rattle.gp_sat.specs.State.{SolverForm, assigned, clause_at}
 use Rattle.gp_sat.specs.Standing.{Each, IsFalse, IsForcing, IsFalseBefore}
 use Rattle.gp_sat.specs.Sound.{IsSound, true_lit}
-use Rattle.gp_sat.specs.Learning.{hinted, IsLearned, HasOnePresent, IsHighestBelow, IsDecided}
+use Rattle.gp_sat.specs.Learning.{hinted, IsLearned, HasOnePresent, IsHighestBelow, IsDecided, IsUniquePoint, HasPresentFrom}
 use Rattle.gp_sat.specs.Marking.{IsMarked}
-use Rattle.gp_sat.specs.Walking.{IsStopped, IsWalked}
+use Rattle.gp_sat.specs.Walking.{IsStopped, IsWalked, IsSearched}
 
 -- the image of an element is an element of the images
 contains_map : {X Y : Type 0} (f : X → Y) (xs : List X) (x : X) → Contains xs x → Contains (map f xs) (f x)
@@ -39,7 +39,7 @@ opposite_twice : (lit : Lit) → opposite (opposite lit) ≡ lit
 opposite_twice lit = λ i. record { variable = lit.variable; positive = not_not lit.positive i }
 
 -- each marked literal of the trail is derived
-derives : (s : State) (stop : Stop) (conflict clause : List Lit) (marks : List Bool) (lits : List Lit) (hints : List ℕ) → IsSound s → IsWalked s stop 0 marks lits hints
+derives : (s : SolverForm) (stop : Stop) (conflict clause : List Lit) (marks : List Bool) (lits : List Lit) (hints : List ℕ) → IsSound s → IsWalked s stop 0 marks lits hints
     → ((x : Lit) → Contains lits x → Contains clause x)
     → (bound v : ℕ) (a : Assigned) → a.place < bound → assigned s v ≡ Some a → IsMarked marks v → Derived (map opposite clause) (conflict ∷ hinted s hints) (true_lit v a)
 derives s stop conflict clause marks lits hints sound walked among zero v a below is marked = absurd (omega (arith, below))
@@ -58,7 +58,7 @@ derives s stop conflict clause marks lits hints sound walked among (suc bound) v
 ]
 
 -- the clause passes from the hints and the conflict, and is false
-pub learned : (s : State) (stop : Stop) (conflict clause : List Lit) (marks : List Bool) (lits : List Lit) (hints : List ℕ) → IsSound s → IsWalked s stop 0 marks lits hints
+pub learned : (s : SolverForm) (stop : Stop) (conflict clause : List Lit) (marks : List Bool) (lits : List Lit) (hints : List ℕ) → IsSound s → IsWalked s stop 0 marks lits hints
     → Each (IsFalse (assigned s)) conflict → ((lit : Lit) → Contains conflict lit → IsMarked marks lit.variable) → IsPermutation lits clause → IsLearned s conflict clause hints
 learned s stop conflict clause marks lits hints sound walked all_false started sorted = record {
   passes = (
@@ -76,7 +76,7 @@ learned s stop conflict clause marks lits hints sound walked all_false started s
 }
 
 -- exactly one literal is of the present level
-pub one_present : (s : State) (clause : List Lit) (marks : List Bool) (lits : List Lit) (hints : List ℕ) → IsWalked s FirstPoint 0 marks lits hints → IsPermutation lits clause → HasOnePresent s clause
+pub one_present : (s : SolverForm) (clause : List Lit) (marks : List Bool) (lits : List Lit) (hints : List ℕ) → IsWalked s FirstPoint 0 marks lits hints → IsPermutation lits clause → HasOnePresent s clause
 one_present s clause marks lits hints walked sorted = elim (walked.pointing refl) [
   | inl coming ↦ absurd (let below : coming.0.0 < 0 = coming.0.1 in omega (arith, below))
   | inr done ↦ record {
@@ -88,7 +88,7 @@ one_present s clause marks lits hints walked sorted = elim (walked.pointing refl
 ]
 
 -- the highest level is the same in another order
-pub highest_sorted : (s : State) (clause lits : List Lit) (level : ℕ) → IsPermutation lits clause → IsHighestBelow s lits level → IsHighestBelow s clause level
+pub highest_sorted : (s : SolverForm) (clause lits : List Lit) (level : ℕ) → IsPermutation lits clause → IsHighestBelow s lits level → IsHighestBelow s clause level
 highest_sorted s clause lits level sorted old = record {
   highest = λ lit a is. old.highest lit a (Contains-permutation clause lits lit (IsPermutation-sym lits clause sorted) is);
   reached = elim old.reached [
@@ -98,23 +98,28 @@ highest_sorted s clause lits level sorted old = record {
 }
 
 -- each literal is a decision
-pub decided : (s : State) (clause : List Lit) (marks : List Bool) (lits : List Lit) (hints : List ℕ) → IsWalked s Decisions 0 marks lits hints → IsPermutation lits clause → Each (IsDecided s) clause
+pub decided : (s : SolverForm) (clause : List Lit) (marks : List Bool) (lits : List Lit) (hints : List ℕ) → IsWalked s Decisions 0 marks lits hints → IsPermutation lits clause → Each (IsDecided s) clause
 decided s clause marks lits hints walked sorted = λ lit is.
     let stopped : IsStopped s Decisions 0 lit = walked.stopped lit (Contains-permutation clause lits lit (IsPermutation-sym lits clause sorted) is) in
     (stopped.value, stopped.is, stopped.decided refl)
 
 -- at level 0 there is no decision
-pub none_decided : (s : State) (clause : List Lit) → IsSound s → s.level ≡ 0 → Each (IsDecided s) clause → clause ≡ []
+pub none_decided : (s : SolverForm) (clause : List Lit) → IsSound s → s.level ≡ 0 → Each (IsDecided s) clause → clause ≡ []
 none_decided s [] sound bottom all = refl
 none_decided s (lit ∷ clause) sound bottom all =
     let first : IsDecided s lit = all lit (contains_first lit clause) in
     absurd (omega (arith, bottom, (sound.explained.first lit.variable first.0 first.1 first.2).0, (sound.ordered.present lit.variable first.0 first.1).0))
 
--- the literals of a walk make a clause, since each variable stands in one of them at most
-pub makes_clause : (r : Result (List Lit) BadClause) (lits : List Lit) → (IsErr r → NamesTwice lits) → ((variable : ℕ) → occurrences variable lits ≤ 1) → IsOk r
-makes_clause (Ok clause) lits twice once = refl
-makes_clause (Err e) lits twice once = let both : NamesTwice lits = twice refl in absurd (omega (arith, both.1, once both.0))
+-- the first unique implication point is the same in another order
+pub first_sorted : (s : SolverForm) (conflict clause : List Lit) (marks : List Bool) (lits : List Lit) → IsPermutation lits clause → IsSearched s conflict 0 marks lits → (variable : ℕ) (a : Assigned) → IsUniquePoint s conflict variable a → HasPresentFrom s clause a.place
+first_sorted s conflict clause marks lits sorted searched variable a unique =
+    let there : HasPresentFrom s lits a.place = searched.first variable a unique (omega arith) in
+    (there.0, there.1, Contains-permutation lits clause there.0 sorted there.2, there.3, there.4, there.5)
 
--- the clause has the literals in another order
-pub clause_sorted : (r : Result (List Lit) BadClause) (lits clause : List Lit) → IfOk r (λ c. IsPermutation lits c) → r ≡ Ok clause → IsPermutation lits clause
-clause_sorted r lits clause sorted is = let P : Result (List Lit) BadClause → Type 0 = λ x. IfOk x (λ c. IsPermutation lits c) in subst P is sorted
+-- no literal is of level 0
+pub above_bottom : (s : SolverForm) (clause : List Lit) (marks : List Bool) (lits : List Lit) (hints : List ℕ) → IsWalked s FirstPoint 0 marks lits hints → IsPermutation lits clause → (lit : Lit) (a : Assigned) → Contains clause lit → assigned s lit.variable ≡ Some a → 0 < a.level
+above_bottom s clause marks lits hints walked sorted lit a among is =
+    let stopped : IsStopped s FirstPoint 0 lit = walked.stopped lit (Contains-permutation clause lits lit (IsPermutation-sym lits clause sorted) among) in
+    let there : assigned s lit.variable ≡ Some stopped.value = stopped.is in
+    let same : stopped.value ≡ a = cc in
+    omega (arith, stopped.above refl, ap (λ (x : Assigned). x.level) same)

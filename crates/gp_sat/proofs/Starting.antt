@@ -5,7 +5,7 @@ use Rattle.gp_clause.specs.declared.lit.Lit.{Lit}
 use Rattle.gp_sat.specs.declared.analysis.Stop.{Stop}
 use Rattle.gp_sat.specs.declared.analysis.Stop.TheVariants.{FirstPoint}
 use Rattle.gp_sat.specs.declared.assigned.Assigned.{Assigned}
-use Rattle.gp_sat.specs.State.{State, assigned}
+use Rattle.gp_sat.specs.State.{SolverForm, assigned}
 use Rattle.gp_sat.specs.Standing.{Each, IsFalse}
 use Rattle.gp_sat.specs.Sound.{IsSound}
 use Rattle.gp_sat.specs.Changes.{HasPresent}
@@ -19,14 +19,14 @@ unmarked zero variable = refl
 unmarked (suc count) zero = refl
 unmarked (suc count) (suc variable) = unmarked count variable
 
-not_marked : (count variable : ℕ) → IsMarked (replicate count false) variable → ⊥
+pub not_marked : (count variable : ℕ) → IsMarked (replicate count false) variable → ⊥
 not_marked count variable is = let off : get_or (replicate count false) variable false ≡ false = unmarked count variable in cc
 
 none_number : (n : ℕ) → Contains {X = ℕ} [] n → ⊥
 none_number n (k, below, is) = omega (arith, below)
 
 -- only the variables of the conflict are marked at the start
-pub walk_start : (s : State) (stop : Stop) (conflict : List Lit) (old marks : List Bool) (count : ℕ) → IsSound s → old ≡ replicate count false → count ≡ length s.values → Marks old marks conflict
+pub walk_start : (s : SolverForm) (stop : Stop) (conflict : List Lit) (old marks : List Bool) (count : ℕ) → IsSound s → old ≡ replicate count false → count ≡ length s.values → Marks old marks conflict
     → Each (IsFalse (assigned s)) conflict → (stop ≡ FirstPoint → (0 < s.level) × HasPresent s conflict) → IsWalked s stop (length s.trail) marks [] []
 walk_start s stop conflict old marks count sound blank size started all_false present = record {
   size = omega (arith, started.size, size, ap (λ (xs : List Bool). length xs) blank, replicate_length count);

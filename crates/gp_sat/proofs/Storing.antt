@@ -7,21 +7,12 @@ use Rattle.std.proofs.lemmas.Bool.{cases_eq, cases_lt}
 use Rattle.gp_clause.specs.declared.lit.Lit.{Lit}
 use Rattle.gp_clause.specs.Clause.{NamesBelow}
 use Rattle.gp_sat.specs.declared.assigned.Assigned.{Assigned}
-use Rattle.gp_sat.specs.declared.stored.Stored.{Stored}
-use Rattle.gp_sat.specs.State.{State, assigned, no_clause, clause_at, IsAttached, with_clause}
+use Rattle.gp_sat.specs.Stored.{Stored}
+use Rattle.gp_sat.specs.State.{SolverForm, assigned, no_clause, clause_at, IsAttached, with_clause}
 use Rattle.gp_sat.specs.Standing.{IsFalseTo, IsQuiet, IsForcing, Each}
 use Rattle.gp_sat.specs.Sound.{IsOrdered, IsExplained, IsNamed, IsSound, true_lit}
 use Rattle.gp_sat.specs.Changes.{IsAsserting, MayAttach}
-
--- an attached clause has a number that was given
-pub attached_within : (clauses : List Stored) (number : ℕ) → IsAttached clauses number → number < length clauses
-attached_within clauses number attached = elim (cases_lt number (length clauses)) [
-  | inl below ↦ below
-  | inr past ↦
-      let none : get_or clauses number no_clause ≡ no_clause = get_or_past clauses number no_clause past in
-      let off : (get_or clauses number no_clause).attached ≡ false = ap (λ (x : Stored). x.attached) none in
-      let clash : ⊥ = cc in absurd clash
-]
+use Rattle.gp_sat.specs.SolverLaws.{free_at, attached_within}
 
 -- the clauses before a new one stay
 clause_before : (clauses : List Stored) (new : Stored) (number : ℕ) → number < length clauses → get_or (clauses ++ new ∷ []) number no_clause ≡ get_or clauses number no_clause
@@ -44,7 +35,7 @@ number_cases clauses new P old here number = elim (cases_lt number (length claus
 ]
 
 -- a clause that asserts a literal at the present level is quiet at each level below it
-quiet_asserting : (s : State) (clause : List Lit) (level : ℕ) → level < s.level → IsAsserting s clause → IsQuiet level (assigned s) clause
+quiet_asserting : (s : SolverForm) (clause : List Lit) (level : ℕ) → level < s.level → IsAsserting s clause → IsQuiet level (assigned s) clause
 quiet_asserting s clause level below asserting = record {
   not_false = λ all. not_false_lit (all asserting.lit asserting.within);
   not_unit = λ lit is free others.
@@ -70,12 +61,12 @@ quiet_asserting s clause level below asserting = record {
         omega (arith, levels, at_present, low, below)
 
 -- a clause that may be attached is quiet at each level below the present one
-quiet_attached : (s : State) (clause : List Lit) (level : ℕ) → level < s.level → MayAttach s clause → IsQuiet level (assigned s) clause
+quiet_attached : (s : SolverForm) (clause : List Lit) (level : ℕ) → level < s.level → MayAttach s clause → IsQuiet level (assigned s) clause
 quiet_attached s clause level below (inl bottom) = absurd (omega (arith, below, bottom))
 quiet_attached s clause level below (inr asserting) = quiet_asserting s clause level below asserting
 
 -- a solver stays sound with one more clause
-pub sound_attached : (s : State) (clause : List Lit) → NamesBelow (length s.values) clause → MayAttach s clause → length s.clauses + 1 < 2 ^ 32 → IsSound s → IsSound (with_clause s clause)
+pub sound_attached : (s : SolverForm) (clause : List Lit) → NamesBelow (length s.values) clause → MayAttach s clause → length s.clauses + 1 < 2 ^ 32 → IsSound s → IsSound (with_clause s clause)
 sound_attached s clause names may few old = record {
   ordered = old.ordered;
   explained = record {
@@ -104,7 +95,7 @@ sound_attached s clause names may few old = record {
     new = record { clause = clause; attached = true }
 
 -- a clause keeps its number when it is retired
-pub sound_retired : (s : State) (number : ℕ) (clause : List Lit) → clause ≡ clause_at s.clauses number → s.level ≡ 0 → IsSound s
+pub sound_retired : (s : SolverForm) (number : ℕ) (clause : List Lit) → clause ≡ clause_at s.clauses number → s.level ≡ 0 → IsSound s
     → IsSound (record s { clauses = slice_set s.clauses number (record { clause = clause; attached = false }) })
 sound_retired s number clause is bottom old = record {
   ordered = old.ordered;
@@ -134,7 +125,7 @@ sound_retired s number clause is bottom old = record {
     ]
 
 -- a solver stays sound with more variables that are unassigned
-pub sound_grown : (s : State) (values : List (Option Assigned)) → ((variable : ℕ) → get_or values variable None ≡ assigned s variable) → length s.values ≤ length values → length values < 2 ^ 32
+pub sound_grown : (s : SolverForm) (values : List (Option Assigned)) → ((variable : ℕ) → get_or values variable None ≡ assigned s variable) → length s.values ≤ length values → length values < 2 ^ 32
     → IsSound s → IsSound (record s { values = values })
 sound_grown s values same more small old = record {
   ordered = subst (λ (f : ℕ → Option Assigned). IsOrdered f s.trail s.level) equal old.ordered;
@@ -150,10 +141,20 @@ sound_grown s values same more small old = record {
     equal : assigned s ≡ (λ (variable : ℕ). get_or values variable None)
     equal = λ i variable. (sym (same variable)) i
 
+-- a solver stays sound under another order
+pub sound_ordered : (s : SolverForm) (order : List ℕ) (used : ℕ) → IsSound s → IsSound (record s { order = order; used = used })
+sound_ordered s order used old = record {
+  ordered = old.ordered;
+  explained = old.explained;
+  closed = old.closed;
+  named = old.named;
+  small = old.small;
+}
+
 -- a solver without assignments is sound
-pub sound_empty : (values : List (Option Assigned)) (clauses : List Stored) → ((variable : ℕ) → get_or values variable None ≡ None) → IsNamed (length values) clauses
-    → length values < 2 ^ 32 → length clauses < 2 ^ 32 → IsSound (record { values = values; trail = []; clauses = clauses; level = 0 })
-sound_empty values clauses none named few_values few_clauses = record {
+pub sound_empty : (values : List (Option Assigned)) (clauses : List Stored) (order : List ℕ) (used : ℕ) → ((variable : ℕ) → get_or values variable None ≡ None) → IsNamed (length values) clauses
+    → length values < 2 ^ 32 → length clauses < 2 ^ 32 → IsSound (record { values = values; trail = []; clauses = clauses; level = 0; order = order; used = used })
+sound_empty values clauses order used none named few_values few_clauses = record {
   ordered = record {
     within = λ v a is. absurd (no v a is);
     on_trail = λ v a d is. absurd (no v a is);
@@ -173,18 +174,6 @@ sound_empty values clauses none named few_values few_clauses = record {
   where
     no : (v : ℕ) (a : Assigned) → get_or values v None ≡ Some a → ⊥
     no v a is = let free : get_or values v None ≡ None = none v in let clash : ⊥ = cc in clash
-
--- unassigned variables are unassigned
-pub free_at : (count variable : ℕ) → get_or (replicate {A = Option Assigned} count None) variable None ≡ None
-free_at zero variable = refl
-free_at (suc count) zero = refl
-free_at (suc count) (suc variable) = free_at count variable
-
--- more variables that are unassigned change no assignment
-pub grown_at : (values : List (Option Assigned)) (count variable : ℕ) → get_or (values ++ replicate count None) variable None ≡ get_or values variable None
-grown_at [] count variable = free_at count variable
-grown_at (x ∷ values) count zero = refl
-grown_at (x ∷ values) count (suc variable) = grown_at values count variable
 
 -- where each variable is unassigned, so are all
 pub all_unassigned : (values : List (Option Assigned)) → ((k : ℕ) → k < length values → get_or values k None ≡ None) → values ≡ replicate (length values) None

@@ -1,5 +1,5 @@
 -- One step of the walk along the trail.
-use Rattle.std.proofs.Common.{◌≡◌, ◌≢◌, refl, sym, ◌∙◌, ap, subst, ℕ, ◌+◌, ◌<◌, ◌≤◌, Bool, true, false, Some, List, [], ◌∷◌, ◌++◌, cond, ◌==◌, ◌⊎◌, inl, inr, not, arith}
+use Rattle.std.proofs.Common.{◌≡◌, ◌≢◌, refl, sym, ◌∙◌, ap, subst, ℕ, ◌+◌, ◌<◌, ◌≤◌, Bool, true, false, Some, None, List, [], ◌∷◌, ◌++◌, cond, ◌==◌, ◌⊎◌, inl, inr, not, arith}
 use Rattle.std.specs.Prelude.{Contains}
 use Rattle.std.proofs.lemmas.List.Elements.{Contains-push, Contains-push_cases, Contains-append_left}
 use Rattle.std.proofs.lemmas.List.Sums.{sum_by-append}
@@ -10,7 +10,7 @@ use Rattle.gp_clause.specs.Clause.{occurrences}
 use Rattle.gp_sat.specs.declared.analysis.Stop.{Stop}
 use Rattle.gp_sat.specs.declared.analysis.Stop.TheVariants.{FirstPoint}
 use Rattle.gp_sat.specs.declared.assigned.Assigned.{Assigned}
-use Rattle.gp_sat.specs.State.{State, assigned, clause_at}
+use Rattle.gp_sat.specs.State.{SolverForm, assigned, clause_at}
 use Rattle.gp_sat.specs.Standing.{Each, IsForcing, IsFalseBefore}
 use Rattle.gp_sat.specs.Sound.{IsSound, true_lit}
 use Rattle.gp_sat.specs.Learning.{IsBelowLevel}
@@ -19,31 +19,31 @@ use Rattle.gp_sat.specs.Walking.{IsFollowed, IsStopped, IsPointing, IsWalked}
 use Rattle.gp_sat.proofs.Marked.{one_at}
 
 -- an assigned variable at a place of the trail
-pub record Stands (s : State) (place variable : ℕ) (a : Assigned) : Type 0 where
+pub record Stands (s : SolverForm) (place variable : ℕ) (a : Assigned) : Type 0 where
   pub is : assigned s variable ≡ Some a
   pub there : a.place ≡ place
 
-stopped_less : (s : State) (stop : Stop) (place : ℕ) (lit : Lit) → IsStopped s stop (place + 1) lit → IsStopped s stop place lit
-stopped_less s stop place lit old = record { value = old.value; is = old.is; opposes = old.opposes; from = omega (arith, old.from); decided = old.decided }
+stopped_less : (s : SolverForm) (stop : Stop) (place : ℕ) (lit : Lit) → IsStopped s stop (place + 1) lit → IsStopped s stop place lit
+stopped_less s stop place lit old = record { value = old.value; is = old.is; opposes = old.opposes; from = omega (arith, old.from); decided = old.decided; above = old.above }
 
-marked_more : (s : State) (marks : List Bool) (place : ℕ) → HasMarked s marks place → HasMarked s marks (place + 1)
+marked_more : (s : SolverForm) (marks : List Bool) (place : ℕ) → HasMarked s marks place → HasMarked s marks (place + 1)
 marked_more s marks place (at, below, is) = (at, omega (arith, below), is)
 
 -- a marked one before the next place is at this place or before it
-marked_cases : (s : State) (marks : List Bool) (place : ℕ) → HasMarked s marks (place + 1) → IsPresentAt s marks place ⊎ HasMarked s marks place
+marked_cases : (s : SolverForm) (marks : List Bool) (place : ℕ) → HasMarked s marks (place + 1) → IsPresentAt s marks place ⊎ HasMarked s marks place
 marked_cases s marks place (at, below, is) = elim (cases_eq at place) [
   | inl same ↦ inl (subst (λ (n : ℕ). IsPresentAt s marks n) same is)
   | inr differ ↦ inr (at, omega (arith, below, differ), is)
 ]
 
 -- a present one at the place of an assignment is that assignment
-present_is : (s : State) (place v : ℕ) (a : Assigned) (marks : List Bool) → IsSound s → Stands s place v a → IsPresentAt s marks place → IsMarked marks v × (a.level ≡ s.level)
+present_is : (s : SolverForm) (place v : ℕ) (a : Assigned) (marks : List Bool) → IsSound s → Stands s place v a → IsPresentAt s marks place → IsMarked marks v × (a.level ≡ s.level)
 present_is s place v a marks sound stands present =
     let one : (true_lit present.variable present.value ≡ true_lit v a) × (present.variable ≡ v) × (present.value ≡ a) = one_at s sound v present.variable a present.value stands.is present.is (present.there ∙ sym stands.there) in
     (subst (λ (n : ℕ). IsMarked marks n) one.1 present.marked, sym (ap (λ (x : Assigned). x.level) one.2) ∙ present.present)
 
 -- the literal is not marked
-pub visit_unmarked : (s : State) (stop : Stop) (place : ℕ) (marks : List Bool) (lits : List Lit) (hints : List ℕ) (v : ℕ) (a : Assigned) → IsSound s → Stands s place v a
+pub visit_unmarked : (s : SolverForm) (stop : Stop) (place : ℕ) (marks : List Bool) (lits : List Lit) (hints : List ℕ) (v : ℕ) (a : Assigned) → IsSound s → Stands s place v a
     → (IsMarked marks v → ⊥) → IsWalked s stop (place + 1) marks lits hints → IsWalked s stop place marks lits hints
 visit_unmarked s stop place marks lits hints v a sound stands unmarked old = record {
   size = old.size;
@@ -81,14 +81,14 @@ not_not : (b : Bool) → b ≡ not (not b)
 not_not true = refl
 not_not false = refl
 
-below_push : (s : State) (lits : List Lit) (lit : Lit) → Each (IsBelowLevel s s.level) lits → IsBelowLevel s s.level lit → Each (IsBelowLevel s s.level) (lits ++ lit ∷ [])
+below_push : (s : SolverForm) (lits : List Lit) (lit : Lit) → Each (IsBelowLevel s s.level) lits → IsBelowLevel s s.level lit → Each (IsBelowLevel s s.level) (lits ++ lit ∷ [])
 below_push s lits lit each here = λ other is. elim (Contains-push_cases lits lit other is) [
   | inl before ↦ each other before
   | inr same ↦ subst (λ (l : Lit). IsBelowLevel s s.level l) same here
 ]
 
 -- exactly one literal of the present level was kept, or none and one is still to come
-stops_pointing : (s : State) (place : ℕ) (marks : List Bool) (lits : List Lit) (v : ℕ) (a : Assigned) → IsSound s → Stands s place v a → IsMarked marks v
+stops_pointing : (s : SolverForm) (place : ℕ) (marks : List Bool) (lits : List Lit) (v : ℕ) (a : Assigned) → IsSound s → Stands s place v a → IsMarked marks v
     → (a.level ≡ s.level → HasMarked s marks a.place → ⊥) → IsPointing s (place + 1) marks lits → IsPointing s place marks (lits ++ opposite (true_lit v a) ∷ [])
 stops_pointing s place marks lits v a sound stands marked stops pointing = elim (cases_eq a.level s.level) [
   | inl present ↦ elim pointing [
@@ -129,7 +129,7 @@ stops_pointing s place marks lits v a sound stands marked stops pointing = elim 
 ]
 
 -- the walk stops at the literal
-pub visit_stops : (s : State) (stop : Stop) (place : ℕ) (marks : List Bool) (lits : List Lit) (hints : List ℕ) (v : ℕ) (a : Assigned) → IsSound s → Stands s place v a
+pub visit_stops : (s : SolverForm) (stop : Stop) (place : ℕ) (marks : List Bool) (lits : List Lit) (hints : List ℕ) (v : ℕ) (a : Assigned) → IsSound s → Stands s place v a
     → IsMarked marks v → StopsAt s stop marks a → IsWalked s stop (place + 1) marks lits hints → IsWalked s stop place marks (lits ++ opposite (true_lit v a) ∷ []) hints
 visit_stops s stop place marks lits hints v a sound stands marked stops old = record {
   size = old.size;
@@ -151,6 +151,7 @@ visit_stops s stop place marks lits hints v a sound stands marked stops old = re
       opposes = not_not a.positive;
       from = omega (arith, stands.there);
       decided = λ final. subst (λ (t : Stop). StopsAt s t marks a) final stops;
+      above = λ first. above_bottom (subst (λ (t : Stop). StopsAt s t marks a) first stops).1;
     })
   ];
   once = λ w. elim (cases_eq w v) [
@@ -161,9 +162,16 @@ visit_stops s stop place marks lits hints v a sound stands marked stops old = re
     | inl same ↦ absurd (let here : assigned s w ≡ Some a = ap (assigned s) same ∙ stands.is in omega (arith, none a here, stands.there))
     | inr differ ↦ omega (arith, occurrences_more w lits (opposite (true_lit v a)), old.absent w (λ b wb. omega (arith, none b wb)), other w differ)
   ];
-  pointing = λ first. stops_pointing s place marks lits v a sound stands marked (subst (λ (t : Stop). StopsAt s t marks a) first stops) (old.pointing first);
+  pointing = λ first. stops_pointing s place marks lits v a sound stands marked (subst (λ (t : Stop). StopsAt s t marks a) first stops).0 (old.pointing first);
 }
   where
+    -- an assignment of level 0 has a reason
+    above_bottom : (a.level ≡ 0 → a.reason ≡ None) → 0 < a.level
+    above_bottom none = elim (cases_eq a.level 0) [
+      | inl bottom ↦ (sound.explained.first v a stands.is (none bottom)).0
+      | inr above ↦ omega (arith, above)
+    ]
+
     other : (w : ℕ) → w ≢ v → one_if (v == w) ≡ 0
     other w differ = rw (ne_eqb v w (λ e. differ (sym e))) refl
 
@@ -174,7 +182,7 @@ visit_stops s stop place marks lits hints v a sound stands marked stops old = re
         omega (arith, ap (λ (x : Assigned). x.place) equal, stands.there))
 
 -- a variable of the clause of a followed reason is that of the literal or assigned before it
-before_or_here : (s : State) (v : ℕ) (a : Assigned) (number : ℕ) → IsSound s → assigned s v ≡ Some a → a.reason ≡ Some number → (lit : Lit) → Contains (clause_at s.clauses number) lit
+pub before_or_here : (s : SolverForm) (v : ℕ) (a : Assigned) (number : ℕ) → IsSound s → assigned s v ≡ Some a → a.reason ≡ Some number → (lit : Lit) → Contains (clause_at s.clauses number) lit
     → (lit.variable ≡ v) ⊎ ((b : Assigned) × (assigned s lit.variable ≡ Some b) × (b.place < a.place))
 before_or_here s v a number sound is reason lit within = elim (cases_eq lit.variable v) [
   | inl same ↦ inl same
@@ -185,7 +193,7 @@ before_or_here s v a number sound is reason lit within = elim (cases_eq lit.vari
 ]
 
 -- what is marked by a followed reason
-newly : (s : State) (v : ℕ) (a : Assigned) (number : ℕ) (marks new : List Bool) → IsSound s → assigned s v ≡ Some a → a.reason ≡ Some number → Marks marks new (clause_at s.clauses number)
+newly : (s : SolverForm) (v : ℕ) (a : Assigned) (number : ℕ) (marks new : List Bool) → IsSound s → assigned s v ≡ Some a → a.reason ≡ Some number → Marks marks new (clause_at s.clauses number)
     → (w : ℕ) → IsMarked new w → IsMarked marks w ⊎ ((w ≡ v) ⊎ ((b : Assigned) × (assigned s w ≡ Some b) × (b.place < a.place)))
 newly s v a number marks new sound is reason more w marked = elim (more.only w marked) [
   | inl was ↦ inl was
@@ -196,7 +204,7 @@ newly s v a number marks new sound is reason more w marked = elim (more.only w m
 ]
 
 -- more marks keep what was followed
-followed_more : (s : State) (marks new : List Bool) (hints : List ℕ) (number : ℕ) (b : Assigned) → ((v : ℕ) → IsMarked marks v → IsMarked new v) → IsFollowed s marks hints b → IsFollowed s new (hints ++ number ∷ []) b
+followed_more : (s : SolverForm) (marks new : List Bool) (hints : List ℕ) (number : ℕ) (b : Assigned) → ((v : ℕ) → IsMarked marks v → IsMarked new v) → IsFollowed s marks hints b → IsFollowed s new (hints ++ number ∷ []) b
 followed_more s marks new hints number b kept old = record {
   number = old.number;
   reason = old.reason;
@@ -204,11 +212,11 @@ followed_more s marks new hints number b kept old = record {
   marked = λ lit is. kept lit.variable (old.marked lit is);
 }
 
-has_kept : (s : State) (marks new : List Bool) (place : ℕ) → ((v : ℕ) → IsMarked marks v → IsMarked new v) → HasMarked s marks place → HasMarked s new place
+has_kept : (s : SolverForm) (marks new : List Bool) (place : ℕ) → ((v : ℕ) → IsMarked marks v → IsMarked new v) → HasMarked s marks place → HasMarked s new place
 has_kept s marks new place kept (at, below, p) = (at, below, record { variable = p.variable; value = p.value; is = p.is; there = p.there; marked = kept p.variable p.marked; present = p.present })
 
 -- the walk follows the reason of the literal
-pub visit_follows : (s : State) (stop : Stop) (place : ℕ) (marks new : List Bool) (lits : List Lit) (hints : List ℕ) (v : ℕ) (a : Assigned) (number : ℕ) → IsSound s → Stands s place v a
+pub visit_follows : (s : SolverForm) (stop : Stop) (place : ℕ) (marks new : List Bool) (lits : List Lit) (hints : List ℕ) (v : ℕ) (a : Assigned) (number : ℕ) → IsSound s → Stands s place v a
     → IsMarked marks v → a.reason ≡ Some number → GoesOn s stop marks a → (stop ≡ FirstPoint → 0 < s.level) → Marks marks new (clause_at s.clauses number)
     → IsWalked s stop (place + 1) marks lits hints → IsWalked s stop place new lits (hints ++ number ∷ [])
 visit_follows s stop place marks new lits hints v a number sound stands marked reason goes above more old = record {

@@ -2,8 +2,8 @@
 use Rattle.std.specs.Prelude.{◌≡◌, ℕ, ◌+◌, ◌<◌, ◌≤◌, ◌^◌, Option, Some, None, List, length, slice_index_or}
 use Rattle.gp_clause.specs.declared.lit.Lit.{Lit}
 use Rattle.gp_sat.specs.declared.assigned.Assigned.{Assigned}
-use Rattle.gp_sat.specs.declared.stored.Stored.{Stored}
-use Rattle.gp_sat.specs.State.{State, assigned, clause_at}
+use Rattle.gp_sat.specs.Stored.{Stored}
+use Rattle.gp_sat.specs.State.{SolverForm, assigned, clause_at}
 use Rattle.gp_sat.specs.Standing.{IsClosed, IsForcing, Each}
 
 -- the true literal of an assigned variable
@@ -33,7 +33,7 @@ IsNamed variables clauses = (number : ℕ) → Each (λ lit. lit.variable < vari
 
 -- what is true of every solver: its trail is in order, each assignment has its reason, and the trail is closed at each level
 -- below the present one
-pub record IsSound (s : State) : Type 0 where
+pub record IsSound (s : SolverForm) : Type 0 where
   pub ordered : IsOrdered (assigned s) s.trail s.level
   pub explained : IsExplained (assigned s) s.clauses
   pub closed : (level : ℕ) → level < s.level → IsClosed s level

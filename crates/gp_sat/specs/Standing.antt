@@ -2,7 +2,7 @@
 use Rattle.std.specs.Prelude.{◌≡◌, ◌≢◌, ℕ, ◌<◌, ◌≤◌, not, Option, Some, List, Contains}
 use Rattle.gp_clause.specs.declared.lit.Lit.{Lit}
 use Rattle.gp_sat.specs.declared.assigned.Assigned.{Assigned}
-use Rattle.gp_sat.specs.State.{State, assigned, clause_at, IsAttached}
+use Rattle.gp_sat.specs.State.{SolverForm, assigned, clause_at, IsAttached}
 
 -- a literal is false
 abbrev pub IsFalse : (ℕ → Option Assigned) → Lit → Type 0
@@ -34,7 +34,7 @@ pub record IsQuiet (level : ℕ) (values : ℕ → Option Assigned) (clause : Li
   pub not_unit : (lit : Lit) → Contains clause lit → IsFreeTo level values lit → EachOther (IsFalseTo level values) clause lit → ⊥
 
 -- the trail is closed at a level: by the assignments up to it each attached clause is quiet
-abbrev pub IsClosed : State → ℕ → Type 0
+abbrev pub IsClosed : SolverForm → ℕ → Type 0
 IsClosed s level = (number : ℕ) → IsAttached s.clauses number → IsQuiet level (assigned s) (clause_at s.clauses number)
 
 -- a clause forces a literal before a place of the trail: its other literals are false by then

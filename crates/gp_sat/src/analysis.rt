@@ -1,13 +1,13 @@
-ghost use Rattle.std.specs.Prelude.{◌≡◌, ℕ, ◌+◌, ◌<◌, ◌≤◌, ◌↔◌, false, length, IsTrue, IfOk, OnOk, MatchOption, Contains, slice_index_or};
+ghost use Rattle.std.specs.Prelude.{◌≡◌, ℕ, ◌+◌, ◌<◌, ◌≤◌, ◌↔◌, false, length, IsTrue, IfOk, OnOk, MatchOption, Contains, slice_index_or, List};
 ghost use Rattle.gp_sat.specs.State.{assigned};
 ghost use Rattle.gp_sat.specs.Standing.{IsFalse, Each};
 ghost use Rattle.gp_sat.specs.Sound.{IsSound};
 ghost use Rattle.gp_sat.specs.Changes.{HasPresent};
 ghost use Rattle.gp_sat.specs.Learning.{IsFirstPoint, IsFinal, IsHighestBelow};
-ghost use Rattle.gp_sat.specs.Marking.{IsMarked, IsPresentAt, HasMarked, Stops, Follows, Marks};
-ghost use Rattle.gp_sat.specs.Walking.{IsWalked};
+ghost use Rattle.gp_sat.specs.Marking.{IsMarked, HasMarked, IsLower, IsLowestOf, IsLowest, Stops, Follows, Marks};
+ghost use Rattle.gp_sat.specs.Walking.{IsWalked, IsSearched};
 
-use crate::solver::{Solver, value_of};
+use crate::kernel::{Kernel, value_of};
 use gp_clause::{Clause, Lit, Row};
 use std::alloc::AllocError;
 
@@ -33,9 +33,11 @@ pub(crate) struct Walk {
     pub(crate) marks: Vec<bool>,
     pub(crate) lits: Vec<Lit>,
     pub(crate) hints: Vec<u32>,
+    // The least place of a marked literal of the present level.
+    pub(crate) lowest: usize,
 }
 
-impl Solver {
+impl Kernel {
     /// The first unique implication point: the clause has one literal of the present level, and `level` is the highest one
     /// of its others.
     pub fn analyse(&self, conflict: &[Lit]) -> Result<Learned, AllocError>
@@ -73,14 +75,17 @@ impl Solver {
         ensures walked { IfOk result (λ walk. IsWalked self.now stop 0 walk.marks.items walk.lits.items walk.hints.items) }
         ensures sound { IsSound self.now }
         ensures started { IfOk result (λ walk. (lit : Lit) → Contains conflict.now lit → IsMarked walk.marks.items lit.variable) }
+        ensures searched { IfOk result (λ walk. stop ≡ Stop.FirstPoint → IsSearched self.now conflict.now 0 walk.marks.items walk.lits.items) }
     {
         let alloc = *self.trail.allocator();
         let mut marks = vec![in alloc; false; self.values.len()]?;
         mark_all(marks.as_mut_slice(), conflict);
+        let lowest = self.lowest_of(conflict, self.trail.len());
         let mut walk = Walk {
             marks,
             lits: Vec::new(alloc),
             hints: Vec::new(alloc),
+            lowest,
         };
         let mut place = self.trail.len();
         while place > 0 {
@@ -95,29 +100,32 @@ impl Solver {
         requires within { place < length self.now.trail }
         requires present { stop ≡ Stop.FirstPoint → 0 < self.now.level }
         requires walked { IsWalked self.now stop (place + 1) walk.old.marks.items walk.old.lits.items walk.old.hints.items }
+        requires lowest { IsLowest self.now walk.old.marks.items walk.old.lowest }
         ensures walked { OnOk result (IsWalked self.now stop place walk.new.marks.items walk.new.lits.items walk.new.hints.items) }
+        ensures lowest { OnOk result (IsLowest self.now walk.new.marks.items walk.new.lowest) }
+        ensures searched { OnOk result (stop ≡ Stop.FirstPoint → (conflict : List Lit) → IsSearched self.now conflict (place + 1) walk.old.marks.items walk.old.lits.items → IsSearched self.now conflict place walk.new.marks.items walk.new.lits.items) }
         ensures kept { OnOk result ((variable : ℕ) → IsMarked walk.old.marks.items variable → IsMarked walk.new.marks.items variable) }
     {
         let lit = self.trail[place];
         if !is_marked(walk.marks.as_slice(), lit.variable) {
             return Ok(());
         }
-        match self.follow(walk.marks.as_slice(), place, stop) {
+        match self.follow(walk.marks.as_slice(), walk.lowest, place, stop) {
             None => walk.lits.push(lit.negated())?,
             Some(number) => {
                 walk.hints.push(number)?;
-                mark_all(
-                    walk.marks.as_mut_slice(),
-                    self.clauses[number as usize].clause.lits(),
-                );
+                let lits = self.clauses.lits(number as usize);
+                mark_all(walk.marks.as_mut_slice(), lits);
+                walk.lowest = self.lowest_of(lits, walk.lowest);
             }
         }
         Ok(())
     }
 
     // The reason of a marked literal, unless the walk stops there.
-    fn follow(&self, marks: &[bool], place: usize, stop: Stop) -> Option<u32>
-        requires { place < length self.now.trail }
+    fn follow(&self, marks: &[bool], lowest: usize, place: usize, stop: Stop) -> Option<u32>
+        requires within { place < length self.now.trail }
+        requires lowest { IsLowest self.now marks.now lowest }
         ensures { MatchOption result (Stops self.now stop marks.now place) (Follows self.now stop marks.now place) }
     {
         let lit = self.trail[place];
@@ -125,7 +133,7 @@ impl Solver {
         match stop {
             Stop::Decisions => a.reason,
             Stop::FirstPoint => {
-                if a.level == 0 || a.level == self.level && self.has_marked(marks, place) {
+                if a.level == 0 || a.level == self.level && self.has_marked(marks, lowest, place) {
                     a.reason
                 } else {
                     None
@@ -135,30 +143,40 @@ impl Solver {
     }
 
     // Whether a marked literal of the present level stands before a place of the trail.
-    fn has_marked(&self, marks: &[bool], place: usize) -> bool
-        requires { place ≤ length self.now.trail }
+    fn has_marked(&self, marks: &[bool], lowest: usize, place: usize) -> bool
+        requires within { place ≤ length self.now.trail }
+        requires lowest { IsLowest self.now marks.now lowest }
         ensures { IsTrue result ↔ HasMarked self.now marks.now place }
     {
-        let mut at = place;
-        while at > 0 {
-            at -= 1;
-            if self.is_present(marks, at) {
-                return true;
-            }
-        }
-        false
+        lowest < place
     }
 
-    // Whether the literal at a place of the trail is marked and of the present level.
-    fn is_present(&self, marks: &[bool], place: usize) -> bool
-        requires { place < length self.now.trail }
-        ensures { IsTrue result ↔ IsPresentAt self.now marks.now place }
+    // The lower one of a place and that of a literal, if this is of the present level.
+    fn lower(&self, lit: Lit, lowest: usize) -> usize
+        ensures { IsLower self.now lit lowest result }
     {
-        let lit = self.trail[place];
         match value_of(self.values.as_slice(), lit.variable) {
-            Some(a) => a.level == self.level && is_marked(marks, lit.variable),
-            None => false,
+            Some(a) => {
+                let place = a.place as usize;
+                if a.level == self.level && place < lowest {
+                    place
+                } else {
+                    lowest
+                }
+            }
+            None => lowest,
         }
+    }
+
+    // The least one of a place and those of the literals of the present level.
+    fn lowest_of(&self, lits: &[Lit], lowest: usize) -> usize
+        ensures { IsLowestOf self.now lits.now lowest result }
+    {
+        let mut least = lowest;
+        for lit in lits {
+            least = self.lower(*lit, least);
+        }
+        least
     }
 
     // The highest level below the present one of the literals, or 0.

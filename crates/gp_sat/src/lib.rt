@@ -6,15 +6,17 @@
 
 mod analysis;
 mod assigned;
-mod look;
+mod kernel;
+mod pending;
 mod propagation;
 mod solver;
-mod stored;
+mod store;
 #[cfg(test)]
 mod tests;
+mod walk;
+mod watches;
 
 pub use analysis::Learned;
 pub use assigned::Assigned;
 pub use propagation::Propagated;
 pub use solver::Solver;
-pub use stored::Stored;

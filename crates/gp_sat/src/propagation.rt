@@ -1,11 +1,15 @@
-ghost use Rattle.std.specs.Prelude.{◌≡◌, ◌+◌, ◌<◌, ◌≤◌, length};
-ghost use Rattle.gp_sat.specs.State.{IsAttached, clause_at, assigned};
+ghost use Rattle.std.specs.Prelude.{◌≡◌, ◌+◌, ◌<◌, ◌≤◌, Some, length};
+ghost use Rattle.gp_sat.specs.State.{IsAttached, clause_at, assigned, with_literal};
+ghost use Rattle.gp_sat.specs.Sound.{IsSound};
 ghost use Rattle.gp_sat.specs.Changes.{Propagates, IsPropagated};
-ghost use Rattle.gp_sat.specs.Looking.{LooksAt, IsUnit};
-ghost use Rattle.gp_sat.specs.Passing.{IsPassed};
+ghost use Rattle.gp_sat.specs.Choosing.{IsAdvanced};
+ghost use Rattle.gp_sat.specs.Stepping.{IsReady};
+ghost use Rattle.gp_sat.specs.Looking.{IsUnit};
 
-use crate::look::{Look, look_over};
-use crate::solver::Solver;
+use crate::kernel::{Kernel, lay};
+use crate::pending::{link_next, look_at_short};
+use crate::walk::walk;
+use crate::watches::Watches;
 use gp_clause::Lit;
 
 /// What a propagation came to: the trail is closed at the present level, or the clause of a number is false.
@@ -15,7 +19,7 @@ pub enum Propagated {
     False(u32),
 }
 
-// What one look at each clause came to.
+// What one step of a propagation came to.
 #[derive(Debug, Clone, Copy, PartialEq, Eq)]
 pub(crate) enum Passed {
     Quiet,
@@ -23,66 +27,63 @@ pub(crate) enum Passed {
     Forced,
 }
 
-impl Solver {
-    /// Assigns what unit clauses force until nothing changes, and takes no memory.
-    pub fn propagate(&mut self) -> Propagated
-        ensures answer { IsPropagated self.new result }
-        ensures added { Propagates self.old self.new }
-    {
-        loop {
-            match self.pass() {
-                Passed::Quiet => return Propagated::Quiet,
-                Passed::False(number) => return Propagated::False(number),
-                Passed::Forced => {}
-            }
-        }
-    }
-
-    // Looks once at each clause.
-    fn pass(&mut self) -> Passed
-        ensures answer { IsPassed self.old self.new result }
-        ensures added { Propagates self.old self.new }
-    {
-        let mut forced = false;
-        for number in 0..self.clauses.len() {
-            match self.look_at(number) {
-                Look::Rests => {}
-                Look::Fails => return Passed::False(number as u32),
-                Look::Forces(lit) => {
-                    self.force(lit, number as u32);
-                    forced = true;
-                }
-            }
-        }
-        if forced {
-            Passed::Forced
-        } else {
-            Passed::Quiet
-        }
-    }
-
-    // Looks at the clause of a number, if it is attached.
-    fn look_at(&self, number: usize) -> Look
-        requires { number < length self.now.clauses }
-        ensures { LooksAt self.now number result }
-    {
-        let stored = &self.clauses[number];
-        if stored.attached {
-            look_over(self.values.as_slice(), stored.clause.lits())
-        } else {
-            Look::Rests
-        }
-    }
-
+impl Kernel {
     // Assigns the last literal of a unit clause.
-    fn force(&mut self, lit: Lit, number: u32)
+    pub(crate) fn force(&mut self, lit: Lit, number: u32)
         requires named { lit.variable < length self.old.values }
         requires attached { IsAttached self.old.clauses number }
         requires unit { IsUnit (assigned self.old) (clause_at self.old.clauses number) lit }
         ensures added { Propagates self.old self.new }
+        ensures is { self.new ≡ with_literal self.old lit self.old.level (Some number) }
+        ensures sound { IsSound self.new }
         ensures longer { length self.new.trail ≡ length self.old.trail + 1 }
         ensures within { length self.new.trail ≤ length self.new.values }
     {
-        self.add(lit, self.level, Some(number));
+        let level = self.level;
+        lay(&mut self.values, &mut self.trail, lit, level, Some(number));
+    }
+}
+
+// Links the next clause, looks at the next short one, or walks the slots of the next literal that fell.
+fn advance(kernel: &mut Kernel, watches: &mut Watches) -> Passed
+    requires { IsReady kernel.old watches.old }
+    ensures advanced { IsAdvanced kernel.old kernel.new watches.old watches.new result }
+    ensures added { Propagates kernel.old kernel.new }
+{
+    if watches.linked() < kernel.clause_count() as usize {
+        return match link_next(kernel, watches) {
+            Some(number) => Passed::False(number),
+            None => Passed::Forced,
+        };
+    }
+    if watches.shorts_left() {
+        return match look_at_short(kernel, watches) {
+            Some(number) => Passed::False(number),
+            None => Passed::Forced,
+        };
+    }
+    if watches.cursor() < kernel.trail().len() {
+        return match walk(kernel, watches) {
+            Some(number) => Passed::False(number),
+            None => Passed::Forced,
+        };
+    }
+    Passed::Quiet
+}
+
+// Assigns what unit clauses force until nothing changes.
+pub(crate) fn run(kernel: &mut Kernel, watches: &mut Watches) -> Propagated
+    requires { IsReady kernel.old watches.old }
+    ensures ready { IsReady kernel.new watches.new }
+    ensures answer { IsPropagated kernel.new result }
+    ensures end { result ≡ Propagated.Quiet → length kernel.new.trail ≤ watches.new.cursor }
+    ensures added { Propagates kernel.old kernel.new }
+{
+    loop {
+        match advance(kernel, watches) {
+            Passed::Quiet => return Propagated::Quiet,
+            Passed::False(number) => return Propagated::False(number),
+            Passed::Forced => {}
+        }
     }
 }

@@ -1,71 +1,81 @@
-ghost use Rattle.std.specs.Prelude.{◌≡◌, ◌+◌, ◌<◌, ◌≤◌, ◌^◌, None, length, option_map, OnOk, OnErr, IfOk, MatchOption, ◌++◌, replicate, slice_index_or, vec_len, vec_capacity};
-ghost use Rattle.gp_clause.specs.Clause.{NamesBelow};
-ghost use Rattle.gp_sat.specs.State.{assigned, blank, grown, with_clause, without_clause, cleared, with_literal, above, kept_to, clause_at};
-ghost use Rattle.gp_sat.specs.Standing.{IsClosed};
+ghost use Rattle.std.specs.Prelude.{◌≡◌, ◌+◌, ◌*◌, ◌<◌, ◌≤◌, ◌^◌, None, length, OnOk, OnErr, IfOk, MatchOption, option_map};
+ghost use Rattle.gp_queue.specs.Order.{moved_to_front};
+ghost use Rattle.gp_clause.specs.Clause.{IsRising, NamesBelow};
 ghost use Rattle.gp_sat.specs.Sound.{IsSound};
-ghost use Rattle.gp_sat.specs.Changes.{MayAttach, Backjumps, IsLeastFree, IsFull, IsEndOf, MayAdd};
+ghost use Rattle.gp_sat.specs.Learning.{IsFirstPoint, IsFinal};
+ghost use Rattle.gp_sat.specs.State.{assigned, blank, grown, with_clause, without_clause, cleared, with_literal, clause_at};
+ghost use Rattle.gp_sat.specs.Standing.{IsClosed, IsFalse, Each};
+ghost use Rattle.gp_sat.specs.Changes.{MayAttach, Backjumps, Propagates, IsPropagated, HasPresent};
+ghost use Rattle.gp_sat.specs.Deciding.{IsNextFree, IsFull};
+ghost use Rattle.gp_sat.specs.Stepping.{IsReady};
 
-use crate::assigned::Assigned;
-use crate::stored::Stored;
+use crate::analysis::Learned;
+use crate::kernel::Kernel;
+use crate::propagation::{Propagated, run};
+use crate::watches::Watches;
 use gp_clause::{Clause, Lit};
 use std::alloc::{AllocError, Global};
 use std::marker::Model;
 
-/// Variables are the numbers below `variables`, and clauses have the numbers 0, 1, 2 and so on in the order of `attach`.
+/// A solver that watches two literals of each clause. Variables are the numbers below `variables`, and clauses have the
+/// numbers 0, 1, 2 and so on in the order of `attach`. Only `new`, `grow`, `attach` and the analyses take memory.
 #[derive(Debug, Drop)]
 pub struct Solver {
-    pub(crate) values: Vec<Option<Assigned>>,
-    pub(crate) trail: Vec<Lit>,
-    pub(crate) clauses: Vec<Stored>,
-    pub(crate) level: u32,
+    kernel: Kernel,
+    watches: Watches,
 }
 
 impl Model for Solver {
-    ghost use Rattle.std.specs.Prelude.{◌≤◌, length};
-    ghost use Rattle.std.specs.Vec.{vec_capacity};
-    ghost use Rattle.gp_sat.specs.State.{State};
-    ghost use Rattle.gp_sat.specs.Sound.{IsSound};
+    ghost use Rattle.gp_sat.specs.State.{SolverForm};
+    ghost use Rattle.gp_sat.specs.Stepping.{IsReady};
 
-    ghost Value = { State };
+    ghost Value = { SolverForm };
 
-    ghost view = { λ s. record { values = s.values.items; trail = s.trail.items; clauses = s.clauses.items; level = s.level } };
+    ghost view = { λ s. s.kernel };
 
-    ghost invariant = { λ s. IsSound (record { values = s.values.items; trail = s.trail.items; clauses = s.clauses.items; level = s.level }) × (length s.values.items ≤ vec_capacity s.trail) };
+    ghost invariant = { λ s. IsReady s.kernel s.watches };
 }
 
 impl Solver {
+    /// All variables are in use, in the order of their numbers.
     pub fn new(alloc: Global, variables: u32) -> Result<Solver, AllocError>
-        ensures { IfOk result (λ solver. solver ≡ blank variables) }
+        ensures blank { IfOk result (λ solver. solver ≡ blank variables) }
+        ensures sound { IfOk result IsSound }
     {
-        let count = variables as usize;
-        let mut values = Vec::with_capacity(alloc, count)?;
-        let trail = Vec::with_capacity(alloc, count)?;
-        add_free(&mut values, count);
         Ok(Solver {
-            values,
-            trail,
-            clauses: Vec::new(alloc),
-            level: 0,
+            kernel: Kernel::new(alloc, variables)?,
+            watches: Watches::new(alloc, variables)?,
         })
     }
 
-    /// The variables are then the numbers below `variables`.
+    /// The variables are then the numbers below `variables`, and all of them are in use. After want of memory the solver is
+    /// unchanged.
     pub fn grow(&mut self, variables: u32) -> Result<(), AllocError>
         requires { length self.old.values ≤ variables }
         ensures ok { OnOk result (self.new ≡ grown self.old variables) }
         ensures err { OnErr result (self.new ≡ self.old) }
+        ensures sound { IsSound self.new }
     {
-        let added = variables as usize - self.values.len();
-        self.trail.reserve(variables as usize - self.trail.len())?;
-        self.values.reserve(added)?;
-        add_free(&mut self.values, added);
+        let lists = 2 * (variables as usize) + 2;
+        self.watches.reserve_lists(lists)?;
+        self.kernel.grow(variables)?;
+        self.watches.widen(lists);
         Ok(())
+    }
+
+    /// The variables in use are then the numbers below `count`: `next_free` passes the others by.
+    pub fn set_used(&mut self, count: u32)
+        requires { count ≤ length self.old.values }
+        ensures used { self.new ≡ record self.old { used = count } }
+        ensures sound { IsSound self.new }
+    {
+        self.kernel.set_used(count);
     }
 
     pub fn variables(&self) -> u32
         ensures { result ≡ length self.now.values }
     {
-        self.values.len() as u32
+        self.kernel.variables()
     }
 
     /// Gives the next clause number. After want of memory the solver is unchanged.
@@ -76,13 +86,11 @@ impl Solver {
         ensures number { IfOk result (λ number. number ≡ length self.old.clauses) }
         ensures ok { OnOk result (self.new ≡ with_clause self.old clause.now) }
         ensures err { OnErr result (self.new ≡ self.old) }
+        ensures sound { IsSound self.new }
     {
-        let number = self.clauses.len() as u32;
-        let clause = clause.clone()?;
-        self.clauses.push(Stored {
-            clause,
-            attached: true,
-        })?;
+        self.watches.reserve_clause()?;
+        let number = self.kernel.attach(clause)?;
+        self.watches.add_clause(number as usize, clause.len() < 2);
         Ok(number)
     }
 
@@ -90,35 +98,35 @@ impl Solver {
     pub fn clause_count(&self) -> u32
         ensures { result ≡ length self.now.clauses }
     {
-        self.clauses.len() as u32
+        self.kernel.clause_count()
     }
 
-    /// The clause of a number, attached or not.
-    pub fn clause(&self, number: u32) -> &Clause
+    /// The literals of the clause of a number, attached or not.
+    pub fn clause(&self, number: u32) -> &[Lit]
         requires { number < length self.now.clauses }
-        ensures { result.now ≡ clause_at self.now.clauses number }
+        ensures lits { result.now ≡ clause_at self.now.clauses number }
+        ensures rising { IsRising result.now }
     {
-        &self.clauses[number as usize].clause
+        self.kernel.clause(number)
     }
 
     /// The clause keeps its number.
     pub fn retire(&mut self, number: u32)
         requires bottom { self.old.level ≡ 0 }
         requires given { number < length self.old.clauses }
-        ensures { self.new ≡ without_clause self.old number }
+        ensures retired { self.new ≡ without_clause self.old number }
+        ensures sound { IsSound self.new }
     {
-        self.clauses[number as usize].attached = false;
+        self.kernel.retire(number);
     }
 
     /// Takes back every assignment, those of level 0 too.
     pub fn clear(&mut self)
-        ensures { self.new ≡ cleared self.old }
+        ensures cleared { self.new ≡ cleared self.old }
+        ensures sound { IsSound self.new }
     {
-        for value in self.values.iter_mut() {
-            *value = None;
-        }
-        self.trail.clear();
-        self.level = 0;
+        self.kernel.clear();
+        self.watches.restart();
     }
 
     /// Begins a new level.
@@ -126,40 +134,31 @@ impl Solver {
         requires named { lit.variable < length self.old.values }
         requires free { assigned self.old lit.variable ≡ None }
         requires closed { IsClosed self.old self.old.level }
-        ensures { self.new ≡ with_literal self.old lit (self.old.level + 1) None }
+        ensures decided { self.new ≡ with_literal self.old lit (self.old.level + 1) None }
+        ensures sound { IsSound self.new }
     {
-        self.add(lit, self.level + 1, None);
+        make_ready(&mut self.kernel, &mut self.watches);
+        self.kernel.decide(lit);
     }
 
-    // Adds a true literal to the end of the trail, at a level that becomes the present one.
-    pub(crate) fn add(&mut self, lit: Lit, level: u32, reason: Option<u32>)
-        requires { MayAdd self.old lit level reason }
-        ensures added { self.new ≡ with_literal self.old lit level reason }
-        ensures sound { IsSound self.old }
-        ensures within { length self.new.trail ≤ length self.new.values }
+    /// Assigns what unit clauses force, until no clause is unit, or one is false.
+    pub fn propagate(&mut self) -> Propagated
+        ensures answer { IsPropagated self.new result }
+        ensures added { Propagates self.old self.new }
+        ensures sound { IsSound self.new }
     {
-        let place = self.trail.len() as u32;
-        self.values[lit.variable as usize] = Some(Assigned {
-            positive: lit.positive,
-            level,
-            place,
-            reason,
-        });
-        let _ = self.trail.push(lit);
-        self.level = level;
+        run(&mut self.kernel, &mut self.watches)
     }
 
     /// Takes back the levels above `level`.
     pub fn backjump(&mut self, level: u32)
         requires { level ≤ self.old.level }
-        ensures { Backjumps self.old self.new level }
+        ensures back { Backjumps self.old self.new level }
+        ensures sound { IsSound self.new }
     {
-        let end = end_of(self.trail.as_slice(), self.values.as_slice(), level);
-        self.trail.truncate(end);
-        for value in self.values.iter_mut() {
-            *value = kept(*value, level);
-        }
-        self.level = level;
+        self.kernel.backjump(level);
+        let end = self.kernel.trail().len();
+        self.watches.fall_back(end);
     }
 
     /// The true literals, in the order in which they were assigned.
@@ -167,14 +166,14 @@ impl Solver {
         ensures trail { result.now ≡ self.now.trail }
         ensures sound { IsSound self.now }
     {
-        self.trail.as_slice()
+        self.kernel.trail()
     }
 
     /// The present level.
     pub fn level(&self) -> u32
         ensures { result ≡ self.now.level }
     {
-        self.level
+        self.kernel.level()
     }
 
     /// None exactly where the variable is unassigned.
@@ -182,7 +181,7 @@ impl Solver {
         requires { variable < length self.now.values }
         ensures { result ≡ option_map (λ a. a.positive) (assigned self.now variable) }
     {
-        self.values[variable as usize].map(|a| a.positive)
+        self.kernel.value(variable)
     }
 
     /// The level at which the variable was assigned, None exactly where it is unassigned.
@@ -190,67 +189,58 @@ impl Solver {
         requires { variable < length self.now.values }
         ensures { result ≡ option_map (λ a. a.level) (assigned self.now variable) }
     {
-        self.values[variable as usize].map(|a| a.level)
+        self.kernel.level_of(variable)
     }
 
-    /// The least unassigned variable, None exactly where all are assigned.
-    pub fn next_free(&self) -> Option<u32>
-        ensures { MatchOption result (IsFull self.now) (IsLeastFree self.now) }
+    /// The first unassigned variable in the order of decisions, of those in use. None exactly where all of these are
+    /// assigned.
+    pub fn next_free(&mut self) -> Option<u32>
+        ensures same { self.new ≡ self.old }
+        ensures free { MatchOption result (IsFull self.new) (IsNextFree self.new) }
+        ensures sound { IsSound self.new }
     {
-        for (variable, value) in self.values.iter().enumerate() {
-            if value.is_none() {
-                return Some(variable as u32);
-            }
-        }
-        None
+        self.kernel.next_free()
+    }
+
+    /// Moves a variable to the front of the order of decisions.
+    pub fn raise(&mut self, variable: u32)
+        requires { variable < length self.old.values }
+        ensures raised { self.new ≡ record self.old { order = moved_to_front variable self.old.order } }
+        ensures sound { IsSound self.new }
+    {
+        self.kernel.raise(variable);
+    }
+
+    /// The first unique implication point: the clause has one literal of the present level, and `level` is the highest one
+    /// of its others.
+    pub fn analyse(&self, conflict: &[Lit]) -> Result<Learned, AllocError>
+        requires above { 0 < self.now.level }
+        requires conflict { Each (IsFalse (assigned self.now)) conflict.now }
+        requires present { HasPresent self.now conflict.now }
+        ensures { IfOk result (IsFirstPoint self.now conflict.now) }
+    {
+        self.kernel.analyse(conflict)
+    }
+
+    /// The clause has negated decisions alone.
+    pub fn analyse_final(&self, conflict: &[Lit]) -> Result<Learned, AllocError>
+        requires { Each (IsFalse (assigned self.now)) conflict.now }
+        ensures { IfOk result (IsFinal self.now conflict.now) }
+    {
+        self.kernel.analyse_final(conflict)
     }
 }
 
-// The place of the first literal that was assigned above a level, or the length of the trail where there is none.
-fn end_of(trail: &[Lit], values: &[Option<Assigned>], level: u32) -> usize
-    ensures { IsEndOf level values.now trail.now result }
+// Looks at what is left of a trail that is closed already.
+fn make_ready(kernel: &mut Kernel, watches: &mut Watches)
+    requires ready { IsReady kernel.old watches.old }
+    requires closed { IsClosed kernel.old kernel.old.level }
+    ensures same { kernel.new ≡ kernel.old }
+    ensures ready { IsReady kernel.new watches.new }
+    ensures end { length kernel.new.trail ≤ watches.new.cursor }
 {
-    for (place, lit) in trail.iter().enumerate() {
-        if is_above(value_of(values, lit.variable), level) {
-            return place;
-        }
-    }
-    trail.len()
-}
-
-// The assignment of a variable.
-pub(crate) fn value_of(values: &[Option<Assigned>], variable: u32) -> Option<Assigned>
-    ensures { result ≡ slice_index_or values.now variable None }
-{
-    match values.get(variable as usize) {
-        Some(value) => *value,
-        None => None,
-    }
-}
-
-// Whether a variable was assigned above a level.
-fn is_above(value: Option<Assigned>, level: u32) -> bool
-    ensures { result ≡ above level value }
-{
-    match value {
-        Some(a) => level < a.level,
-        None => false,
-    }
-}
-
-// An assignment, if it was made up to a level.
-fn kept(value: Option<Assigned>, level: u32) -> Option<Assigned>
-    ensures { result ≡ kept_to level value }
-{
-    if is_above(value, level) { None } else { value }
-}
-
-// Adds unassigned variables, for which there is room.
-fn add_free(values: &mut Vec<Option<Assigned>>, count: usize)
-    requires { vec_len values.old + count ≤ vec_capacity values.old }
-    ensures { values.new.items ≡ values.old.items ++ replicate count None }
-{
-    for _ in 0..count {
-        let _ = values.push(None);
+    let end = kernel.trail().len();
+    if watches.cursor() < end {
+        let _ = run(kernel, watches);
     }
 }

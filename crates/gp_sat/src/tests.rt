@@ -6,6 +6,7 @@ ghost use Rattle.gp_sat.specs.Changes.{HasPresent, IsOfLevel};
 
 use crate::{Learned, Propagated, Solver};
 use gp_clause::{Clause, Lit};
+use std::alloc::{AllocError, Global};
 use std::process::Abort;
 use std::test::Fail;
 
@@ -104,7 +105,7 @@ fn has_present(solver: &Solver, lits: &[Lit]) -> bool
 
 fn attach(rt: &impl Abort, solver: &mut Solver, clause: &Clause) -> Result<u32, Fail> {
     assert!(rt; solver.level() == 0);
-    assert!(rt; solver.clause_count() < 100);
+    assert!(rt; solver.clause_count() < 1_000_000);
     assert!(rt; is_named(clause, solver.variables()));
     Ok(solver.attach(clause)?)
 }
@@ -122,7 +123,7 @@ fn decide(rt: &impl Abort, solver: &mut Solver, lit: Lit) {
 
 fn analyse(rt: &impl Abort, solver: &Solver, number: u32) -> Result<Learned, Fail> {
     assert!(rt; number < solver.clause_count());
-    let conflict = solver.clause(number).lits();
+    let conflict = solver.clause(number);
     assert!(rt; solver.level() > 0);
     assert!(rt; are_false(solver, conflict));
     assert!(rt; has_present(solver, conflict));
@@ -131,7 +132,7 @@ fn analyse(rt: &impl Abort, solver: &Solver, number: u32) -> Result<Learned, Fai
 
 fn analyse_final(rt: &impl Abort, solver: &Solver, number: u32) -> Result<Learned, Fail> {
     assert!(rt; number < solver.clause_count());
-    let conflict = solver.clause(number).lits();
+    let conflict = solver.clause(number);
     assert!(rt; are_false(solver, conflict));
     Ok(solver.analyse_final(conflict)?)
 }
@@ -145,8 +146,8 @@ fn learns_a_unit_and_goes_on(rt: HostRuntime) -> Result<(), Fail> {
     }
     assert_eq!(rt; solver.propagate(), Propagated::Quiet);
     decide(&rt, &mut solver, NOT_A);
-    assert_eq!(rt; solver.propagate(), Propagated::False(1));
-    let learned = analyse(&rt, &solver, 1)?;
+    assert_eq!(rt; solver.propagate(), Propagated::False(0));
+    let learned = analyse(&rt, &solver, 0)?;
     assert_eq!(rt; learned.clause.lits(), [A].as_slice());
     assert_eq!(rt; learned.level, 0);
     assert!(rt; solver.level() == 1);
@@ -163,10 +164,10 @@ fn learns_from_conflicts(rt: HostRuntime) -> Result<(), Fail> {
         (
             &[&[NOT_A, NOT_B, C], &[NOT_B, NOT_C]],
             &[A, B],
-            1,
+            0,
             &[NOT_A, NOT_B],
             1,
-            &[0],
+            &[1],
             &[NOT_A, NOT_B],
         ),
         (
@@ -175,16 +176,16 @@ fn learns_from_conflicts(rt: HostRuntime) -> Result<(), Fail> {
             3,
             &[NOT_B],
             0,
-            &[2, 1],
+            &[1, 2],
             &[NOT_A],
         ),
         (
             &[&[A], &[NOT_A, NOT_B, C], &[NOT_B, NOT_C]],
             &[B],
-            2,
+            1,
             &[NOT_B],
             0,
-            &[1, 0],
+            &[2, 0],
             &[NOT_B],
         ),
     ];
@@ -228,5 +229,71 @@ fn clears_retires_and_grows(rt: HostRuntime) -> Result<(), Fail> {
     assert_eq!(rt; solver.propagate(), Propagated::Quiet);
     assert_eq!(rt; solver.trail(), [NOT_A].as_slice());
     assert_eq!(rt; solver.next_free(), Some(1));
+    Ok(())
+}
+
+const PAIRS: u32 = 400_000;
+
+// The clause of the two variables of a pair.
+fn pair(alloc: Global, number: u32) -> Result<Vec<Lit>, AllocError> {
+    let variable = number.saturating_mul(2);
+    let first = Lit {
+        variable,
+        positive: true,
+    };
+    let second = Lit {
+        variable: variable.saturating_add(1),
+        positive: true,
+    };
+    Vec::from_slice(alloc, [first, second].as_slice())
+}
+
+// Whether each pair's second literal is forced by its first one.
+fn forces_each(rt: &impl Abort, solver: &mut Solver) -> bool {
+    let mut all = true;
+    for number in 0..PAIRS {
+        let variable = number.saturating_mul(2);
+        let partner = variable.saturating_add(1);
+        decide(
+            rt,
+            solver,
+            Lit {
+                variable,
+                positive: false,
+            },
+        );
+        let quiet = solver.propagate() == Propagated::Quiet;
+        assert!(rt; partner < solver.variables());
+        all = all && quiet && solver.value(partner) == Some(true);
+    }
+    all
+}
+
+#[test]
+fn visits_only_what_watches(rt: HostRuntime) -> Result<(), Fail> {
+    let mut solver = Solver::new(rt.alloc(), 2 * PAIRS)?;
+    for number in 0..PAIRS {
+        let clause = Clause::of(pair(rt.alloc(), number)?)?;
+        attach(&rt, &mut solver, &clause)?;
+    }
+    assert!(rt; forces_each(&rt, &mut solver));
+    Ok(())
+}
+
+#[test]
+fn decides_in_the_order_of_the_queue(rt: HostRuntime) -> Result<(), Fail> {
+    let mut solver = Solver::new(rt.alloc(), 3)?;
+    assert_eq!(rt; solver.next_free(), Some(0));
+    assert!(rt; solver.variables() == 3);
+    solver.raise(2);
+    assert_eq!(rt; solver.next_free(), Some(2));
+    decide(&rt, &mut solver, NOT_C);
+    assert_eq!(rt; solver.next_free(), Some(0));
+    assert!(rt; solver.level() == 1);
+    solver.backjump(0);
+    assert_eq!(rt; solver.next_free(), Some(2));
+    assert!(rt; solver.variables() == 3);
+    solver.set_used(2);
+    assert_eq!(rt; solver.next_free(), Some(0));
     Ok(())
 }

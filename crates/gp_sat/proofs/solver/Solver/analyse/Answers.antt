@@ -1,28 +1,7 @@
-use Rattle.std.proofs.Common.{sym, subst, ℕ, List}
-use Rattle.gp_clause.specs.declared.lit.Lit.{Lit}
-use Rattle.gp_sat.specs.State.{State}
-use Rattle.std.specs.Prelude.{IsPermutation}
-use Rattle.gp_sat.specs.declared.analysis.Stop.TheVariants.{FirstPoint}
-use Rattle.gp_sat.specs.Learning.{IsLearned, IsHighestBelow}
-use Rattle.gp_sat.specs.Walking.{IsWalked}
-use Rattle.gp_sat.proofs.Passing.{makes_clause, clause_sorted, learned, one_present, highest_sorted}
+use Rattle.std.proofs.Common.{sym, subst}
+use Rattle.gp_sat.specs.State.{SolverForm, assigned}
+use Rattle.gp_sat.specs.Standing.{IsFalse, Each}
 use Rattle.gp_sat.proofs.solver.Solver.analyse.Goals as goal
 
-pub unwrap-requires : goal.unwrap-requires
-unwrap-requires c = makes_clause c.of.result c.in_ok-lits.field-0.lits.items c.of.ensures.bad.0 c.in_ok-lits.ensures.walked.once
-
-pub returns : goal.returns
-returns c =
-    let s : State = c.args.self.now in
-    let walk : IsWalked s FirstPoint 0 c.in_ok-lits.field-0.marks.items c.in_ok-lits.field-0.lits.items c.in_ok-lits.field-0.hints.items = c.in_ok-lits.ensures.walked in
-    let sorted : IsPermutation c.in_ok-lits.field-0.lits.items c.unwrap.result = clause_sorted c.of.result c.in_ok-lits.field-0.lits.items c.unwrap.result c.of.ensures.sorted c.unwrap.ensures in
-    let found : IsLearned s c.args.conflict.now c.unwrap.result c.from_vec.result =
-    subst (λ (hs : List ℕ). IsLearned s c.args.conflict.now c.unwrap.result hs) (sym c.from_vec.ensures)
-    (learned s FirstPoint c.args.conflict.now c.unwrap.result c.in_ok-lits.field-0.marks.items c.in_ok-lits.field-0.lits.items c.in_ok-lits.field-0.hints.items
-    c.in_ok-lits.ensures.sound walk c.requires.conflict c.in_ok-lits.ensures.started sorted) in
-    record {
-      learned = found;
-      point = one_present s c.unwrap.result c.in_ok-lits.field-0.marks.items c.in_ok-lits.field-0.lits.items c.in_ok-lits.field-0.hints.items walk sorted;
-      level = highest_sorted s c.unwrap.result c.in_ok-lits.field-0.lits.items c.highest_below-level.result sorted
-          (subst (λ (xs : List Lit). IsHighestBelow s xs c.highest_below-level.result) c.as_slice.ensures.value c.highest_below-level.ensures);
-    }
+pub analyse-requires-clause-conflict : goal.analyse-requires-clause-conflict
+analyse-requires-clause-conflict c = subst (λ (s : SolverForm). Each (IsFalse (assigned s)) c.args.conflict.now) (sym c.self.view_is) c.requires.conflict

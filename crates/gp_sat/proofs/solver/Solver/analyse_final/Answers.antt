@@ -1,29 +1,7 @@
-use Rattle.std.proofs.Common.{refl, sym, subst, ℕ, List}
-use Rattle.gp_sat.specs.State.{State}
-use Rattle.gp_sat.specs.Standing.{Each}
-use Rattle.std.specs.Prelude.{IsPermutation}
-use Rattle.gp_sat.specs.declared.analysis.Stop.TheVariants.{Decisions}
-use Rattle.gp_sat.specs.Learning.{IsLearned, IsDecided}
-use Rattle.gp_sat.specs.Walking.{IsWalked}
-use Rattle.gp_sat.proofs.Passing.{makes_clause, clause_sorted, learned, decided, none_decided}
+use Rattle.std.proofs.Common.{sym, subst}
+use Rattle.gp_sat.specs.State.{SolverForm, assigned}
+use Rattle.gp_sat.specs.Standing.{IsFalse, Each}
 use Rattle.gp_sat.proofs.solver.Solver.analyse_final.Goals as goal
 
-pub unwrap-requires : goal.unwrap-requires
-unwrap-requires c = makes_clause c.of.result c.in_ok-lits.field-0.lits.items c.of.ensures.bad.0 c.in_ok-lits.ensures.walked.once
-
-pub returns : goal.returns
-returns c =
-    let s : State = c.args.self.now in
-    let walk : IsWalked s Decisions 0 c.in_ok-lits.field-0.marks.items c.in_ok-lits.field-0.lits.items c.in_ok-lits.field-0.hints.items = c.in_ok-lits.ensures.walked in
-    let sorted : IsPermutation c.in_ok-lits.field-0.lits.items c.unwrap.result = clause_sorted c.of.result c.in_ok-lits.field-0.lits.items c.unwrap.result c.of.ensures.sorted c.unwrap.ensures in
-    let found : IsLearned s c.args.conflict.now c.unwrap.result c.from_vec.result =
-    subst (λ (hs : List ℕ). IsLearned s c.args.conflict.now c.unwrap.result hs) (sym c.from_vec.ensures)
-    (learned s Decisions c.args.conflict.now c.unwrap.result c.in_ok-lits.field-0.marks.items c.in_ok-lits.field-0.lits.items c.in_ok-lits.field-0.hints.items
-    c.in_ok-lits.ensures.sound walk c.requires c.in_ok-lits.ensures.started sorted) in
-    let all : Each (IsDecided s) c.unwrap.result = decided s c.unwrap.result c.in_ok-lits.field-0.marks.items c.in_ok-lits.field-0.lits.items c.in_ok-lits.field-0.hints.items walk sorted in
-    record {
-      learned = found;
-      decisions = all;
-      empty = λ bottom. none_decided s c.unwrap.result c.in_ok-lits.ensures.sound bottom all;
-      level = refl;
-    }
+pub analyse_final-requires : goal.analyse_final-requires
+analyse_final-requires c = subst (λ (s : SolverForm). Each (IsFalse (assigned s)) c.args.conflict.now) (sym c.self.view_is) c.requires

@@ -1,21 +1,29 @@
-use Rattle.std.proofs.Common.{◌≡◌, ap, subst, ◌+◌, ◌<◌, None, length, arith}
-use Rattle.gp_clause.specs.declared.lit.Lit.{Lit}
-use Rattle.gp_sat.specs.State.{State, assigned}
+use Rattle.std.proofs.Common.{◌≡◌, None, refl, sym, ◌∙◌, subst, ◌+◌, ◌<◌, length}
+use Rattle.gp_sat.specs.State.{SolverForm, assigned, with_literal}
+use Rattle.gp_sat.specs.Standing.{IsClosed}
 use Rattle.gp_sat.specs.Sound.{IsSound}
-use Rattle.gp_sat.proofs.Counting.{room_left}
-use Rattle.gp_sat.proofs.Adding.{may_decide}
+use Rattle.gp_sat.proofs.Adding.{may_decide, sound_more}
+use Rattle.gp_sat.proofs.Outer.{ready_decided}
 use Rattle.gp_sat.proofs.solver.Solver.decide.Goals as goal
 
-fits : (s : State) (lit : Lit) → lit.variable < length s.values → assigned s lit.variable ≡ None → IsSound s → s.level + 1 < 4294967296
-fits s lit within free sound = omega (arith, sound.small.0, sound.ordered.few, room_left s.values s.trail s.level lit.variable sound.ordered within free)
+pub invariant_of-self : goal.invariant_of-self
+invariant_of-self c =
+    let s : SolverForm = c.make_ready.new.kernel in
+    let same : c.args.self.now ≡ c.make_ready.new.kernel = sym (c.make_ready.ensures.same ∙ c.self.view_is) in
+    let named : c.args.lit.variable < length c.make_ready.new.kernel.values = subst (λ (u : SolverForm). c.args.lit.variable < length u.values) same c.requires.named in
+    let free : assigned c.make_ready.new.kernel c.args.lit.variable ≡ None = subst (λ (u : SolverForm). assigned u c.args.lit.variable ≡ None) same c.requires.free in
+    let closed : IsClosed c.make_ready.new.kernel c.make_ready.new.kernel.level = subst (λ (u : SolverForm). IsClosed u u.level) same c.requires.closed in
+    let sound : IsSound (with_literal c.make_ready.new.kernel c.args.lit (c.make_ready.new.kernel.level + 1) None) =
+    sound_more c.make_ready.new.kernel c.args.lit (c.make_ready.new.kernel.level + 1) None (may_decide c.make_ready.new.kernel c.args.lit (c.make_ready.new.kernel.level + 1) refl named free closed c.make_ready.ensures.ready.idle.sound) c.make_ready.ensures.ready.idle.sound in
+    ready_decided c.make_ready.new.kernel c.decide.new.self c.make_ready.new.watches c.args.lit (c.make_ready.new.kernel.level + 1) c.decide.ensures (subst (λ (u : SolverForm). IsSound u) (sym c.decide.ensures) sound) named free c.make_ready.ensures.end c.make_ready.ensures.ready
 
-pub overflow_add-self : goal.overflow_add-self
-overflow_add-self c =
-    let sound : IsSound c.args.self.now = subst (λ (s : State). IsSound s) c.add.view_is c.add.invariant.0 in
-    let level : c.add.inside.level ≡ c.args.self.now.level = ap (λ (s : State). s.level) c.add.view_is in
-    omega (arith, fits c.args.self.now c.args.lit c.requires.named c.requires.free sound, level)
-
-pub add-requires : goal.add-requires
-add-requires c =
-    let sound : IsSound c.args.self.now = subst (λ (s : State). IsSound s) c.add.view_is c.add.invariant.0 in
-    may_decide c.args.self.now c.args.lit (c.add.inside.level + 1) (ap (λ (s : State). s.level + 1) c.add.view_is) c.requires.named c.requires.free c.requires.closed sound
+pub returns-clause-sound : goal.returns-clause-sound
+returns-clause-sound c =
+    let s : SolverForm = c.make_ready.new.kernel in
+    let same : c.args.self.now ≡ c.make_ready.new.kernel = sym (c.make_ready.ensures.same ∙ c.self.view_is) in
+    let named : c.args.lit.variable < length c.make_ready.new.kernel.values = subst (λ (u : SolverForm). c.args.lit.variable < length u.values) same c.requires.named in
+    let free : assigned c.make_ready.new.kernel c.args.lit.variable ≡ None = subst (λ (u : SolverForm). assigned u c.args.lit.variable ≡ None) same c.requires.free in
+    let closed : IsClosed c.make_ready.new.kernel c.make_ready.new.kernel.level = subst (λ (u : SolverForm). IsClosed u u.level) same c.requires.closed in
+    let sound : IsSound (with_literal c.make_ready.new.kernel c.args.lit (c.make_ready.new.kernel.level + 1) None) =
+    sound_more c.make_ready.new.kernel c.args.lit (c.make_ready.new.kernel.level + 1) None (may_decide c.make_ready.new.kernel c.args.lit (c.make_ready.new.kernel.level + 1) refl named free closed c.make_ready.ensures.ready.idle.sound) c.make_ready.ensures.ready.idle.sound in
+    subst (λ (u : SolverForm). IsSound u) (sym c.decide.ensures) sound

@@ -1,18 +1,18 @@
-use Rattle.std.proofs.Common.{◌≡◌, ◌∙◌, ap, ℕ, ◌<◌, List, length, get_or, arith}
-use Rattle.gp_sat.specs.declared.stored.Stored.{Stored}
-use Rattle.gp_sat.specs.State.{State, clause_at, no_clause}
-use Rattle.std.proofs.lemmas.List.{get_or_default}
+use Rattle.std.proofs.Common.{refl, ◌∙◌, ap}
+use Rattle.gp_sat.specs.State.{SolverForm, clause_at, without_clause}
+use Rattle.gp_sat.specs.Sound.{IsSound}
+use Rattle.gp_sat.specs.Stepping.{IsReady}
 use Rattle.gp_sat.proofs.Storing.{sound_retired}
+use Rattle.gp_sat.proofs.Outer.{ready_retired}
 use Rattle.gp_sat.proofs.solver.Solver.retire.Goals as goal
-
-read : (clauses : List Stored) (number : ℕ) (x : Stored) → number < length clauses → x ≡ get_or clauses number x → x.clause ≡ clause_at clauses number
-read clauses number x within is = ap (λ (y : Stored). y.clause) (is ∙ get_or_default clauses number x no_clause within)
 
 pub invariant_of-self : goal.invariant_of-self
 invariant_of-self c =
-    let within : c.args.number < length c.self.inside.clauses.items = omega (arith, c.requires.given, ap (λ (s : State). length s.clauses) c.self.view_is) in (
-      sound_retired (record { values = c.self.inside.values.items; trail = c.self.inside.trail.items; clauses = c.self.inside.clauses.items; level = c.self.inside.level }) c.args.number c.index_mut.result.now.clause
-          (read c.self.inside.clauses.items c.args.number c.index_mut.result.now within c.index_mut.ensures.value)
-          (ap (λ (s : State). s.level) c.self.view_is ∙ c.requires.bottom) c.self.invariant.0,
-      c.self.invariant.1,
-    )
+    let sound : IsSound (without_clause c.self.inside.kernel c.args.number) = sound_retired c.self.inside.kernel c.args.number (clause_at c.self.inside.kernel.clauses c.args.number) refl (ap (λ (s : SolverForm). s.level) c.self.view_is ∙ c.requires.bottom) c.self.invariant.idle.sound in
+    ready_retired c.self.inside.kernel c.retire.new.self c.self.inside.watches c.args.number c.retire.ensures sound c.self.invariant
+
+pub returns-clause-sound : goal.returns-clause-sound
+returns-clause-sound c =
+    let sound : IsSound (without_clause c.self.inside.kernel c.args.number) = sound_retired c.self.inside.kernel c.args.number (clause_at c.self.inside.kernel.clauses c.args.number) refl (ap (λ (s : SolverForm). s.level) c.self.view_is ∙ c.requires.bottom) c.self.invariant.idle.sound in
+    let ready : IsReady c.retire.new.self c.self.inside.watches = ready_retired c.self.inside.kernel c.retire.new.self c.self.inside.watches c.args.number c.retire.ensures sound c.self.invariant in
+    ready.idle.sound

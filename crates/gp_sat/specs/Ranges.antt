@@ -1,0 +1,29 @@
+-- How one array holds the literals of all clauses.
+use Rattle.std.specs.Prelude.{ℕ, ◌<◌, ◌≤◌, false, List, length, map, slice_index_or}
+use Rattle.std.specs.List.{slice_range}
+use Rattle.gp_clause.specs.declared.lit.Lit.{Lit}
+use Rattle.gp_clause.specs.Clause.{IsRising}
+use Rattle.gp_sat.specs.declared.store.Range.{Range}
+use Rattle.gp_sat.specs.Stored.{Stored}
+
+-- the clause of a range of the literals
+abbrev pub stored_at : List Lit → Range → Stored
+stored_at literals range = record { clause = slice_range literals range.start range.end; attached = range.attached }
+
+-- the clauses of all ranges
+abbrev pub stored : List Lit → List Range → List Stored
+stored literals ranges = map (stored_at literals) ranges
+
+-- the range under a number that no clause has
+abbrev pub no_range : Range
+no_range = record { start = 0; end = 0; attached = false }
+
+-- a range lies within the literals, and its variables rise
+pub record IsRange (literals : List Lit) (range : Range) : Type 0 where
+  pub rises : range.start ≤ range.end
+  pub within : range.end ≤ length literals
+  pub rising : IsRising (slice_range literals range.start range.end)
+
+-- each clause has such a range
+abbrev pub AreRanges : List Lit → List Range → Type 0
+AreRanges literals ranges = (number : ℕ) → number < length ranges → IsRange literals (slice_index_or ranges number no_range)

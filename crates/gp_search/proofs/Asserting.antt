@@ -13,15 +13,15 @@ use Rattle.gp_clause.specs.declared.problem.Problem.{Problem}
 use Rattle.gp_clause.specs.declared.problem.Query.{Query}
 use Rattle.gp_clause.specs.Kind.{bound_of}
 use Rattle.gp_clause.specs.Problem.{IsValidKind}
-use Rattle.gp_derivation.proofs.Lists.{got_all, contains_map}
+use Rattle.gp_derivation.specs.ListLaws.{got_all, contains_map}
 use Rattle.gp_difference.specs.declared.bound.Bound.{Bound}
 use Rattle.gp_difference.specs.Bounds.{tagged, untagged, Explains}
-use Rattle.gp_difference.specs.Graph.{Constraints, bounds_of, IsKept, IsRefused}
+use Rattle.gp_difference.specs.Graph.{GraphForm, bounds_of, IsKept, IsRefused}
 use Rattle.gp_difference.specs.Places.{IsEdgeOf}
-use Rattle.gp_sat.specs.State.{State, assigned}
+use Rattle.gp_sat.specs.State.{SolverForm, assigned}
 use Rattle.gp_sat.specs.Looking.{IsTrueLit}
 use Rattle.gp_sat.specs.Standing.{Each}
-use Rattle.gp_sat.proofs.Counting.{trail_counts}
+use Rattle.gp_sat.specs.SolverLaws.{trail_counts}
 use Rattle.gp_search.specs.declared.engine.Engine.{Engine}
 use Rattle.gp_search.specs.Bounds.{lit_bound, under, bounds_along}
 use Rattle.gp_search.specs.Inside.{all_kinds, false_lit, IsTurning, IsConflict}
@@ -94,23 +94,24 @@ room_for_next problem query engine turning left =
     )
 
 -- the engine with one bound more in its graph, or with none more
-pub asserted_some : (problem : Problem) (query : Query) (engine : Engine) (graph : Constraints) (d : Lit) (edge : Edge) (next : ℕ) → IsTurning problem query engine → engine.asserted < length engine.solver.trail
+pub asserted_some : (problem : Problem) (query : Query) (engine : Engine) (graph : GraphForm) (d : Lit) (edge : Edge) (next : ℕ) → IsTurning problem query engine → engine.asserted < length engine.solver.trail
     → lit_bound (all_kinds problem query) (get_or engine.solver.trail engine.asserted d) ≡ Some edge → IsKept engine.graph (tagged edge (get_or engine.solver.trail engine.asserted d).variable) graph
     → next ≡ engine.asserted + 1 → IsTurning problem query (record engine { graph = graph; asserted = next })
 asserted_some problem query engine graph d edge next turning left is kept one_more = record {
   whole = whole_moved problem query engine engine.solver graph next engine.assumed turning.whole refl refl
-      (record { points = ap (λ (g : Constraints). g.points) kept.added ∙ turning.whole.graph.points; edges = ap (λ (g : Constraints). g.edges) kept.added ∙ turning.whole.graph.edges });
+      (record { points = ap (λ (g : GraphForm). g.points) kept.added ∙ turning.whole.graph.points; edges = ap (λ (g : GraphForm). g.edges) kept.added ∙ turning.whole.graph.edges });
   variables = turning.variables;
+  used = turning.used;
   sound = turning.sound;
   reasoned = turning.reasoned;
   asserted = record {
     within = omega (arith, left, one_more);
-    kept = ap (λ (g : Constraints). g.kept) kept.added ∙ (ap (λ (bs : List Bound). bs ++ tagged edge (get_or engine.solver.trail engine.asserted d).variable ∷ []) turning.asserted.kept
+    kept = ap (λ (g : GraphForm). g.kept) kept.added ∙ (ap (λ (bs : List Bound). bs ++ tagged edge (get_or engine.solver.trail engine.asserted d).variable ∷ []) turning.asserted.kept
         ∙ (sym (bounds_some (all_kinds problem query) engine.solver.trail engine.asserted d edge left is) ∙ ap (λ (n : ℕ). bounds_along (all_kinds problem query) (take n engine.solver.trail)) (sym one_more)));
     present = λ place e above within. turning.asserted.present place e (omega (arith, above, one_more)) within;
     room =
-        let longer : length graph.kept ≡ length engine.graph.kept + 1 = ap (λ (g : Constraints). length g.kept) kept.added ∙ length_push engine.graph.kept (tagged edge (get_or engine.solver.trail engine.asserted d).variable) in
-        let less : graph.room ≡ engine.graph.room - 1 = ap (λ (g : Constraints). g.room) kept.added in
+        let longer : length graph.kept ≡ length engine.graph.kept + 1 = ap (λ (g : GraphForm). length g.kept) kept.added ∙ length_push engine.graph.kept (tagged edge (get_or engine.solver.trail engine.asserted d).variable) in
+        let less : graph.room ≡ engine.graph.room - 1 = ap (λ (g : GraphForm). g.room) kept.added in
         omega (arith, longer, less, turning.asserted.room, room_for_next problem query engine turning left);
   };
   assuming = turning.assuming;
@@ -121,6 +122,7 @@ pub asserted_none : (problem : Problem) (query : Query) (engine : Engine) (d : L
 asserted_none problem query engine d next turning left is one_more = record {
   whole = whole_moved problem query engine engine.solver engine.graph next engine.assumed turning.whole refl refl turning.whole.graph;
   variables = turning.variables;
+  used = turning.used;
   sound = turning.sound;
   reasoned = turning.reasoned;
   asserted = record {
@@ -138,11 +140,11 @@ last_tag bounds edge tag tags (walk, closes, are) =
     subst (λ (ts : List ℕ). Contains ts tag) (sym are) (filtered (λ (b : Bound). b.tag) (walk ++ tagged edge tag ∷ []) (tagged edge tag) tag (Contains-push walk (tagged edge tag)) refl)
 
 -- the tags of a refused bound name a conflict
-pub cycle_conflict : (problem : Problem) (query : Query) (engine : Engine) (graph : Constraints) (d : Lit) (edge : Edge) → IsTurning problem query engine → engine.asserted < length engine.solver.trail
+pub cycle_conflict : (problem : Problem) (query : Query) (engine : Engine) (graph : GraphForm) (d : Lit) (edge : Edge) → IsTurning problem query engine → engine.asserted < length engine.solver.trail
     → lit_bound (all_kinds problem query) (get_or engine.solver.trail engine.asserted d) ≡ Some edge → IsRefused engine.graph (tagged edge (get_or engine.solver.trail engine.asserted d).variable) graph
     → IsConflict problem query engine.solver (map (false_lit engine.solver) graph.cycle) None
 cycle_conflict problem query engine graph d edge turning left is refused =
-    let s : State = engine.solver in
+    let s : SolverForm = engine.solver in
     let lit : Lit = get_or s.trail engine.asserted d in
     let holds : (l : Lit) → Contains s.trail l → IsTrueLit (assigned s) l = trail_true (assigned s) s.trail s.level turning.sound.ordered in
     let front : Each (IsTrueLit (assigned s)) (take engine.asserted s.trail) = λ l among. holds l (contains_front engine.asserted s.trail l among) in

@@ -8,15 +8,16 @@ use Rattle.gp_clause.specs.declared.lit.Lit.{Lit}
 use Rattle.gp_clause.specs.declared.problem.Problem.{Problem}
 use Rattle.gp_clause.specs.declared.problem.Query.{Query}
 use Rattle.gp_sat.specs.declared.assigned.Assigned.{Assigned}
-use Rattle.gp_sat.specs.State.{State, assigned, with_literal}
+use Rattle.gp_sat.specs.State.{SolverForm, assigned, with_literal}
+use Rattle.gp_sat.specs.Deciding.{IsFull}
 use Rattle.gp_sat.specs.Sound.{IsSound}
-use Rattle.gp_sat.proofs.Counting.{room_left}
+use Rattle.gp_sat.specs.SolverLaws.{room_left}
 use Rattle.gp_search.specs.declared.engine.Engine.{Engine}
 use Rattle.gp_search.specs.Inside.{all_kinds, IsTurning, IsAssuming}
-use Rattle.gp_search.specs.Moves.{IsOpen, GoesFurther}
+use Rattle.gp_search.specs.Moves.{IsAllAssigned, IsOpen, GoesFurther}
 
 -- where an assumption is not true, every decision is an assumption
-pub open_low : (assumed : List Lit) (s : State) (level : ℕ) (lit : Lit) → IsAssuming assumed s level → IsOpen assumed s lit → s.level ≤ level
+pub open_low : (assumed : List Lit) (s : SolverForm) (level : ℕ) (lit : Lit) → IsAssuming assumed s level → IsOpen assumed s lit → s.level ≤ level
 open_low assumed s level lit assuming next = elim (cases_lt level s.level) [
   | inl above ↦ let one = assuming.all_true above lit next.0 in absurd (next.1 (one.0, one.1, one.2))
   | inr low ↦ low
@@ -30,9 +31,14 @@ unassigned (Some a) value test is same fails = absurd (true≢false (sym (same �
 pub goes_further : (old new : Engine) (lit : Lit) (level : ℕ) → IsSound old.solver → new.solver ≡ with_literal old.solver lit level None → lit.variable < length old.solver.values → assigned old.solver lit.variable ≡ None
     → GoesFurther old new
 goes_further old new lit level sound is within free = record {
-  longer = ap (λ (s : State). length s.trail) is ∙ length_push old.solver.trail lit;
+  longer = ap (λ (s : SolverForm). length s.trail) is ∙ length_push old.solver.trail lit;
   room = room_left old.solver.values old.solver.trail old.solver.level lit.variable sound.ordered within free;
 }
+
+-- where all variables in use are assigned, so are those of the problem and the query
+pub all_assigned : (problem : Problem) (query : Query) (old new : Engine) → IsTurning problem query old → new ≡ old → IsFull old.solver → IsAllAssigned (length (all_kinds problem query)) new.solver
+all_assigned problem query old new turning same full =
+    subst (λ (e : Engine). IsAllAssigned (length (all_kinds problem query)) e.solver) (sym same) (λ v below. full v (omega (arith, below, turning.used)))
 
 -- all of a list has been seen
 pub all_seen : (P : Lit → Type 0) (lits items : List Lit) (k : ℕ) → All P (take k items) → items ≡ lits → length items ≤ k → (lit : Lit) → Contains lits lit → P lit

@@ -11,11 +11,11 @@ use Rattle.gp_clause.specs.Clause.{NamesBelow}
 use Rattle.gp_clause.specs.Closure.Derived.{given}
 use Rattle.gp_clause.specs.Lit.{opposite}
 use Rattle.gp_derivation.specs.Step.{Passes}
-use Rattle.gp_derivation.proofs.Lists.{contains_map}
-use Rattle.gp_sat.specs.State.{State, assigned, clause_at}
+use Rattle.gp_derivation.specs.ListLaws.{contains_map}
+use Rattle.gp_sat.specs.State.{SolverForm, assigned, clause_at}
 use Rattle.gp_sat.specs.Standing.{IsFalse, Each}
 use Rattle.gp_sat.specs.Changes.{IsConflict as IsFalseClause}
-use Rattle.gp_sat.proofs.Counting.{within_values}
+use Rattle.gp_sat.specs.SolverLaws.{within_values}
 use Rattle.gp_search.specs.declared.engine.Engine.{Engine}
 use Rattle.gp_search.specs.Inside.{all_kinds, false_lit, IsTurning, IsConflict}
 use Rattle.gp_search.proofs.Lists.{here}
@@ -41,14 +41,14 @@ false_conflict problem query engine number lits turning fails same =
     })
 
 -- the tags of a cycle are variables of the solver
-pub tag_within : (s : State) (tags items : List ℕ) (k d : ℕ) → Each (IsFalse (assigned s)) (map (false_lit s) tags) → items ≡ tags → k < length items → get_or items k d < length s.values
+pub tag_within : (s : SolverForm) (tags items : List ℕ) (k d : ℕ) → Each (IsFalse (assigned s)) (map (false_lit s) tags) → items ≡ tags → k < length items → get_or items k d < length s.values
 tag_within s tags items k d all_false same within =
     let P : List ℕ → Type 0 = λ xs. Contains xs (get_or items k d) in
     let fell = all_false (false_lit s (get_or items k d)) (contains_map (false_lit s) tags (get_or items k d) (subst P same (Contains-get_or items k d within))) in
     within_values s.values (get_or items k d) fell.0 fell.1
 
 -- all tags of the cycle
-pub all_tags : (s : State) (tags items : List ℕ) (lits : List Lit) (k : ℕ) → lits ≡ map (false_lit s) (take k tags) → items ≡ tags → length items ≤ k → lits ≡ map (false_lit s) tags
+pub all_tags : (s : SolverForm) (tags items : List ℕ) (lits : List Lit) (k : ℕ) → lits ≡ map (false_lit s) (take k tags) → items ≡ tags → length items ≤ k → lits ≡ map (false_lit s) tags
 all_tags s tags items lits k are same past =
     let enough : length tags ≤ k = omega (arith, past, ap (λ (xs : List ℕ). length xs) same) in
     are ∙ ap (map (false_lit s)) (take_all k tags enough)

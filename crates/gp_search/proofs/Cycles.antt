@@ -13,11 +13,11 @@ use Rattle.gp_clause.specs.Kind.{bound_of}
 use Rattle.gp_clause.specs.Lit.{opposite}
 use Rattle.gp_clause.specs.Walk.{IsWalk, IsAmong, weight}
 use Rattle.gp_derivation.specs.Step.{negations, IsDerivedBound, Passes}
-use Rattle.gp_derivation.proofs.Lists.{contains_map}
+use Rattle.gp_derivation.specs.ListLaws.{contains_map}
 use Rattle.gp_difference.specs.declared.bound.Bound.{Bound}
 use Rattle.gp_difference.specs.Bounds.{edges_of, tags_of, untagged, tagged, AreAmong, Explains}
 use Rattle.gp_sat.specs.declared.assigned.Assigned.{Assigned}
-use Rattle.gp_sat.specs.State.{State, assigned}
+use Rattle.gp_sat.specs.State.{SolverForm, assigned}
 use Rattle.gp_sat.specs.Looking.{IsTrueLit}
 use Rattle.gp_sat.specs.Standing.{IsFalse, Each}
 use Rattle.gp_sat.specs.Sound.{IsOrdered, true_lit}
@@ -36,11 +36,11 @@ trail_true values trail level ordered lit (place, within, is) =
     (off.0, ap (λ (l : Lit). values l.variable) (sym is) ∙ off.1, sym (ap (λ (l : Lit). l.positive) lit_is))
 
 -- the false literal of the variable of a true one is its negation
-pub false_is_opposite : (s : State) (lit : Lit) → IsTrueLit (assigned s) lit → false_lit s lit.variable ≡ opposite lit
+pub false_is_opposite : (s : SolverForm) (lit : Lit) → IsTrueLit (assigned s) lit → false_lit s lit.variable ≡ opposite lit
 false_is_opposite s lit (a, is, same) = λ i. record { variable = lit.variable; positive = (ap is_false is ∙ ap not same) i }
 
 -- the false literal of an assigned variable is false
-pub false_is_false : (s : State) (variable : ℕ) (a : Assigned) → assigned s variable ≡ Some a → IsFalse (assigned s) (false_lit s variable)
+pub false_is_false : (s : SolverForm) (variable : ℕ) (a : Assigned) → assigned s variable ≡ Some a → IsFalse (assigned s) (false_lit s variable)
 false_is_false s variable a is = (a, is, sym (ap (λ (o : Option Assigned). not (is_false o)) is ∙ twice a.positive))
   where
     twice : (b : Bool) → not (not b) ≡ b
@@ -134,7 +134,7 @@ stands edges kinds values bounds b is (said lit edge holds bound) =
     Contains-append_right edges (tagged_edges bounds) edge (filtered (λ (x : Bound). edge_if x.edge x.tag) bounds (tagged edge lit.variable) edge is refl)
 
 -- a true literal with a known variable among the tags is derived from the negation of the clause
-literal_given : (s : State) (tags : List ℕ) (lit : Lit) → Contains tags lit.variable → IsTrueLit (assigned s) lit → Derived (negations (map (false_lit s) tags)) [] lit
+literal_given : (s : SolverForm) (tags : List ℕ) (lit : Lit) → Contains tags lit.variable → IsTrueLit (assigned s) lit → Derived (negations (map (false_lit s) tags)) [] lit
 literal_given s tags lit is holds =
     let conflict : List Lit = map (false_lit s) tags in
     let one : Contains conflict (opposite lit) = subst (λ (l : Lit). Contains conflict l) (false_is_opposite s lit holds) (contains_map (false_lit s) tags lit.variable is) in
@@ -145,7 +145,7 @@ same_bound : (kind : Kind) (positive : Bool) (edge other : Edge) → bound_of ki
 same_bound kind positive edge other is same = is ∙ ap (λ (e : Edge). Some e) same
 
 -- the edges of the tagged bounds are those of literals that the negation of the clause gives
-edge_derived : (edges : List Edge) (kinds : List Kind) (s : State) (bounds : List Bound) → ((b : Bound) → Contains bounds b → IsKnown edges kinds (assigned s) b)
+edge_derived : (edges : List Edge) (kinds : List Kind) (s : SolverForm) (bounds : List Bound) → ((b : Bound) → Contains bounds b → IsKnown edges kinds (assigned s) b)
     → (edge : Edge) → Contains (tagged_edges bounds) edge → IsDerivedBound kinds [] (negations (map (false_lit s) (tags_of bounds))) edge
 edge_derived edges kinds s bounds each edge is =
     let b = filtered_cases (λ (x : Bound). edge_if x.edge x.tag) bounds edge is in
@@ -156,7 +156,7 @@ edge_derived edges kinds s bounds each edge is =
     (told.0, kind.0, literal_given s (tags_of bounds) told.0 among told.2, kind.1, same_bound kind.0 told.0.positive b.0.edge edge kind.2 tag.2)
 
 -- what the tags of known bounds name
-tags_told : (edges : List Edge) (kinds : List Kind) (s : State) (bounds : List Bound) → ((b : Bound) → Contains bounds b → IsKnown edges kinds (assigned s) b)
+tags_told : (edges : List Edge) (kinds : List Kind) (s : SolverForm) (bounds : List Bound) → ((b : Bound) → Contains bounds b → IsKnown edges kinds (assigned s) b)
     → (tag : ℕ) → Contains (tags_of bounds) tag → (lit : Lit) × (lit.variable ≡ tag) × IsTrueLit (assigned s) lit × (lit.variable < length kinds)
 tags_told edges kinds s bounds each tag is =
     let b = filtered_cases (λ (x : Bound). x.tag) bounds tag is in
@@ -165,12 +165,12 @@ tags_told edges kinds s bounds each tag is =
     (told.0, told.1, told.2, slice_get_within kinds told.0.variable kind.0 kind.1)
 
 -- the false literals of tags are false, and pass with no clause where the tags are those of a negative cycle
-pub record IsClash (edges : List Edge) (kinds : List Kind) (s : State) (tags : List ℕ) : Type 0 where
+pub record IsClash (edges : List Edge) (kinds : List Kind) (s : SolverForm) (tags : List ℕ) : Type 0 where
   pub known : (tag : ℕ) → Contains tags tag → (a : Assigned) × (assigned s tag ≡ Some a)
   pub all_false : Each (IsFalse (assigned s)) (map (false_lit s) tags)
   pub passes : Passes edges kinds [] (map (false_lit s) tags)
 
-clash_all : (edges : List Edge) (kinds : List Kind) (s : State) (walk : List Bound) (new : Bound)
+clash_all : (edges : List Edge) (kinds : List Kind) (s : SolverForm) (walk : List Bound) (new : Bound)
     → ((b : Bound) → Contains (walk ++ new ∷ []) b → IsKnown edges kinds (assigned s) b) → IsWalk new.edge.b (edges_of walk) new.edge.a
     → (weight (edges_of walk) +ℤ new.edge.c) <ℤ pos 0 → IsClash edges kinds s (tags_of (walk ++ new ∷ []))
 clash_all edges kinds s walk new each leads negative =
@@ -205,7 +205,7 @@ clash_all edges kinds s walk new each leads negative =
     }
 
 -- the tags of a cycle through a new bound
-pub clash : (edges : List Edge) (kinds : List Kind) (s : State) (bounds : List Bound) (new : Bound) (tags : List ℕ)
+pub clash : (edges : List Edge) (kinds : List Kind) (s : SolverForm) (bounds : List Bound) (new : Bound) (tags : List ℕ)
     → ((b : Bound) → Contains bounds b → IsKnown edges kinds (assigned s) b) → IsKnown edges kinds (assigned s) new → Explains bounds new tags
     → IsClash edges kinds s tags
 clash edges kinds s bounds new tags olds one (walk, closes, are) =

@@ -1,7 +1,7 @@
 pub mod Lists
 pub mod Heads
 pub mod Cycles
-pub mod Lessons
+pub mod LearnedSteps
 pub mod Wholes
 pub mod Asserting
 pub mod Trails

@@ -1,4 +1,4 @@
--- What a lesson is, and what a turn keeps true when it is logged.
+-- What a learned step is, and what a turn keeps true when it is logged.
 use Rattle.std.proofs.Common.{◌≡◌, refl, sym, ◌∙◌, ap, subst, ℕ, ◌+◌, ◌<◌, ◌≤◌, ◌^◌, Bool, true, false, Option, Some, None, List, [], ◌∷◌, ◌++◌, length, get_or, map, Contains, ◌⊎◌, inl, inr, append_assoc, arith}
 use Rattle.std.specs.List.{slice_get}
 use Rattle.std.proofs.lemmas.Bool.{cases_lt}
@@ -14,24 +14,24 @@ use Rattle.gp_derivation.specs.declared.log.Origin.TheVariants.{Learned}
 use Rattle.gp_derivation.specs.declared.step.Step.{Step}
 use Rattle.gp_derivation.specs.Log.{IsLearned, IsPure, LogGrows, LearnedPasses}
 use Rattle.gp_derivation.specs.Log.IsPure.{taken, learned}
-use Rattle.gp_derivation.proofs.Lists.{got_front, slice_get_back}
-use Rattle.gp_difference.specs.Graph.{Constraints}
+use Rattle.gp_derivation.specs.ListLaws.{got_front, slice_get_back}
+use Rattle.gp_difference.specs.Graph.{GraphForm}
 use Rattle.gp_sat.specs.declared.assigned.Assigned.{Assigned}
-use Rattle.gp_sat.specs.declared.stored.Stored.{Stored}
-use Rattle.gp_sat.specs.State.{State, assigned, clause_at, no_clause, IsAttached, with_clause}
+use Rattle.gp_sat.specs.Stored.{Stored}
+use Rattle.gp_sat.specs.State.{SolverForm, assigned, clause_at, no_clause, IsAttached, with_clause}
 use Rattle.gp_sat.specs.Standing.{IsFalse, Each}
 use Rattle.gp_sat.specs.Sound.{IsSound}
 use Rattle.gp_sat.specs.Changes.{Backjumps, MayAttach}
 use Rattle.gp_sat.specs.Learning.{HasOnePresent, IsHighestBelow, IsBelowLevel}
-use Rattle.gp_sat.proofs.Storing.{attached_within}
+use Rattle.gp_sat.specs.SolverLaws.{attached_within}
 use Rattle.gp_search.specs.declared.engine.Engine.{Engine}
-use Rattle.gp_search.specs.Inside.{all_kinds, IsPlain, IsMarked, IsStored, IsPassing, IsTurning, IsReasoned, IsAsserted, IsAssuming, IsGraphOf}
+use Rattle.gp_search.specs.Inside.{all_kinds, IsPlain, IsMarked, IsStored, IsKeeping, IsPassing, IsTurning, IsReasoned, IsAsserted, IsAssuming, IsGraphOf}
 use Rattle.gp_search.specs.Moves.{RestsOnMarked}
-use Rattle.gp_search.proofs.Lessons.{clauses_counted}
+use Rattle.gp_search.proofs.LearnedSteps.{clauses_counted}
 use Rattle.gp_search.proofs.Trails.{back_was, back_stays}
 
 -- a literal of the level that was left is unassigned
-left_free : (old new : State) (level v : ℕ) (a : Assigned) → Backjumps old new level → assigned old v ≡ Some a → level < a.level → assigned new v ≡ None
+left_free : (old new : SolverForm) (level v : ℕ) (a : Assigned) → Backjumps old new level → assigned old v ≡ Some a → level < a.level → assigned new v ≡ None
 left_free old new level v a back is above = at (assigned new v) refl
   where
     at : (o : Option Assigned) → assigned new v ≡ o → o ≡ None
@@ -41,8 +41,8 @@ left_free old new level v a back is above = at (assigned new v) refl
         let same : b ≡ a = let one : Some b ≡ Some a = sym was.0 ∙ is in same_Some b a one in
         absurd (omega (arith, was.1, above, ap (λ (x : Assigned). x.level) same))
 
--- the clause of a lesson asserts its literal of the level that was left
-pub may_attach : (old new : State) (clause : List Lit) (level : ℕ) → Backjumps old new level → Each (IsFalse (assigned old)) clause → HasOnePresent old clause → IsHighestBelow old clause level → level < old.level
+-- the clause of a learned step asserts its literal of the level that was left
+pub may_attach : (old new : SolverForm) (clause : List Lit) (level : ℕ) → Backjumps old new level → Each (IsFalse (assigned old)) clause → HasOnePresent old clause → IsHighestBelow old clause level → level < old.level
     → MayAttach new clause
 may_attach old new clause level back all_false point highest below = elim highest.reached [
   | inl bottom ↦ inl (back.reached ∙ bottom)
@@ -59,8 +59,8 @@ may_attach old new clause level back all_false point highest below = elim highes
   })
 ]
 
--- the level of a lesson is below the one at which it was learned
-pub lesson_below : (s : State) (clause : List Lit) (level : ℕ) → 0 < s.level → IsHighestBelow s clause level → level < s.level
+-- the level of a learned step is below the one at which it was learned
+pub lesson_below : (s : SolverForm) (clause : List Lit) (level : ℕ) → 0 < s.level → IsHighestBelow s clause level → level < s.level
 lesson_below s clause level above highest = elim highest.reached [
   | inl bottom ↦ omega (arith, bottom, above)
   | inr one ↦ one.3
@@ -131,6 +131,29 @@ attached_cases clauses new number is = elim (cases_lt number (length clauses)) [
       inr (sym at_end, ap (λ (s : Stored). s.clause) (get_or_push clauses new no_clause number at_end))
 ]
 
+-- what stays attached stays so with one entry more
+keeping_more : (bases begins : ℕ) (log : List LogEntry) (entry : LogEntry) (marks : List Bool) (mark : Bool) (clauses : List Stored) (clause : List Lit) → length marks ≡ length log → length clauses ≡ bases + length log
+    → IsKeeping bases begins (length log) marks clauses → IsKeeping bases begins (length (log ++ entry ∷ [])) (marks ++ mark ∷ []) (clauses ++ record { clause = clause; attached = true } ∷ [])
+keeping_more bases begins log entry marks mark clauses clause size counted old = record {
+  current = λ place low high. elim (cases_lt place (length log)) [
+    | inl before ↦ attached_old clauses new (bases + place) (old.current place low before)
+    | inr after ↦ last place (omega (arith, after, high, length_push log entry))
+  ];
+  marked = λ place is. elim (cases_lt place (length marks)) [
+    | inl before ↦ attached_old clauses new (bases + place) (old.marked place (sym (get_or_append_left marks (mark ∷ []) false place before) ∙ is))
+    | inr after ↦ elim (cases_lt (length marks) place) [
+      | inl past ↦ absurd (let none : get_or (marks ++ mark ∷ []) place false ≡ false = get_or_past (marks ++ mark ∷ []) place false (omega (arith, past, length_push marks mark)) in let clash : ⊥ = cc in clash)
+      | inr same ↦ last place (omega (arith, after, same, size))
+    ]
+  ];
+}
+  where
+    new : Stored
+    new = record { clause = clause; attached = true }
+
+    last : (place : ℕ) → place ≡ length log → IsAttached (clauses ++ new ∷ []) (bases + place)
+    last place at_end = ap (λ (s : Stored). s.attached) (get_or_push clauses new no_clause (bases + place) (omega (arith, counted, at_end)))
+
 stored_more : (problem : Problem) (begins names : ℕ) (log : List LogEntry) (clauses : List Stored) (entry : LogEntry) → begins ≤ length log → NamesBelow names entry.step.clause → IsStored problem begins names log clauses
     → IsStored problem begins names (log ++ entry ∷ []) (clauses ++ record { clause = entry.step.clause; attached = true } ∷ [])
 stored_more problem begins names log clauses entry began below old = record {
@@ -155,7 +178,8 @@ stored_more problem begins names log clauses entry began below old = record {
 
 -- the state of a turn with one more learned entry
 pub record Logs (old new : Engine) (entry : LogEntry) (mark : Bool) : Type 0 where
-  pub solver : new.solver ≡ with_clause old.solver entry.step.clause
+  pub order : List ℕ
+  pub solver : new.solver ≡ record (with_clause old.solver entry.step.clause) { order = order }
   pub graph : new.graph ≡ old.graph
   pub log : new.log.items ≡ old.log.items ++ entry ∷ []
   pub pure : new.pure.items ≡ old.pure.items ++ mark ∷ []
@@ -173,8 +197,8 @@ pub logged_more : (problem : Problem) (query : Query) (old new : Engine) (step :
 logged_more problem query old new step mark grows turning sound more rests passes few =
     let entry : LogEntry = entry_of step in
     let names : ℕ = length (all_kinds problem query) in
-    let s : State = old.solver in
-    let t : State = with_clause s step.clause in
+    let s : SolverForm = old.solver in
+    let t : SolverForm = record (with_clause s step.clause) { order = more.order } in
     let log : IsPassing problem query.locals (old.log.items ++ entry ∷ []) old.begins = record {
       began = omega (arith, turning.whole.log.began, length_push old.log.items entry);
       learned = All-push (λ (e : LogEntry). IsLearned e.origin) old.log.items entry turning.whole.log.learned tt;
@@ -182,9 +206,11 @@ logged_more problem query old new step mark grows turning sound more rests passe
     } in
     let stored : IsStored problem old.begins names (old.log.items ++ entry ∷ []) t.clauses =
     stored_more problem old.begins names old.log.items s.clauses entry turning.whole.log.began passes.passes.in_range turning.whole.stored in
+    let keeping : IsKeeping (length problem.clauses) old.begins (length (old.log.items ++ entry ∷ [])) (old.pure.items ++ mark ∷ []) t.clauses =
+    keeping_more (length problem.clauses) old.begins old.log.items entry old.pure.items mark s.clauses step.clause turning.whole.marked.size (clauses_counted problem old.log.items s.clauses turning.whole.stored.lits) turning.whole.keeping in
     let marked : IsMarked problem (old.log.items ++ entry ∷ []) (old.pure.items ++ mark ∷ []) = marked_more problem old.log.items old.pure.items entry mark turning.whole.marked rests in
-    let solver_at : (P : State → Type 0) → P t → P new.solver = λ P is. subst P (sym more.solver) is in
-    let values : length new.solver.values ≡ length s.values = ap (λ (x : State). length x.values) more.solver in
+    let solver_at : (P : SolverForm → Type 0) → P t → P new.solver = λ P is. subst P (sym more.solver) is in
+    let values : length new.solver.values ≡ length s.values = ap (λ (x : SolverForm). length x.values) more.solver in
     let reasoned : IsReasoned names t = record {
       attached = λ v a number is reason. attached_old s.clauses (record { clause = step.clause; attached = true }) number (turning.reasoned.attached v a number is reason);
       below = λ v a is. turning.reasoned.below v a is;
@@ -209,15 +235,20 @@ logged_more problem query old new step mark grows turning sound more rests passe
         stored = subst (λ (n : ℕ). IsStored problem n names new.log.items new.solver.clauses) (sym more.begins)
             (subst (λ (xs : List LogEntry). IsStored problem old.begins names xs new.solver.clauses) (sym more.log)
             (solver_at (λ x. IsStored problem old.begins names (old.log.items ++ entry ∷ []) x.clauses) stored));
+        keeping = subst (λ (n : ℕ). IsKeeping (length problem.clauses) n (length new.log.items) new.pure.items new.solver.clauses) (sym more.begins)
+            (subst (λ (xs : List LogEntry). IsKeeping (length problem.clauses) old.begins (length xs) new.pure.items new.solver.clauses) (sym more.log)
+            (subst (λ (bs : List Bool). IsKeeping (length problem.clauses) old.begins (length (old.log.items ++ entry ∷ [])) bs new.solver.clauses) (sym more.pure)
+            (solver_at (λ x. IsKeeping (length problem.clauses) old.begins (length (old.log.items ++ entry ∷ [])) (old.pure.items ++ mark ∷ []) x.clauses) keeping)));
         marked = subst (λ (xs : List LogEntry). IsMarked problem xs new.pure.items) (sym more.log) (subst (λ (bs : List Bool). IsMarked problem (old.log.items ++ entry ∷ []) bs) (sym more.pure) marked);
-        graph = subst (λ (g : Constraints). IsGraphOf problem g) (sym more.graph) turning.whole.graph;
+        graph = subst (λ (g : GraphForm). IsGraphOf problem g) (sym more.graph) turning.whole.graph;
         variables = omega (arith, values, turning.whole.variables);
       };
       variables = omega (arith, values, turning.variables);
+      used = ap (λ (x : SolverForm). x.used) more.solver ∙ turning.used;
       sound = sound;
       reasoned = solver_at (IsReasoned names) reasoned;
       asserted = subst (λ (n : ℕ). IsAsserted (all_kinds problem query) new.solver new.graph n) (sym more.asserted)
-          (subst (λ (g : Constraints). IsAsserted (all_kinds problem query) new.solver g old.asserted) (sym more.graph)
+          (subst (λ (g : GraphForm). IsAsserted (all_kinds problem query) new.solver g old.asserted) (sym more.graph)
           (solver_at (λ x. IsAsserted (all_kinds problem query) x old.graph old.asserted) asserted));
       assuming = subst (λ (n : ℕ). IsAssuming query.assumed new.solver n) (sym more.assumed) (solver_at (λ x. IsAssuming query.assumed x old.assumed) assuming);
     }

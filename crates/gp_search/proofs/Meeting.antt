@@ -17,13 +17,13 @@ use Rattle.gp_clause.specs.Lit.{HoldsLit, opposite}
 use Rattle.gp_clause.specs.Valuation.{Meets, truth_of, place_of}
 use Rattle.gp_derivation.specs.declared.log.LogEntry.{LogEntry}
 use Rattle.gp_derivation.specs.Log.{logged}
-use Rattle.gp_derivation.proofs.Lists.{contains_map, slice_get_front}
+use Rattle.gp_derivation.specs.ListLaws.{contains_map, slice_get_front}
 use Rattle.gp_difference.specs.declared.bound.Bound.{Bound}
 use Rattle.gp_difference.specs.Bounds.{untagged, tagged}
-use Rattle.gp_difference.specs.Graph.{Constraints, IsFeasible, bounds_of, all_edges}
+use Rattle.gp_difference.specs.Graph.{GraphForm, IsFeasible, bounds_of, all_edges}
 use Rattle.gp_difference.specs.Places.{place_at}
 use Rattle.gp_sat.specs.declared.assigned.Assigned.{Assigned}
-use Rattle.gp_sat.specs.State.{State, assigned, clause_at}
+use Rattle.gp_sat.specs.State.{SolverForm, assigned, clause_at}
 use Rattle.gp_sat.specs.Standing.{IsQuiet}
 use Rattle.gp_sat.specs.Sound.{IsSound, true_lit}
 use Rattle.gp_search.specs.declared.engine.Engine.{Engine}
@@ -31,15 +31,15 @@ use Rattle.gp_search.specs.Bounds.{lit_bound, bound_by, under, bounds_along}
 use Rattle.gp_search.specs.Inside.{all_kinds, IsTurning, IsSettled}
 use Rattle.gp_search.specs.Moves.{IsAllAssigned, IsAllTrue, IsTruthOf, is_true}
 use Rattle.gp_search.proofs.Cycles.{all_from_contains}
-use Rattle.gp_search.proofs.Lessons.{clause_got, clauses_counted}
+use Rattle.gp_search.proofs.LearnedSteps.{clause_got, clauses_counted}
 use Rattle.gp_search.proofs.Lists.{filtered}
 
 -- the truth value of an assigned variable
-truth_is : (s : State) (names : ℕ) (truth : List Bool) (v : ℕ) (a : Assigned) → IsTruthOf s names truth → v < names → assigned s v ≡ Some a → get_or truth v false ≡ a.positive
+truth_is : (s : SolverForm) (names : ℕ) (truth : List Bool) (v : ℕ) (a : Assigned) → IsTruthOf s names truth → v < names → assigned s v ≡ Some a → get_or truth v false ≡ a.positive
 truth_is s names truth v a told below is = told.same v below ∙ ap is_true is
 
 -- a base clause is true
-base_true : (s : State) (names : ℕ) (truth : List Bool) (clause : List Lit) → TrueOrFalse → IsSound s → IsTruthOf s names truth → IsAllAssigned names s → NamesBelow names clause → IsQuiet s.level (assigned s) clause
+base_true : (s : SolverForm) (names : ℕ) (truth : List Bool) (clause : List Lit) → TrueOrFalse → IsSound s → IsTruthOf s names truth → IsAllAssigned names s → NamesBelow names clause → IsQuiet s.level (assigned s) clause
     → HoldsClause (λ v. get_or truth v false) clause
 base_true s names truth clause laws sound told all names_below quiet = at (laws (λ v. get_or truth v false) clause)
   where
@@ -64,7 +64,7 @@ base_at problem query engine turning clause (number, within, is) =
     (number, within, same ∙ is)
 
 -- the bound of a true literal of the trail is kept
-bound_kept : (kinds : List Kind) (graph : Constraints) (trail : List Lit) (lit : Lit) (place : ℕ → ℤ) → graph.kept ≡ bounds_along kinds trail → All (Keeps place) (all_edges graph) → Contains trail lit
+bound_kept : (kinds : List Kind) (graph : GraphForm) (trail : List Lit) (lit : Lit) (place : ℕ → ℤ) → graph.kept ≡ bounds_along kinds trail → All (Keeps place) (all_edges graph) → Contains trail lit
     → KeepsBound place (lit_bound kinds lit)
 bound_kept kinds graph trail lit place same keeps is = at (lit_bound kinds lit) refl
   where
@@ -78,20 +78,20 @@ bound_kept kinds graph trail lit place same keeps is = at (lit_bound kinds lit) 
         All-contains (Keeps place) (all_edges graph) edge keeps (contains_map (λ (b : Bound). b.edge) (bounds_of graph) (tagged edge lit.variable) three)
 
 -- the fixed edges are among all
-edge_among : (graph : Constraints) (edge : Edge) → Contains graph.edges edge → Contains (all_edges graph) edge
+edge_among : (graph : GraphForm) (edge : Edge) → Contains graph.edges edge → Contains (all_edges graph) edge
 edge_among graph edge is =
     let one : Contains (map untagged graph.edges) (untagged edge) = contains_map untagged graph.edges edge is in
     contains_map (λ (b : Bound). b.edge) (bounds_of graph) (untagged edge) (Contains-append_left (map untagged graph.edges) graph.kept (untagged edge) one)
 
 -- the true literal of an assigned variable stands in the trail
-in_trail : (s : State) (v : ℕ) (a : Assigned) → IsSound s → assigned s v ≡ Some a → Contains s.trail (true_lit v a)
+in_trail : (s : SolverForm) (v : ℕ) (a : Assigned) → IsSound s → assigned s v ≡ Some a → Contains s.trail (true_lit v a)
 in_trail s v a sound is = (a.place, sound.ordered.within v a is, sound.ordered.on_trail v a (true_lit v a) is)
 
 pub model_meets : (problem : Problem) (query : Query) (engine : Engine) (valuation : Valuation) → TrueOrFalse → IsTurning problem query engine → IsSettled engine
     → IsAllAssigned (length (all_kinds problem query)) engine.solver → IsAllTrue query.assumed engine.solver → IsFeasible engine.graph
     → IsTruthOf engine.solver (length (all_kinds problem query)) valuation.truth → valuation.places ≡ engine.graph.places → Meets problem query valuation
 model_meets problem query engine valuation laws turning settled all assumed feasible told places =
-    let s : State = engine.solver in
+    let s : SolverForm = engine.solver in
     let kinds : List Kind = all_kinds problem query in
     let size : length kinds ≡ length problem.kinds + length query.locals = length-append problem.kinds query.locals in
     let keeps : All (Keeps (place_of valuation)) (all_edges engine.graph) =

@@ -1,5 +1,6 @@
 -- The last steps of refutations, and their cones.
 use Rattle.std.proofs.Common.{◌≡◌, ◌≢◌, refl, sym, ◌∙◌, ap, subst, ℕ, ◌+◌, ◌<◌, ◌≤◌, ◌==◌, Bool, true, false, cond, not, Some, List, [], ◌∷◌, ◌++◌, length, All, Contains, sum_by, IsPermutation, inl, inr, arith}
+use Rattle.std.specs.Prelude.{Result, Ok, Err, IsOk, IsErr, IfOk}
 use Rattle.std.proofs.lemmas.Bool.{cases_lt, cases_eq}
 use Rattle.std.proofs.lemmas.Bool.Decides.{nat_tests}
 use Rattle.std.proofs.lemmas.Option.{same_Some}
@@ -10,18 +11,19 @@ use Rattle.gp_clause.specs.declared.kind.Kind.{Kind}
 use Rattle.gp_clause.specs.declared.lit.Lit.{Lit}
 use Rattle.gp_clause.specs.declared.problem.Problem.{Problem}
 use Rattle.gp_clause.specs.declared.problem.Query.{Query}
-use Rattle.gp_clause.specs.Clause.{occurrences, IsRising}
+use Rattle.gp_clause.specs.Clause.{occurrences, IsRising, NamesTwice}
+use Rattle.gp_clause.specs.declared.clause.BadClause.{BadClause}
 use Rattle.gp_clause.specs.Lit.{opposite}
-use Rattle.gp_clause.proofs.Occurrences.{once_from_rising}
+use Rattle.gp_clause.specs.OccurrenceLaws.{once_from_rising}
 use Rattle.gp_derivation.specs.declared.log.LogEntry.{LogEntry}
 use Rattle.gp_derivation.specs.declared.log.Origin.{Origin}
 use Rattle.gp_derivation.specs.declared.log.Origin.TheVariants.{Learned, Taken}
 use Rattle.gp_derivation.specs.declared.step.Step.{Step}
 use Rattle.gp_derivation.specs.Log.{IsLearned, LearnedPasses, OriginPasses}
 use Rattle.gp_derivation.specs.Numbering.{CanBeNumbered, NamesEarlier, size_of}
-use Rattle.gp_derivation.proofs.Lists.{contains_got}
+use Rattle.gp_derivation.specs.ListLaws.{contains_got}
 use Rattle.gp_sat.specs.declared.assigned.Assigned.{Assigned}
-use Rattle.gp_sat.specs.State.{State, assigned}
+use Rattle.gp_sat.specs.State.{SolverForm, assigned}
 use Rattle.gp_sat.specs.Standing.{IsFalse, Each}
 use Rattle.gp_sat.specs.Sound.{true_lit}
 use Rattle.gp_sat.specs.Learning.{IsLearned as Follows, IsDecided}
@@ -29,8 +31,17 @@ use Rattle.gp_search.specs.declared.engine.Engine.{Engine}
 use Rattle.gp_search.specs.Inside.{all_kinds, IsTurning, IsAssuming}
 use Rattle.gp_search.proofs.Cycles.{all_from_contains}
 use Rattle.gp_search.proofs.Heads.{opposite_twice}
-use Rattle.gp_search.proofs.Lessons.{final_passes}
+use Rattle.gp_search.proofs.LearnedSteps.{final_passes}
 use Rattle.gp_search.proofs.Lists.{contains_cases, here, there}
+
+-- literals of which none has the variable of another one make a clause
+pub makes_clause : (r : Result (List Lit) BadClause) (lits : List Lit) → (IsErr r → NamesTwice lits) → ((variable : ℕ) → occurrences variable lits ≤ 1) → IsOk r
+makes_clause (Ok clause) lits twice once = refl
+makes_clause (Err e) lits twice once = let both : NamesTwice lits = twice refl in absurd (omega (arith, both.1, once both.0))
+
+-- the clause has the literals in another order
+pub clause_sorted : (r : Result (List Lit) BadClause) (lits clause : List Lit) → IfOk r (λ c. IsPermutation lits c) → r ≡ Ok clause → IsPermutation lits clause
+clause_sorted r lits clause sorted is = let P : Result (List Lit) BadClause → Type 0 = λ x. IfOk x (λ c. IsPermutation lits c) in subst P is sorted
 
 -- learned entries count one each
 learned_sizes : (log : List LogEntry) → All (λ (entry : LogEntry). IsLearned entry.origin) log → sum_by size_of log ≡ length log
@@ -104,7 +115,7 @@ occurs_nowhere v (lit ∷ lits) apart =
     omega (arith, sum_by-cons (counted v) lit lits, counted_none v lit (apart lit (here lit lits)), occurs_nowhere v lits (λ other is. apart other (there lit lits other is)))
 
 -- a false literal that was decided is the negation of what is assumed, where every decision is
-pub decided_negated : (query : Query) (s : State) (assumed : ℕ) (lit : Lit) → IsAssuming query.assumed s assumed → s.level ≤ assumed → ((v : ℕ) (a : Assigned) → assigned s v ≡ Some a → a.level ≤ s.level) → IsDecided s lit → IsFalse (assigned s) lit
+pub decided_negated : (query : Query) (s : SolverForm) (assumed : ℕ) (lit : Lit) → IsAssuming query.assumed s assumed → s.level ≤ assumed → ((v : ℕ) (a : Assigned) → assigned s v ≡ Some a → a.level ≤ s.level) → IsDecided s lit → IsFalse (assigned s) lit
     → Contains query.assumed (opposite lit)
 decided_negated query s assumed lit assuming low levels (a, is, none) (b, also, sign) =
     let same : a ≡ b = let both : Some a ≡ Some b = sym is ∙ also in same_Some a b both in

@@ -6,7 +6,7 @@ use Rattle.gp_clause.specs.declared.problem.Problem.{Problem}
 use Rattle.gp_clause.specs.declared.problem.Query.{Query}
 use Rattle.gp_derivation.specs.declared.log.LogEntry.{LogEntry}
 use Rattle.gp_derivation.specs.Log.{IsLearned, EntryPasses, LogPasses}
-use Rattle.gp_derivation.proofs.Lists.{contains_got}
+use Rattle.gp_derivation.specs.ListLaws.{contains_got}
 use Rattle.gp_search.specs.declared.engine.Engine.{Engine}
 use Rattle.gp_search.specs.Inside.{IsWhole, IsTurning}
 use Rattle.gp_search.specs.Moves.{KeepsLog, LearnsOne, Adds, IsGrown}

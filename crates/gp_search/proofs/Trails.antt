@@ -9,16 +9,16 @@ use Rattle.gp_clause.specs.declared.problem.Problem.{Problem}
 use Rattle.gp_clause.specs.declared.problem.Query.{Query}
 use Rattle.gp_clause.specs.Clause.{NamesBelow}
 use Rattle.gp_difference.specs.declared.bound.Bound.{Bound}
-use Rattle.gp_difference.specs.Graph.{Constraints}
+use Rattle.gp_difference.specs.Graph.{GraphForm}
 use Rattle.gp_sat.specs.declared.assigned.Assigned.{Assigned}
-use Rattle.gp_sat.specs.declared.stored.Stored.{Stored}
-use Rattle.gp_sat.specs.State.{State, assigned, clause_at, IsAttached, with_literal, kept_to}
+use Rattle.gp_sat.specs.Stored.{Stored}
+use Rattle.gp_sat.specs.State.{SolverForm, assigned, clause_at, IsAttached, with_literal, kept_to}
 use Rattle.gp_sat.specs.Standing.{IsFalse, IsQuiet, Each}
 use Rattle.gp_sat.specs.Sound.{IsSound, true_lit}
 use Rattle.gp_sat.specs.Changes.{Propagates, Backjumps, IsOfLevel, IsUpTo, HasPresent}
 use Rattle.gp_sat.specs.Looking.{IsTrueLit}
-use Rattle.gp_sat.proofs.Adding.{Adds, added, adds_literal, added_cases, added_stays}
-use Rattle.gp_sat.proofs.Cutting.{kept_at, kept_was, kept_stays}
+use Rattle.gp_sat.specs.SolverLaws.{Adds, added, adds_literal, added_cases, added_stays}
+use Rattle.gp_sat.specs.SolverLaws.{kept_at, kept_was, kept_stays}
 use Rattle.gp_search.specs.declared.engine.Engine.{Engine}
 use Rattle.gp_search.specs.Bounds.{lit_bound, under, bounds_along}
 use Rattle.gp_search.specs.Inside.{all_kinds, IsTurning, IsAsserted, IsReasoned, IsAssuming, IsTrueTo}
@@ -26,7 +26,7 @@ use Rattle.gp_search.proofs.Lists.{contains_cases, here, there}
 use Rattle.gp_search.proofs.Wholes.{whole_moved, moved}
 
 -- the reasons after a propagation
-reasoned_more : (names : ℕ) (old new : State) → ((number : ℕ) → IsAttached old.clauses number → NamesBelow names (clause_at old.clauses number)) → Propagates old new → IsReasoned names old → IsReasoned names new
+reasoned_more : (names : ℕ) (old new : SolverForm) → ((number : ℕ) → IsAttached old.clauses number → NamesBelow names (clause_at old.clauses number)) → Propagates old new → IsReasoned names old → IsReasoned names new
 reasoned_more names old new named more reasoned = record {
   attached = λ v a number is reason. elim (more.forced v a is) [
     | inl was ↦ subst (λ (cs : List Stored). IsAttached cs number) (sym more.clauses) (reasoned.attached v a number was reason)
@@ -42,7 +42,7 @@ reasoned_more names old new named more reasoned = record {
 }
 
 -- what the graph keeps after a propagation
-asserted_more : (kinds : List Kind) (old new : State) (graph : Constraints) (asserted : ℕ) → IsSound old → IsSound new → Propagates old new → IsAsserted kinds old graph asserted → IsAsserted kinds new graph asserted
+asserted_more : (kinds : List Kind) (old new : SolverForm) (graph : GraphForm) (asserted : ℕ) → IsSound old → IsSound new → Propagates old new → IsAsserted kinds old graph asserted → IsAsserted kinds new graph asserted
 asserted_more kinds old new graph asserted old_sound sound more was = record {
   within = omega (arith, longer, was.within);
   kept = was.kept ∙ ap (bounds_along kinds) (sym (ap (take asserted) more.added.1 ∙ take-append-le asserted old.trail more.added.0 was.within));
@@ -65,7 +65,7 @@ asserted_more kinds old new graph asserted old_sound sound more was = record {
     longer = omega (arith, ap (λ (ls : List Lit). length ls) more.added.1, length-append old.trail more.added.0)
 
 -- the decisions after a propagation
-assuming_more : (assumed : List Lit) (old new : State) (level : ℕ) → Propagates old new → IsAssuming assumed old level → IsAssuming assumed new level
+assuming_more : (assumed : List Lit) (old new : SolverForm) (level : ℕ) → Propagates old new → IsAssuming assumed old level → IsAssuming assumed new level
 assuming_more assumed old new level more was = record {
   within = omega (arith, more.level, was.within);
   decided = λ v a is none low. elim (more.forced v a is) [
@@ -75,11 +75,12 @@ assuming_more assumed old new level more was = record {
   all_true = λ above lit among. let one = was.all_true (omega (arith, above, more.level)) lit among in (one.0, more.stays lit.variable one.0 one.1, one.2, one.3);
 }
 
-pub propagated : (problem : Problem) (query : Query) (engine : Engine) (solver : State) → IsTurning problem query engine → IsSound solver → Propagates engine.solver solver
+pub propagated : (problem : Problem) (query : Query) (engine : Engine) (solver : SolverForm) → IsTurning problem query engine → IsSound solver → Propagates engine.solver solver
     → IsTurning problem query (record engine { solver = solver })
 propagated problem query engine solver turning sound more = record {
   whole = whole_moved problem query engine solver engine.graph engine.asserted engine.assumed turning.whole more.clauses more.variables turning.whole.graph;
   variables = omega (arith, more.variables, turning.variables);
+  used = more.used ∙ turning.used;
   sound = sound;
   reasoned = reasoned_more (length (all_kinds problem query)) engine.solver solver turning.whole.stored.named more turning.reasoned;
   asserted = asserted_more (all_kinds problem query) engine.solver solver engine.graph engine.asserted turning.sound sound more turning.asserted;
@@ -87,7 +88,7 @@ propagated problem query engine solver turning sound more = record {
 }
 
 -- the reasons after a decision
-reasoned_decided : (names : ℕ) (s : State) (lit : Lit) (level : ℕ) → lit.variable < length s.values → assigned s lit.variable ≡ None → lit.variable < names → IsReasoned names s
+reasoned_decided : (names : ℕ) (s : SolverForm) (lit : Lit) (level : ℕ) → lit.variable < length s.values → assigned s lit.variable ≡ None → lit.variable < names → IsReasoned names s
     → IsReasoned names (with_literal s lit level None)
 reasoned_decided names s lit level within free below was =
     let adds : Adds (assigned s) (assigned (with_literal s lit level None)) lit.variable (added s lit level None) = adds_literal s lit level None within free in record {
@@ -102,7 +103,7 @@ reasoned_decided names s lit level within free below was =
     }
 
 -- what the graph keeps after a decision, where it had the bounds of the whole trail
-asserted_decided : (kinds : List Kind) (s : State) (graph : Constraints) (asserted level : ℕ) (lit : Lit) → lit.variable < length s.values → assigned s lit.variable ≡ None → asserted ≡ length s.trail
+asserted_decided : (kinds : List Kind) (s : SolverForm) (graph : GraphForm) (asserted level : ℕ) (lit : Lit) → lit.variable < length s.values → assigned s lit.variable ≡ None → asserted ≡ length s.trail
     → length (with_literal s lit level None).values ≡ length s.values → IsAsserted kinds s graph asserted → IsAsserted kinds (with_literal s lit level None) graph asserted
 asserted_decided kinds s graph asserted level lit inside free all values was = record {
   within = omega (arith, all, length_push s.trail lit);
@@ -119,12 +120,13 @@ decided_but : (problem : Problem) (query : Query) (engine : Engine) (lit : Lit) 
     → engine.asserted ≡ length engine.solver.trail → assigned engine.solver lit.variable ≡ None → lit.variable < length (all_kinds problem query)
     → IsAssuming query.assumed (with_literal engine.solver lit level None) assumed → IsTurning problem query (record engine { solver = with_literal engine.solver lit level None; assumed = assumed })
 decided_but problem query engine lit level assumed turning sound all free below assuming =
-    let s : State = engine.solver in
+    let s : SolverForm = engine.solver in
     let inside : lit.variable < length s.values = omega (arith, below, turning.variables) in
     let values : length (with_literal s lit level None).values ≡ length s.values = length-set s.values lit.variable (Some (added s lit level None)) in
     record {
       whole = whole_moved problem query engine (with_literal s lit level None) engine.graph engine.asserted assumed turning.whole refl values turning.whole.graph;
       variables = omega (arith, values, turning.variables);
+      used = turning.used;
       sound = sound;
       reasoned = reasoned_decided (length (all_kinds problem query)) s lit level inside free below turning.reasoned;
       asserted = asserted_decided (all_kinds problem query) s engine.graph engine.asserted level lit inside free all values turning.asserted;
@@ -132,17 +134,17 @@ decided_but problem query engine lit level assumed turning sound all free below 
     }
 
 -- an assumption was decided, where no other literal was
-pub assumed_decided : (problem : Problem) (query : Query) (engine : Engine) (solver : State) (lit : Lit) (level : ℕ) → IsTurning problem query engine → IsSound solver
+pub assumed_decided : (problem : Problem) (query : Query) (engine : Engine) (solver : SolverForm) (lit : Lit) (level : ℕ) → IsTurning problem query engine → IsSound solver
     → engine.asserted ≡ length engine.solver.trail → Contains query.assumed lit → assigned engine.solver lit.variable ≡ None → lit.variable < length (all_kinds problem query)
     → engine.solver.level ≤ engine.assumed → solver ≡ with_literal engine.solver lit (engine.solver.level + 1) None → level ≡ solver.level
     → IsTurning problem query (record engine { solver = solver; assumed = level })
 assumed_decided problem query engine solver lit level turning sound all among free below low is same =
-    let s : State = engine.solver in
-    let next : State = with_literal s lit (s.level + 1) None in
+    let s : SolverForm = engine.solver in
+    let next : SolverForm = with_literal s lit (s.level + 1) None in
     let inside : lit.variable < length s.values = omega (arith, below, turning.variables) in
     let adds : Adds (assigned s) (assigned next) lit.variable (added s lit (s.level + 1) None) = adds_literal s lit (s.level + 1) None inside free in
-    let levels : level ≡ s.level + 1 = same ∙ ap (λ (x : State). x.level) is in
-    subst (λ (x : State). IsTurning problem query (record engine { solver = x; assumed = level })) (sym is)
+    let levels : level ≡ s.level + 1 = same ∙ ap (λ (x : SolverForm). x.level) is in
+    subst (λ (x : SolverForm). IsTurning problem query (record engine { solver = x; assumed = level })) (sym is)
     (decided_but problem query engine lit (s.level + 1) level turning (subst IsSound is sound) all free below (record {
       within = omega (arith, levels);
       decided = λ v a there none up. elim (added_cases adds v a there) [
@@ -153,16 +155,16 @@ assumed_decided problem query engine solver lit level turning sound all among fr
     }))
 
 -- a variable was decided, where all that is assumed is true
-pub free_decided : (problem : Problem) (query : Query) (engine : Engine) (solver : State) (lit : Lit) → IsTurning problem query engine → IsSound solver
+pub free_decided : (problem : Problem) (query : Query) (engine : Engine) (solver : SolverForm) (lit : Lit) → IsTurning problem query engine → IsSound solver
     → engine.asserted ≡ length engine.solver.trail → Each (IsTrueLit (assigned engine.solver)) query.assumed → assigned engine.solver lit.variable ≡ None → lit.variable < length (all_kinds problem query)
     → solver ≡ with_literal engine.solver lit (engine.solver.level + 1) None → IsTurning problem query (record engine { solver = solver })
 free_decided problem query engine solver lit turning sound all holds free below is =
-    let s : State = engine.solver in
-    let next : State = with_literal s lit (s.level + 1) None in
+    let s : SolverForm = engine.solver in
+    let next : SolverForm = with_literal s lit (s.level + 1) None in
     let inside : lit.variable < length s.values = omega (arith, below, turning.variables) in
     let adds : Adds (assigned s) (assigned next) lit.variable (added s lit (s.level + 1) None) = adds_literal s lit (s.level + 1) None inside free in
     let stays : (l : Lit) → IsTrueTo s engine.assumed l → IsTrueTo next engine.assumed l = λ l one. (one.0, added_stays adds l.variable one.0 one.1, one.2, one.3) in
-    subst (λ (x : State). IsTurning problem query (record engine { solver = x })) (sym is)
+    subst (λ (x : SolverForm). IsTurning problem query (record engine { solver = x })) (sym is)
     (decided_but problem query engine lit (s.level + 1) engine.assumed turning (subst IsSound is sound) all free below (record {
       within = omega (arith, turning.assuming.within);
       decided = λ v a there none up. elim (added_cases adds v a there) [
@@ -196,20 +198,20 @@ fewer_bounds kinds trail rest lits asserted low is less within =
     omega (arith, same, length-take n (bounds_along kinds (take asserted lits)))
 
 -- what was assigned after a backjump was so before, up to the level
-pub back_was : (old new : State) (level : ℕ) → Backjumps old new level → (v : ℕ) (a : Assigned) → assigned new v ≡ Some a → (assigned old v ≡ Some a) × (a.level ≤ level)
+pub back_was : (old new : SolverForm) (level : ℕ) → Backjumps old new level → (v : ℕ) (a : Assigned) → assigned new v ≡ Some a → (assigned old v ≡ Some a) × (a.level ≤ level)
 back_was old new level back v a is =
     kept_was level (assigned old v) a (sym (ap (λ (vs : List (Option Assigned)). get_or vs v None) back.values ∙ kept_at level old.values v) ∙ is)
 
-pub back_stays : (old new : State) (level : ℕ) → Backjumps old new level → (v : ℕ) (a : Assigned) → assigned old v ≡ Some a → a.level ≤ level → assigned new v ≡ Some a
+pub back_stays : (old new : SolverForm) (level : ℕ) → Backjumps old new level → (v : ℕ) (a : Assigned) → assigned old v ≡ Some a → a.level ≤ level → assigned new v ≡ Some a
 back_stays old new level back v a is low =
     ap (λ (vs : List (Option Assigned)). get_or vs v None) back.values ∙ (kept_at level old.values v ∙ kept_stays level (assigned old v) a is low)
 
-asserted_back : (kinds : List Kind) (old new : State) (graph next : Constraints) (asserted low mark level : ℕ) → IsSound old → Backjumps old new level → level < old.level → low ≡ min asserted (length new.trail)
+asserted_back : (kinds : List Kind) (old new : SolverForm) (graph next : GraphForm) (asserted low mark level : ℕ) → IsSound old → Backjumps old new level → level < old.level → low ≡ min asserted (length new.trail)
     → mark ≡ length (bounds_along kinds (take low new.trail)) → next ≡ record graph { kept = take mark graph.kept; room = graph.room + (length graph.kept - mark) } → IsAsserted kinds old graph asserted
     → IsAsserted kinds new next low
 asserted_back kinds old new graph next asserted low mark level sound back below least marked undone was = record {
   within = omega (arith, least);
-  kept = ap (λ (g : Constraints). g.kept) undone ∙ (ap (λ (bs : List Bound). take mark bs) was.kept ∙ (ap (λ (n : ℕ). take n (bounds_along kinds (take asserted old.trail))) marked
+  kept = ap (λ (g : GraphForm). g.kept) undone ∙ (ap (λ (bs : List Bound). take mark bs) was.kept ∙ (ap (λ (n : ℕ). take n (bounds_along kinds (take asserted old.trail))) marked
       ∙ front_bounds kinds new.trail back.rest old.trail asserted low back.trail (omega (arith, least)) (omega (arith, least))));
   present = λ place d above within.
       let from : asserted ≤ place = omega (arith, least, above, within) in
@@ -220,8 +222,8 @@ asserted_back kinds old new graph next asserted low mark level sound back below 
       let equal : one.0 ≡ up.0 = cc in
       absurd (omega (arith, one.2, up.2, below, ap (λ (x : Assigned). x.level) equal));
   room =
-      let kept : length next.kept ≡ length (take mark graph.kept) = ap (λ (g : Constraints). length g.kept) undone in
-      let room : next.room ≡ graph.room + (length graph.kept - mark) = ap (λ (g : Constraints). g.room) undone in
+      let kept : length next.kept ≡ length (take mark graph.kept) = ap (λ (g : GraphForm). length g.kept) undone in
+      let room : next.room ≡ graph.room + (length graph.kept - mark) = ap (λ (g : GraphForm). g.room) undone in
       let all : length graph.kept ≡ length (bounds_along kinds (take asserted old.trail)) = ap (λ (bs : List Bound). length bs) was.kept in
       let fewer : length (bounds_along kinds (take low new.trail)) ≤ length (bounds_along kinds (take asserted old.trail)) =
       fewer_bounds kinds new.trail back.rest old.trail asserted low back.trail (omega (arith, least)) (omega (arith, least)) in
@@ -229,18 +231,19 @@ asserted_back kinds old new graph next asserted low mark level sound back below 
       omega (arith, kept, room, all, fewer, values, marked, was.room, length-take mark graph.kept);
 }
 
-pub went_back : (problem : Problem) (query : Query) (engine : Engine) (solver : State) (graph : Constraints) (asserted mark assumed level : ℕ) → IsTurning problem query engine → IsSound solver
+pub went_back : (problem : Problem) (query : Query) (engine : Engine) (solver : SolverForm) (graph : GraphForm) (asserted mark assumed level : ℕ) → IsTurning problem query engine → IsSound solver
     → Backjumps engine.solver solver level → level < engine.solver.level → asserted ≡ min engine.asserted (length solver.trail)
     → mark ≡ length (bounds_along (all_kinds problem query) (take asserted solver.trail))
     → graph ≡ record engine.graph { kept = take mark engine.graph.kept; room = engine.graph.room + (length engine.graph.kept - mark) } → assumed ≡ min engine.assumed level
     → IsTurning problem query (moved engine solver graph asserted assumed)
 went_back problem query engine solver graph asserted mark assumed level turning sound back below least marked undone lower =
-    let s : State = engine.solver in
+    let s : SolverForm = engine.solver in
     let values : length solver.values ≡ length s.values = ap (λ (vs : List (Option Assigned)). length vs) back.values ∙ length-map s.values (kept_to level) in
     record {
       whole = whole_moved problem query engine solver graph asserted assumed turning.whole back.clauses values
-          (record { points = ap (λ (g : Constraints). g.points) undone ∙ turning.whole.graph.points; edges = ap (λ (g : Constraints). g.edges) undone ∙ turning.whole.graph.edges });
+          (record { points = ap (λ (g : GraphForm). g.points) undone ∙ turning.whole.graph.points; edges = ap (λ (g : GraphForm). g.edges) undone ∙ turning.whole.graph.edges });
       variables = omega (arith, values, turning.variables);
+      used = back.used ∙ turning.used;
       sound = sound;
       reasoned = record {
         attached = λ v a number is reason. subst (λ (cs : List Stored). IsAttached cs number) (sym back.clauses) (turning.reasoned.attached v a number (back_was s solver level back v a is).0 reason);
@@ -257,7 +260,7 @@ went_back problem query engine solver graph asserted mark assumed level turning 
     }
 
 -- a literal of a false clause is of the present level, or all are below it
-present_or_below : (s : State) (lits : List Lit) → IsSound s → Each (IsFalse (assigned s)) lits
+present_or_below : (s : SolverForm) (lits : List Lit) → IsSound s → Each (IsFalse (assigned s)) lits
     → HasPresent s lits ⊎ ((lit : Lit) → Contains lits lit → (a : Assigned) × (assigned s lit.variable ≡ Some a) × (a.positive ≡ not lit.positive) × (a.level < s.level))
 present_or_below s [] sound all_false = inr (λ lit is. absurd (omega (arith, is.1)))
 present_or_below s (lit ∷ lits) sound all_false = at (present_or_below s lits sound (λ l is. all_false l (there lit lits l is))) (all_false lit (here lit lits))
@@ -274,7 +277,7 @@ present_or_below s (lit ∷ lits) sound all_false = at (present_or_below s lits 
     ]
 
 -- an attached clause that is false has a literal of the present level above level 0, since the trail is closed below
-pub conflict_present : (s : State) (number : ℕ) → IsSound s → IsAttached s.clauses number → Each (IsFalse (assigned s)) (clause_at s.clauses number) → 0 < s.level
+pub conflict_present : (s : SolverForm) (number : ℕ) → IsSound s → IsAttached s.clauses number → Each (IsFalse (assigned s)) (clause_at s.clauses number) → 0 < s.level
     → HasPresent s (clause_at s.clauses number)
 conflict_present s number sound attached all_false above = elim (present_or_below s (clause_at s.clauses number) sound all_false) [
   | inl one ↦ one

@@ -14,24 +14,46 @@ use Rattle.gp_clause.specs.Clause.{NamesBelow}
 use Rattle.gp_clause.specs.Problem.{IsValidProblem, IsValidQuery}
 use Rattle.gp_derivation.specs.declared.log.LogEntry.{LogEntry}
 use Rattle.gp_derivation.specs.Log.{LogGrows, logged}
-use Rattle.gp_derivation.proofs.Lists.{slice_get_front, slice_get_back}
-use Rattle.gp_difference.specs.Graph.{Constraints}
+use Rattle.gp_derivation.specs.ListLaws.{slice_get_front, slice_get_back}
+use Rattle.gp_difference.specs.Graph.{GraphForm}
 use Rattle.gp_sat.specs.declared.assigned.Assigned.{Assigned}
-use Rattle.gp_sat.specs.declared.stored.Stored.{Stored}
-use Rattle.gp_sat.specs.State.{State, assigned, clause_at, no_clause, IsAttached, grown, without_clause}
+use Rattle.gp_sat.specs.Stored.{Stored}
+use Rattle.gp_sat.specs.State.{SolverForm, assigned, clause_at, no_clause, IsAttached, grown, without_clause}
 use Rattle.gp_sat.specs.Sound.{IsSound}
-use Rattle.gp_sat.proofs.Storing.{attached_within, free_at, grown_at}
+use Rattle.gp_sat.specs.SolverLaws.{attached_within, free_at, grown_at}
 use Rattle.gp_search.specs.declared.engine.Engine.{Engine}
-use Rattle.gp_search.specs.Inside.{all_kinds, IsPlain, IsMarked, IsStored, IsPassing, IsGraphOf, IsWhole, IsTurning, IsIdle, IsBlank}
-use Rattle.gp_search.specs.Moves.{retired, IsRetired, of_clauses}
-use Rattle.gp_search.proofs.Lessons.{clauses_counted, clause_got}
+use Rattle.gp_search.specs.Inside.{all_kinds, IsPlain, IsMarked, IsStored, IsKeeping, IsPassing, IsGraphOf, IsWhole, IsTurning, IsIdle, IsBlank}
+use Rattle.gp_search.specs.Moves.{retired, IsRetired, IsRoomy, of_clauses}
+use Rattle.gp_search.proofs.LearnedSteps.{clauses_counted, clause_got}
 
--- a solver that grows has no fewer variables than before, and as many as were asked for
-pub grown_length : (s : State) (variables : ℕ) → (length s.values ≤ length (grown s variables).values) × (variables ≤ length (grown s variables).values)
-grown_length s variables =
+-- a solver that grows has room
+pub grown_roomy : (s : SolverForm) (variables : ℕ) → IsRoomy s (grown s variables) variables
+grown_roomy s variables =
     let sum : length (grown s variables).values ≡ length s.values + length (replicate {A = Option Assigned} (variables - length s.values) None) = length-append s.values (replicate (variables - length s.values) None) in
     let more : length (replicate {A = Option Assigned} (variables - length s.values) None) ≡ variables - length s.values = length-replicate (variables - length s.values) None in
-    (omega (arith, sum, more), omega (arith, sum, more))
+    record {
+      values = λ v. grown_at s.values (variables - length s.values) v;
+      trail = refl;
+      clauses = refl;
+      level = refl;
+      more = omega (arith, sum, more);
+      room = omega (arith, sum, more);
+    }
+
+-- so has a solver that has as many
+pub same_roomy : (s : SolverForm) (variables : ℕ) → variables ≤ length s.values → IsRoomy s s variables
+same_roomy s variables room = record { values = λ v. refl; trail = refl; clauses = refl; level = refl; more = omega arith; room = room }
+
+-- so has a solver that takes other variables into use
+pub used_roomy : (s t next : SolverForm) (variables used : ℕ) → IsRoomy s t variables → next ≡ record t { used = used } → IsRoomy s next variables
+used_roomy s t next variables used room is = record {
+  values = λ v. ap (λ (x : SolverForm). assigned x v) is ∙ room.values v;
+  trail = ap (λ (x : SolverForm). x.trail) is ∙ room.trail;
+  clauses = ap (λ (x : SolverForm). x.clauses) is ∙ room.clauses;
+  level = ap (λ (x : SolverForm). x.level) is ∙ room.level;
+  more = omega (arith, ap (λ (x : SolverForm). length x.values) is, room.more);
+  room = omega (arith, ap (λ (x : SolverForm). length x.values) is, room.room);
+}
 
 -- what is attached between turns names variables of the problem, and so of the query too
 stored_wider : (problem : Problem) (query : Query) (begins : ℕ) (log : List LogEntry) (clauses : List Stored) → IsStored problem begins (length problem.kinds) log clauses
@@ -45,10 +67,10 @@ stored_wider problem query begins log clauses old = record {
 }
 
 -- the engine at the beginning of a turn
-abbrev pub begun : Engine → State → Constraints → ℕ → ℕ → ℕ → Engine
+abbrev pub begun : Engine → SolverForm → GraphForm → ℕ → ℕ → ℕ → Engine
 begun engine solver graph begins asserted assumed = record engine { solver = solver; graph = graph; begins = begins; asserted = asserted; assumed = assumed }
 
-pub begun_whole : (problem : Problem) (query : Query) (engine : Engine) (solver : State) (graph : Constraints) (begins asserted assumed : ℕ) → LogGrows → IsIdle problem engine → IsValidQuery problem query
+pub begun_whole : (problem : Problem) (query : Query) (engine : Engine) (solver : SolverForm) (graph : GraphForm) (begins asserted assumed : ℕ) → LogGrows → IsIdle problem engine → IsValidQuery problem query
     → length problem.clauses + length engine.log.items + 2 < 2 ^ 32 → begins ≡ length engine.log.items → solver.clauses ≡ engine.solver.clauses → length engine.solver.values ≤ length solver.values → IsGraphOf problem graph
     → IsWhole problem query (begun engine solver graph begins asserted assumed)
 begun_whole problem query engine solver graph begins asserted assumed grows idle asked few at_end clauses values of_problem =
@@ -65,24 +87,24 @@ begun_whole problem query engine solver graph begins asserted assumed grows idle
       log = subst (λ (n : ℕ). IsPassing problem query.locals engine.log.items n) (sym at_end) log;
       stored = subst (λ (n : ℕ). IsStored problem n (length (all_kinds problem query)) engine.log.items solver.clauses) (sym at_end)
           (subst (λ (cs : List Stored). IsStored problem (length engine.log.items) (length (all_kinds problem query)) engine.log.items cs) (sym clauses) stored);
+      keeping = subst (λ (n : ℕ). IsKeeping (length problem.clauses) n (length engine.log.items) engine.pure.items solver.clauses) (sym at_end)
+          (subst (λ (cs : List Stored). IsKeeping (length problem.clauses) (length engine.log.items) (length engine.log.items) engine.pure.items cs) (sym clauses) idle.keeping);
       marked = idle.marked;
       graph = of_problem;
       variables = omega (arith, values, idle.variables);
     }
 
--- a blank solver assigns nothing, and as little when it has grown
-pub blank_free : (s : State) → IsBlank s → (v : ℕ) → assigned s v ≡ None
+-- a blank solver assigns nothing
+pub blank_free : (s : SolverForm) → IsBlank s → (v : ℕ) → assigned s v ≡ None
 blank_free s blank v = ap (λ (vs : List (Option Assigned)). get_or vs v None) blank.values ∙ free_at (length s.values) v
 
-pub grown_free : (s : State) (variables : ℕ) → IsBlank s → (v : ℕ) → assigned (grown s variables) v ≡ None
-grown_free s variables blank v = grown_at s.values (variables - length s.values) v ∙ blank_free s blank v
-
-pub begun_turning : (problem : Problem) (query : Query) (engine : Engine) (solver : State) (graph : Constraints) (begins : ℕ) → IsWhole problem query (begun engine solver graph begins 0 0) → IsSound solver
+pub begun_turning : (problem : Problem) (query : Query) (engine : Engine) (solver : SolverForm) (graph : GraphForm) (begins : ℕ) → IsWhole problem query (begun engine solver graph begins 0 0) → IsSound solver
     → ((v : ℕ) → assigned solver v ≡ None) → solver.trail ≡ [] → solver.level ≡ 0 → graph.kept ≡ [] → length solver.values ≤ graph.room → length (all_kinds problem query) ≤ length solver.values
-    → IsTurning problem query (begun engine solver graph begins 0 0)
-begun_turning problem query engine solver graph begins whole sound free trail level kept room enough = record {
+    → solver.used ≡ length (all_kinds problem query) → IsTurning problem query (begun engine solver graph begins 0 0)
+begun_turning problem query engine solver graph begins whole sound free trail level kept room enough used = record {
   whole = whole;
   variables = enough;
+  used = used;
   sound = sound;
   reasoned = record {
     attached = λ v a number is _. absurd (clash v a is);
@@ -121,8 +143,8 @@ detached_not clauses number is =
     false≢true (sym (ap (λ (s : Stored). s.attached) same) ∙ is)
 
 -- one more entry is retired, unless it has a mark
-pub retired_more : (bases begins place : ℕ) (marks : List Bool) (old now next : State) → begins ≤ place → next ≡ retired marks bases place now → IsRetired bases begins place marks old now → IsRetired bases begins (place + 1) marks old next
-retired_more bases begins place marks old now next from is done = subst (λ (s : State). IsRetired bases begins (place + 1) marks old s) (sym is) (at (get_or marks place false) refl)
+pub retired_more : (bases begins place : ℕ) (marks : List Bool) (old now next : SolverForm) → begins ≤ place → next ≡ retired marks bases place now → IsRetired bases begins place marks old now → IsRetired bases begins (place + 1) marks old next
+retired_more bases begins place marks old now next from is done = subst (λ (s : SolverForm). IsRetired bases begins (place + 1) marks old s) (sym is) (at (get_or marks place false) refl)
   where
     with_mark : get_or marks place false ≡ true → IsRetired bases begins (place + 1) marks old now
     with_mark mark = record {
@@ -135,13 +157,14 @@ retired_more bases begins place marks old now next from is done = subst (λ (s :
         | inl before ↦ done.marked p low before attached
         | inr after ↦ let same : p ≡ place = omega (arith, high, after) in ap (λ (n : ℕ). get_or marks n false) same ∙ mark
       ];
+      kept = done.kept;
     }
 
     other : (p number : ℕ) → p ≢ number → IsAttached (without_clause now number).clauses p → IsAttached now.clauses p
     other p number apart attached = sym (ap (λ (s : Stored). s.attached) (detached_other now.clauses number p apart)) ∙ attached
 
-    without_mark : IsRetired bases begins (place + 1) marks old (without_clause now (bases + place))
-    without_mark = record {
+    without_mark : get_or marks place false ≡ false → IsRetired bases begins (place + 1) marks old (without_clause now (bases + place))
+    without_mark none = record {
       blank = record { values = done.blank.values; trail = done.blank.trail; level = done.blank.level };
       variables = done.variables;
       lits = detached_lits now.clauses (bases + place) ∙ done.lits;
@@ -154,11 +177,16 @@ retired_more bases begins place marks old now next from is done = subst (λ (s :
         | inl same ↦ absurd (detached_not now.clauses (bases + place) (subst (λ (n : ℕ). IsAttached (without_clause now (bases + place)).clauses (bases + n)) same attached))
         | inr apart ↦ done.marked p low (omega (arith, high, apart)) (other (bases + p) (bases + place) (λ same. apart (omega (arith, same))) attached)
       ];
+      kept = λ p mark attached.
+          let apart : bases + p ≢ bases + place = λ same.
+          let equal : p ≡ place = omega (arith, same) in
+          false≢true (sym none ∙ (ap (λ (n : ℕ). get_or marks n false) (sym equal) ∙ mark)) in
+          ap (λ (s : Stored). s.attached) (detached_other now.clauses (bases + place) (bases + p) apart) ∙ done.kept p mark attached;
     }
 
     at : (mark : Bool) → get_or marks place false ≡ mark → IsRetired bases begins (place + 1) marks old (cond mark now (without_clause now (bases + place)))
     at true mark = with_mark mark
-    at false mark = without_mark
+    at false mark = without_mark mark
 
 -- the clause of an entry has the number of its place after those of the problem
 entry_clause : (problem : Problem) (log : List LogEntry) (clauses : List Stored) (other : ℕ) (d : LogEntry) → map (λ (stored : Stored). stored.clause) clauses ≡ logged problem log → other < length log
@@ -206,7 +234,7 @@ some_entry (entry ∷ log) zero within = (entry, refl)
 some_entry (entry ∷ log) (suc other) within = some_entry log other (omega arith)
 
 -- the engine between turns
-pub finished : (problem : Problem) (query : Query) (engine : Engine) (solver : State) (graph : Constraints) → LogGrows → IsWhole problem query engine
+pub finished : (problem : Problem) (query : Query) (engine : Engine) (solver : SolverForm) (graph : GraphForm) → LogGrows → IsWhole problem query engine
     → IsRetired (length problem.clauses) engine.begins (length engine.log.items) engine.pure.items engine.solver solver → graph ≡ record engine.graph { kept = []; room = graph.room }
     → IsIdle problem (record engine { solver = solver; graph = graph })
 finished problem query engine solver graph grows whole done undone =
@@ -228,11 +256,15 @@ finished problem query engine solver graph grows whole done undone =
         ];
         usable = λ other is. inl (plain other is);
       };
+      keeping = record {
+        current = λ place low high. absurd (omega (arith, low, high));
+        marked = λ place mark. done.kept place mark (whole.keeping.marked place mark);
+      };
       marked = whole.marked;
-      graph = record { points = ap (λ (g : Constraints). g.points) undone ∙ whole.graph.points; edges = ap (λ (g : Constraints). g.edges) undone ∙ whole.graph.edges };
+      graph = record { points = ap (λ (g : GraphForm). g.points) undone ∙ whole.graph.points; edges = ap (λ (g : GraphForm). g.edges) undone ∙ whole.graph.edges };
       variables = omega (arith, done.variables, whole.variables);
       blank = done.blank;
-      kept = ap (λ (g : Constraints). g.kept) undone;
+      kept = ap (λ (g : GraphForm). g.kept) undone;
     }
   where
     within : (other : ℕ) → IsAttached solver.clauses (length problem.clauses + other) → other < length engine.log.items
@@ -250,7 +282,7 @@ finished problem query engine solver graph grows whole done undone =
         plain_named problem engine.log.items solver.clauses other entry.0 (done.lits ∙ whole.stored.lits) entry.1 (plain other is)
 
 -- what holds of more places holds of fewer
-pub retired_enough : (bases begins upto less : ℕ) (marks : List Bool) (old new : State) → less ≤ upto → IsRetired bases begins upto marks old new → IsRetired bases begins less marks old new
+pub retired_enough : (bases begins upto less : ℕ) (marks : List Bool) (old new : SolverForm) → less ≤ upto → IsRetired bases begins upto marks old new → IsRetired bases begins less marks old new
 retired_enough bases begins upto less marks old new few done = record {
   blank = done.blank;
   variables = done.variables;
@@ -258,10 +290,11 @@ retired_enough bases begins upto less marks old new few done = record {
   base = done.base;
   fewer = done.fewer;
   marked = λ place low high is. done.marked place low (omega (arith, high, few)) is;
+  kept = done.kept;
 }
 
 -- the engine but for its solver and its graph stays
-pub same_more : (old now next : Engine) (solver : State) → now ≡ record old { solver = now.solver; graph = now.graph } → next ≡ record now { solver = solver } → next ≡ record old { solver = next.solver; graph = next.graph }
+pub same_more : (old now next : Engine) (solver : SolverForm) → now ≡ record old { solver = now.solver; graph = now.graph } → next ≡ record now { solver = solver } → next ≡ record old { solver = next.solver; graph = next.graph }
 same_more old now next solver first second = λ i. record {
   solver = next.solver;
   graph = next.graph;
@@ -272,13 +305,13 @@ same_more old now next solver first second = λ i. record {
   assumed = (ap (λ (e : Engine). e.assumed) second ∙ ap (λ (e : Engine). e.assumed) first) i;
 }
 
-pub undone_more : (old : Constraints) (now next : Engine) (solver : State) → now.graph ≡ record old { kept = []; room = now.graph.room } → next ≡ record now { solver = solver } → next.graph ≡ record old { kept = []; room = next.graph.room }
+pub undone_more : (old : GraphForm) (now next : Engine) (solver : SolverForm) → now.graph ≡ record old { kept = []; room = now.graph.room } → next ≡ record now { solver = solver } → next.graph ≡ record old { kept = []; room = next.graph.room }
 undone_more old now next solver first second =
     let same : next.graph ≡ now.graph = ap (λ (e : Engine). e.graph) second in
-    same ∙ (first ∙ (λ i. record old { kept = []; room = (sym (ap (λ (g : Constraints). g.room) same)) i }))
+    same ∙ (first ∙ (λ i. record old { kept = []; room = (sym (ap (λ (g : GraphForm). g.room) same)) i }))
 
 -- the retired solver by equal marks and numbers
-pub retired_same : (marks others : List Bool) (bases count place : ℕ) (now next : State) → next ≡ retired marks bases place now → marks ≡ others → bases ≡ count → next ≡ retired others count place now
+pub retired_same : (marks others : List Bool) (bases count place : ℕ) (now next : SolverForm) → next ≡ retired marks bases place now → marks ≡ others → bases ≡ count → next ≡ retired others count place now
 retired_same marks others bases count place now next is same counted = is ∙ (λ i. retired (same i) (counted i) place now)
 
 -- the clauses of a new solver
@@ -305,10 +338,14 @@ new_idle problem engine valid log pure solver graph kept = record {
   valid = valid;
   log = subst (λ (es : List LogEntry). IsPassing problem [] es (length es)) (sym log) empty_passing;
   stored = subst (λ (es : List LogEntry). IsStored problem (length es) (length problem.kinds) es engine.solver.clauses) (sym log)
-      (subst (λ (s : State). IsStored problem 0 (length problem.kinds) [] s.clauses) (sym solver) base_stored);
+      (subst (λ (s : SolverForm). IsStored problem 0 (length problem.kinds) [] s.clauses) (sym solver) base_stored);
+  keeping = record {
+    current = λ place low high. absurd (omega (arith, low, high));
+    marked = λ place mark. absurd (false≢true (sym (ap (λ (bs : List Bool). get_or bs place false) pure) ∙ mark));
+  };
   marked = subst (λ (es : List LogEntry). IsMarked problem es engine.pure.items) (sym log) (subst (λ (bs : List Bool). IsMarked problem [] bs) (sym pure) (record { size = refl; plain = λ place is. absurd (false≢true is) }));
   graph = graph;
-  variables = omega (arith, ap (λ (s : State). length s.values) solver, length-replicate {A = Option Assigned} (length problem.kinds) None);
+  variables = omega (arith, ap (λ (s : SolverForm). length s.values) solver, length-replicate {A = Option Assigned} (length problem.kinds) None);
   blank = subst IsBlank (sym solver) (record { values = ap (λ (n : ℕ). replicate n None) (sym (length-replicate {A = Option Assigned} (length problem.kinds) None)); trail = refl; level = refl });
   kept = kept;
 }

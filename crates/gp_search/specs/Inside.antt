@@ -9,10 +9,10 @@ use Rattle.gp_clause.specs.Problem.{IsValidProblem, IsValidQuery}
 use Rattle.gp_derivation.specs.declared.log.LogEntry.{LogEntry}
 use Rattle.gp_derivation.specs.Log.{IsLearned, IsPure, LogPasses, logged}
 use Rattle.gp_derivation.specs.Step.{Passes}
-use Rattle.gp_difference.specs.Graph.{Constraints}
+use Rattle.gp_difference.specs.Graph.{GraphForm}
 use Rattle.gp_sat.specs.declared.assigned.Assigned.{Assigned}
-use Rattle.gp_sat.specs.declared.stored.Stored.{Stored}
-use Rattle.gp_sat.specs.State.{State, assigned, clause_at, IsAttached}
+use Rattle.gp_sat.specs.Stored.{Stored}
+use Rattle.gp_sat.specs.State.{SolverForm, assigned, clause_at, IsAttached}
 use Rattle.gp_sat.specs.Standing.{IsFalse, IsClosed, Each}
 use Rattle.gp_sat.specs.Sound.{IsSound, true_lit}
 use Rattle.gp_sat.specs.Changes.{HasPresent, IsOfLevel}
@@ -41,6 +41,11 @@ pub record IsStored (problem : Problem) (begins names : ℕ) (log : List LogEntr
   pub named : (number : ℕ) → IsAttached clauses number → NamesBelow names (clause_at clauses number)
   pub usable : (other : ℕ) → IsAttached clauses (length problem.clauses + other) → IsPlain problem log other ⊎ (begins ≤ other)
 
+-- the entries of the turn that begins at a place are attached, and so are all that have a mark
+pub record IsKeeping (bases begins logged : ℕ) (marks : List Bool) (clauses : List Stored) : Type 0 where
+  pub current : (place : ℕ) → begins ≤ place → place < logged → IsAttached clauses (bases + place)
+  pub marked : (place : ℕ) → slice_index_or marks place false ≡ true → IsAttached clauses (bases + place)
+
 -- all entries of a log were learned, and pass in a turn that begins at a place
 pub record IsPassing (problem : Problem) (locals : List Kind) (log : List LogEntry) (begins : ℕ) : Type 0 where
   pub began : begins ≤ length log
@@ -48,7 +53,7 @@ pub record IsPassing (problem : Problem) (locals : List Kind) (log : List LogEnt
   pub passes : LogPasses problem locals log begins
 
 -- a graph has the points and the edges of a problem
-pub record IsGraphOf (problem : Problem) (graph : Constraints) : Type 0 where
+pub record IsGraphOf (problem : Problem) (graph : GraphForm) : Type 0 where
   pub points : graph.points ≡ problem.points
   pub edges : graph.edges ≡ problem.edges
 
@@ -59,44 +64,46 @@ pub record IsWhole (problem : Problem) (query : Query) (engine : Engine) : Type 
   pub few : length problem.clauses + length engine.log.items + 1 < 2 ^ 32
   pub log : IsPassing problem query.locals engine.log.items engine.begins
   pub stored : IsStored problem engine.begins (length (all_kinds problem query)) engine.log.items engine.solver.clauses
+  pub keeping : IsKeeping (length problem.clauses) engine.begins (length engine.log.items) engine.pure.items engine.solver.clauses
   pub marked : IsMarked problem engine.log.items engine.pure.items
   pub graph : IsGraphOf problem engine.graph
   pub variables : length problem.kinds ≤ length engine.solver.values
 
 -- the reasons of assignments are attached, and only variables below the number are assigned
-pub record IsReasoned (names : ℕ) (s : State) : Type 0 where
+pub record IsReasoned (names : ℕ) (s : SolverForm) : Type 0 where
   pub attached : (variable : ℕ) (a : Assigned) (number : ℕ) → assigned s variable ≡ Some a → a.reason ≡ Some number → IsAttached s.clauses number
   pub below : (variable : ℕ) (a : Assigned) → assigned s variable ≡ Some a → variable < names
 
 -- the graph keeps the bounds of a front of the trail, the rest of which is of the present level, and has room for those of
 -- all variables
-pub record IsAsserted (kinds : List Kind) (s : State) (graph : Constraints) (asserted : ℕ) : Type 0 where
+pub record IsAsserted (kinds : List Kind) (s : SolverForm) (graph : GraphForm) (asserted : ℕ) : Type 0 where
   pub within : asserted ≤ length s.trail
   pub kept : graph.kept ≡ bounds_along kinds (take asserted s.trail)
   pub present : (place : ℕ) (d : Lit) → asserted ≤ place → place < length s.trail → IsOfLevel s s.level (slice_index_or s.trail place d)
   pub room : length s.values ≤ length graph.kept + graph.room
 
 -- a literal is true by an assignment up to a level
-abbrev pub IsTrueTo : State → ℕ → Lit → Type 0
+abbrev pub IsTrueTo : SolverForm → ℕ → Lit → Type 0
 IsTrueTo s level lit = (a : Assigned) × (assigned s lit.variable ≡ Some a) × (a.positive ≡ lit.positive) × (a.level ≤ level)
 
 -- the decisions up to a level are assumed, and above it all that is assumed is true by then
-pub record IsAssuming (assumed : List Lit) (s : State) (level : ℕ) : Type 0 where
+pub record IsAssuming (assumed : List Lit) (s : SolverForm) (level : ℕ) : Type 0 where
   pub within : level ≤ s.level
   pub decided : (variable : ℕ) (a : Assigned) → assigned s variable ≡ Some a → a.reason ≡ None → a.level ≤ level → Contains assumed (true_lit variable a)
   pub all_true : level < s.level → Each (IsTrueTo s level) assumed
 
--- what holds of an engine between the steps of a turn
+-- what holds of an engine between the steps of a turn, which decides the variables of the problem and the query alone
 pub record IsTurning (problem : Problem) (query : Query) (engine : Engine) : Type 0 where
   pub whole : IsWhole problem query engine
   pub variables : length (all_kinds problem query) ≤ length engine.solver.values
+  pub used : engine.solver.used ≡ length (all_kinds problem query)
   pub sound : IsSound engine.solver
   pub reasoned : IsReasoned (length (all_kinds problem query)) engine.solver
   pub asserted : IsAsserted (all_kinds problem query) engine.solver engine.graph engine.asserted
   pub assuming : IsAssuming query.assumed engine.solver engine.assumed
 
 -- no variable of a solver is assigned
-pub record IsBlank (s : State) : Type 0 where
+pub record IsBlank (s : SolverForm) : Type 0 where
   pub values : s.values ≡ replicate (length s.values) None
   pub trail : s.trail ≡ []
   pub level : s.level ≡ 0
@@ -106,6 +113,7 @@ pub record IsIdle (problem : Problem) (engine : Engine) : Type 0 where
   pub valid : IsValidProblem problem
   pub log : IsPassing problem [] engine.log.items (length engine.log.items)
   pub stored : IsStored problem (length engine.log.items) (length problem.kinds) engine.log.items engine.solver.clauses
+  pub keeping : IsKeeping (length problem.clauses) (length engine.log.items) (length engine.log.items) engine.pure.items engine.solver.clauses
   pub marked : IsMarked problem engine.log.items engine.pure.items
   pub graph : IsGraphOf problem engine.graph
   pub variables : length problem.kinds ≤ length engine.solver.values
@@ -113,18 +121,18 @@ pub record IsIdle (problem : Problem) (engine : Engine) : Type 0 where
   pub kept : engine.graph.kept ≡ []
 
 -- the clause of a number, if there is one
-abbrev pub numbered : State → Option ℕ → List (List Lit)
+abbrev pub numbered : SolverForm → Option ℕ → List (List Lit)
 numbered s None = []
 numbered s (Some number) = clause_at s.clauses number ∷ []
 
 -- a number is that of an attached clause, if there is one
-abbrev pub IsNumber : State → Option ℕ → Type 0
+abbrev pub IsNumber : SolverForm → Option ℕ → Type 0
 IsNumber s None = Unit {0}
 IsNumber s (Some number) = IsAttached s.clauses number
 
 -- a clause is false, one of its literals is of the present level if that is above 0, and it passes with the clause of its
 -- number or, without one, with none
-pub record IsConflict (problem : Problem) (query : Query) (s : State) (lits : List Lit) (number : Option ℕ) : Type 0 where
+pub record IsConflict (problem : Problem) (query : Query) (s : SolverForm) (lits : List Lit) (number : Option ℕ) : Type 0 where
   pub all_false : Each (IsFalse (assigned s)) lits
   pub present : 0 < s.level → HasPresent s lits
   pub attached : IsNumber s number
@@ -136,7 +144,7 @@ is_false None = false
 is_false (Some a) = not a.positive
 
 -- the false literal of an assigned variable
-abbrev pub false_lit : State → ℕ → Lit
+abbrev pub false_lit : SolverForm → ℕ → Lit
 false_lit s variable = record { variable = variable; positive = is_false (assigned s variable) }
 
 -- the trail is closed, and the graph keeps the bounds of all of it

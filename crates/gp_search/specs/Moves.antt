@@ -12,10 +12,12 @@ use Rattle.gp_derivation.specs.Log.{LearnedPasses}
 use Rattle.gp_difference.specs.declared.fault.Asserted.{Asserted}
 use Rattle.gp_difference.specs.declared.fault.Asserted.TheVariants.{Kept, Cycle}
 use Rattle.gp_sat.specs.declared.assigned.Assigned.{Assigned}
-use Rattle.gp_sat.specs.declared.stored.Stored.{Stored}
-use Rattle.gp_sat.specs.State.{State, assigned, IsAttached, without_clause}
+use Rattle.gp_sat.specs.Stored.{Stored}
+use Rattle.gp_queue.specs.Order.{numbers_between, moved_to_front}
+use Rattle.gp_sat.specs.State.{SolverForm, assigned, IsAttached, without_clause, with_literal}
 use Rattle.gp_sat.specs.Standing.{IsFalse, Each}
 use Rattle.gp_sat.specs.Changes.{Backjumps}
+use Rattle.gp_sat.specs.Deciding.{IsNextFree}
 use Rattle.gp_sat.specs.Learning.{HasOnePresent, IsHighestBelow}
 use Rattle.gp_sat.specs.Looking.{IsTrueLit}
 use Rattle.gp_search.specs.declared.engine.Engine.{Engine}
@@ -57,7 +59,7 @@ with_number hints (Some number) = hints ++ number ∷ []
 
 -- a step that may be logged, all of whose literals are false and just one of the present level, and the level at which it
 -- asserts that one
-pub record IsLesson (problem : Problem) (query : Query) (engine : Engine) (step : Step) (level : ℕ) : Type 0 where
+pub record IsLearnedStep (problem : Problem) (query : Query) (engine : Engine) (step : Step) (level : ℕ) : Type 0 where
   pub passes : LearnedPasses problem query.locals engine.log.items engine.begins (length engine.log.items) step
   pub all_false : Each (IsFalse (assigned engine.solver)) step.clause
   pub point : HasOnePresent engine.solver step.clause
@@ -69,11 +71,17 @@ pub record IsBackAt (old new : Engine) (level : ℕ) : Type 0 where
   pub keeps : KeepsLog old new
   pub solver : Backjumps old.solver new.solver level
 
--- one entry came to the end of the log
+-- the order of decisions after the variables of literals were moved to its front
+abbrev pub raised : List Lit → List ℕ → List ℕ
+raised [] order = order
+raised (lit ∷ lits) order = raised lits (moved_to_front lit.variable order)
+
+-- one entry came to the end of the log, and the variables of its clause to the front of the order of decisions
 pub record LearnsOne (old new : Engine) : Type 0 where
   pub entry : LogEntry
   pub log : new.log.items ≡ old.log.items ++ entry ∷ []
   pub begins : new.begins ≡ old.begins
+  pub order : new.solver.order ≡ raised entry.step.clause old.solver.order
 
 -- whether a hint names a base clause or an entry with a mark
 abbrev pub is_marked : List Bool → ℕ → ℕ → Bool
@@ -85,19 +93,15 @@ pub record RestsOnMarked (problem : Problem) (marks : List Bool) (step : Step) :
   pub marked : (other : ℕ) → Contains step.hints (length problem.clauses + other) → slice_index_or marks other false ≡ true
 
 -- all variables below the number are assigned
-abbrev pub IsAllAssigned : ℕ → State → Type 0
+abbrev pub IsAllAssigned : ℕ → SolverForm → Type 0
 IsAllAssigned names s = (variable : ℕ) → variable < names → (a : Assigned) × (assigned s variable ≡ Some a)
 
--- a variable below the number is unassigned
-abbrev pub IsFreeVariable : ℕ → State → ℕ → Type 0
-IsFreeVariable names s variable = (variable < names) × (assigned s variable ≡ None)
-
 -- all that is assumed is true
-abbrev pub IsAllTrue : List Lit → State → Type 0
+abbrev pub IsAllTrue : List Lit → SolverForm → Type 0
 IsAllTrue assumed s = Each (IsTrueLit (assigned s)) assumed
 
 -- an assumed literal is not true
-abbrev pub IsOpen : List Lit → State → Lit → Type 0
+abbrev pub IsOpen : List Lit → SolverForm → Lit → Type 0
 IsOpen assumed s lit = Contains assumed lit × (IsTrueLit (assigned s) lit → ⊥)
 
 -- whether an assignment is true
@@ -106,7 +110,7 @@ is_true None = false
 is_true (Some a) = a.positive
 
 -- the truth values of the first variables
-pub record IsTruthOf (s : State) (names : ℕ) (truth : List Bool) : Type 0 where
+pub record IsTruthOf (s : SolverForm) (names : ℕ) (truth : List Bool) : Type 0 where
   pub size : length truth ≡ names
   pub same : (variable : ℕ) → variable < names → slice_index_or truth variable false ≡ is_true (assigned s variable)
 
@@ -115,16 +119,22 @@ pub record GoesFurther (old new : Engine) : Type 0 where
   pub longer : length new.solver.trail ≡ length old.solver.trail + 1
   pub room : length old.solver.trail < length old.solver.values
 
+-- the first unassigned variable in the order of decisions was decided
+pub record DecidesNext (old new : SolverForm) : Type 0 where
+  pub lit : Lit
+  pub next : IsNextFree old lit.variable
+  pub decided : new ≡ with_literal old lit (old.level + 1) None
+
 -- a verdict other than a spent budget is right
 abbrev pub IsFound : Problem → Query → Verdict → Type 0
 IsFound problem query (Model valuation) = Meets problem query valuation
 IsFound problem query (Refuted certificate) = Refutes problem query certificate
 IsFound problem query (Spent from to) = ⊥
 
--- a descent ended with a verdict, or with a conflict above level 0
+-- a descent ended with a verdict, or with a conflict above the levels of the assumptions
 abbrev pub IsEnded : Problem → Query → Engine → Descent → Type 0
 IsEnded problem query engine (Ended verdict) = IsFound problem query verdict
-IsEnded problem query engine (Stuck conflict) = IsConflict problem query engine.solver conflict.lits.items conflict.number × (0 < engine.solver.level)
+IsEnded problem query engine (Stuck conflict) = IsConflict problem query engine.solver conflict.lits.items conflict.number × (engine.assumed < engine.solver.level)
 
 -- so many entries came to the end of the log
 pub record Adds (count : ℕ) (old new : Engine) : Type 0 where
@@ -139,19 +149,29 @@ pub record IsGrown (budget : ℕ) (old new : Engine) : Type 0 where
   pub few : length added ≤ budget
 
 -- a solver that has these clauses, all attached, and no assignment
-abbrev pub of_clauses : ℕ → List (List Lit) → State
-of_clauses variables clauses = record { values = replicate variables None; trail = []; clauses = map (λ (clause : List Lit). record { clause = clause; attached = true }) clauses; level = 0 }
+abbrev pub of_clauses : ℕ → List (List Lit) → SolverForm
+of_clauses variables clauses = record { values = replicate variables None; trail = []; clauses = map (λ (clause : List Lit). record { clause = clause; attached = true }) clauses; level = 0; order = numbers_between 0 variables; used = variables }
+
+-- a solver has room for so many variables, and is otherwise as it was, but for the order of decisions
+pub record IsRoomy (old new : SolverForm) (variables : ℕ) : Type 0 where
+  pub values : (variable : ℕ) → assigned new variable ≡ assigned old variable
+  pub trail : new.trail ≡ old.trail
+  pub clauses : new.clauses ≡ old.clauses
+  pub level : new.level ≡ old.level
+  pub more : length old.values ≤ length new.values
+  pub room : variables ≤ length new.values
 
 -- the solver after the entry at a place was retired, unless it is marked as pure
-abbrev pub retired : List Bool → ℕ → ℕ → State → State
+abbrev pub retired : List Bool → ℕ → ℕ → SolverForm → SolverForm
 retired marks bases place s = if slice_index_or marks place false then s else without_clause s (bases + place)
 
--- the solver is blank, and of its clauses only those of some entries of the turn were detached, among them each one of the
--- first places that has no mark
-pub record IsRetired (bases begins upto : ℕ) (marks : List Bool) (old new : State) : Type 0 where
+-- the solver is blank, and of its clauses only those of some entries of the turn that have no mark were detached, among
+-- them each one of the first places
+pub record IsRetired (bases begins upto : ℕ) (marks : List Bool) (old new : SolverForm) : Type 0 where
   pub blank : IsBlank new
   pub variables : length new.values ≡ length old.values
   pub lits : map (λ (stored : Stored). stored.clause) new.clauses ≡ map (λ (stored : Stored). stored.clause) old.clauses
   pub base : (number : ℕ) → number < bases → IsAttached old.clauses number → IsAttached new.clauses number
   pub fewer : (number : ℕ) → IsAttached new.clauses number → IsAttached old.clauses number
   pub marked : (place : ℕ) → begins ≤ place → place < upto → IsAttached new.clauses (bases + place) → slice_index_or marks place false ≡ true
+  pub kept : (place : ℕ) → slice_index_or marks place false ≡ true → IsAttached old.clauses (bases + place) → IsAttached new.clauses (bases + place)

@@ -18,12 +18,12 @@ abbrev pub IsSolvable : List Edge → Type 0
 IsSolvable edges = (place : ℕ → ℤ) × All (Keeps place) edges
 
 -- what contracts see of a search: its problem, and the entries that it has logged
-pub record Searching : Type 0 where
+pub record SearchForm : Type 0 where
   pub problem : Problem
   pub log : List LogEntry
 
 -- the base clauses and the entries that may be logged have numbers below 2^32, with much to spare
-abbrev pub HasRoom : Searching → ℕ → Type 0
+abbrev pub HasRoom : SearchForm → ℕ → Type 0
 HasRoom search budget = length search.problem.clauses + 64 * (length search.log + 256 + budget) < 2 ^ 32
 
 -- a log grew in a turn at a query: what was added at its end was learned, and every entry passes

@@ -1,8 +1,9 @@
 ghost use Rattle.std.specs.Prelude.{◌≡◌, ◌+◌, ◌<◌, ◌≤◌, length, IfOk, OnOk, MatchOption, None, Contains, IsTrue, ◌↔◌};
 ghost use Rattle.gp_sat.specs.State.{assigned};
+ghost use Rattle.gp_sat.specs.Deciding.{IsNextFree, IsFull};
 ghost use Rattle.gp_sat.specs.Looking.{IsTrueLit};
 ghost use Rattle.gp_search.specs.Inside.{IsTurning, IsSettled, all_kinds};
-ghost use Rattle.gp_search.specs.Moves.{IsAllAssigned, IsAllTrue, IsOpen, IsFreeVariable, KeepsLog, IsFound, GoesFurther};
+ghost use Rattle.gp_search.specs.Moves.{IsAllTrue, IsOpen, KeepsLog, IsFound, GoesFurther, DecidesNext};
 
 use crate::bounds::phase;
 use crate::engine::Engine;
@@ -30,11 +31,14 @@ impl Engine {
         }
     }
 
-    // The first assumption that is not true.
+    // The first assumption that is not true. Above the levels of the assumptions all are true.
     fn open_assumption(&self, problem: &Problem, query: &Query) -> Option<Lit>
         requires { IsTurning problem.now query.now self.now }
         ensures { MatchOption result (IsAllTrue query.now.assumed self.now.solver) (IsOpen query.now.assumed self.now.solver) }
     {
+        if self.assumed < self.solver.level() {
+            return None;
+        }
         for lit in query.assumed.as_slice() {
             if !self.is_true(*lit) {
                 return Some(*lit);
@@ -74,39 +78,34 @@ impl Engine {
         }
         self.solver.decide(lit);
         self.assumed = self.solver.level();
-        let _ = self.solver.trail();
         Ok(None)
     }
 
-    // Decides the least unassigned variable, or gives the model where there is none.
+    // Decides the first variable in the order of decisions, or gives the model where none is left.
     fn fill(&mut self, problem: &Problem, query: &Query) -> Result<Option<Verdict>, AllocError>
         requires turning { IsTurning problem.now query.now self.old }
         requires settled { IsSettled self.old }
         requires assumed { IsAllTrue query.now.assumed self.old.solver }
         ensures turning { IsTurning problem.now query.now self.new }
         ensures same { KeepsLog self.old self.new }
+        ensures first { IfOk result (λ found. MatchOption found (DecidesNext self.old.solver self.new.solver) (λ _. IsFull self.old.solver)) }
         ensures found { IfOk result (λ found. MatchOption found (GoesFurther self.old self.new) (IsFound problem.now query.now)) }
     {
-        match self.free_variable(problem, query) {
+        match self.free_variable() {
             None => Ok(Some(Verdict::Model(self.model(problem, query)?))),
             Some(variable) => {
                 let positive = phase(problem, query, self.graph.places(), variable);
                 self.solver.decide(Lit { variable, positive });
-                let _ = self.solver.trail();
                 Ok(None)
             }
         }
     }
 
-    // The least unassigned variable of the problem and the query.
-    fn free_variable(&self, problem: &Problem, query: &Query) -> Option<u32>
-        requires { IsTurning problem.now query.now self.now }
-        ensures { MatchOption result (IsAllAssigned (length (all_kinds problem.now query.now)) self.now.solver) (IsFreeVariable (length (all_kinds problem.now query.now)) self.now.solver) }
+    // The first variable in the order of decisions, None exactly where every variable in use is assigned.
+    fn free_variable(&mut self) -> Option<u32>
+        ensures same { self.new ≡ self.old }
+        ensures free { MatchOption result (IsFull self.old.solver) (IsNextFree self.old.solver) }
     {
-        let variables = problem.kinds.len() + query.locals.len();
-        match self.solver.next_free() {
-            Some(variable) if (variable as usize) < variables => Some(variable),
-            _ => None,
-        }
+        self.solver.next_free()
     }
 }

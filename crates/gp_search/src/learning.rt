@@ -1,18 +1,20 @@
-ghost use Rattle.std.specs.Prelude.{◌≡◌, ◌+◌, ◌<◌, ◌^◌, ◌≤◌, length, IfOk, OnOk, OnErr, IsTrue};
+ghost use Rattle.std.specs.Prelude.{◌≡◌, ◌+◌, ◌<◌, ◌^◌, ◌≤◌, length, All, IfOk, OnOk, OnErr, IsTrue};
 ghost use Rattle.gp_derivation.specs.Log.{LearnedPasses};
 ghost use Rattle.gp_sat.specs.Changes.{MayAttach};
+ghost use Rattle.gp_sat.specs.Sound.{IsSound};
 ghost use Rattle.gp_search.specs.Inside.{IsTurning, IsConflict};
-ghost use Rattle.gp_search.specs.Moves.{IsLesson, IsBackAt, KeepsLog, LearnsOne, with_number, RestsOnMarked, is_marked};
+ghost use Rattle.gp_search.specs.Moves.{IsLearnedStep, IsBackAt, KeepsLog, LearnsOne, with_number, raised, RestsOnMarked, is_marked};
 
 use crate::bounds::count_bounds;
 use crate::engine::{Conflict, Engine};
-use gp_clause::{Problem, Query, Row};
+use gp_clause::{Lit, Problem, Query, Row};
 use gp_derivation::{LogEntry, Origin, Step, log_grows};
+use gp_sat::Solver;
 use std::alloc::AllocError;
 
 // A step to log, and the level at which its clause asserts a literal.
 #[derive(Debug, Drop)]
-pub(crate) struct Lesson {
+pub(crate) struct LearnedStep {
     step: Step,
     level: u32,
 }
@@ -27,31 +29,31 @@ impl Engine {
     ) -> Result<(), AllocError>
         requires turning { IsTurning problem.now query.now self.old }
         requires conflict { IsConflict problem.now query.now self.old.solver conflict.now.lits.items conflict.now.number }
-        requires above { 0 < self.old.solver.level }
+        requires above { self.old.assumed < self.old.solver.level }
         requires few { length problem.now.clauses + length self.old.log.items + 2 < 2 ^ 32 }
         ensures turning { IsTurning problem.now query.now self.new }
         ensures ok { OnOk result (LearnsOne self.old self.new) }
         ensures err { OnErr result (KeepsLog self.old self.new) }
     {
-        let Lesson { step, level } = self.lesson(problem, query, conflict)?;
+        let LearnedStep { step, level } = self.learned_step(problem, query, conflict)?;
         self.back_to(problem, query, level);
         self.keep(problem, query, step)
     }
 
     // What the analysis of a conflict gives, with the number of the conflict's clause among the hints.
-    fn lesson(
+    fn learned_step(
         &self,
         problem: &Problem,
         query: &Query,
         conflict: &Conflict,
-    ) -> Result<Lesson, AllocError>
+    ) -> Result<LearnedStep, AllocError>
         requires turning { IsTurning problem.now query.now self.now }
         requires conflict { IsConflict problem.now query.now self.now.solver conflict.now.lits.items conflict.now.number }
-        requires above { 0 < self.now.solver.level }
-        ensures { IfOk result (λ lesson. IsLesson problem.now query.now self.now lesson.step lesson.level) }
+        requires above { self.now.assumed < self.now.solver.level }
+        ensures { IfOk result (λ learned_step. IsLearnedStep problem.now query.now self.now learned_step.step learned_step.level) }
     {
         let learned = self.solver.analyse(conflict.lits.as_slice())?;
-        Ok(Lesson {
+        Ok(LearnedStep {
             step: Step {
                 clause: learned.clause,
                 hints: add_number(learned.hints, conflict.number)?,
@@ -75,7 +77,7 @@ impl Engine {
         self.assumed = self.assumed.min(level);
     }
 
-    // Logs a step under the next number, and attaches its clause.
+    // Logs a step under the next number, attaches its clause, and raises the variables of it.
     fn keep(&mut self, problem: &Problem, query: &Query, step: Step) -> Result<(), AllocError>
         requires turning { IsTurning problem.now query.now self.old }
         requires passes { LearnedPasses problem.now query.now.locals self.old.log.items self.old.begins (length self.old.log.items) step }
@@ -89,13 +91,13 @@ impl Engine {
         self.log.reserve(1)?;
         self.pure.reserve(1)?;
         self.solver.attach(&step.clause)?;
+        raise_all(&mut self.solver, step.clause.lits());
         let pure = self.is_pure(problem, &step);
         self.pure.push_reserved(pure);
         self.log.push_reserved(LogEntry {
             step,
             origin: Origin::Learned,
         });
-        let _ = self.solver.trail();
         Ok(())
     }
 
@@ -114,6 +116,18 @@ impl Engine {
                 .as_slice()
                 .iter()
                 .all(|hint| names_marked(self.pure.as_slice(), bases, *hint))
+    }
+}
+
+// Moves the variables of literals to the front of the order of decisions, one after the other.
+fn raise_all(solver: &mut Solver, lits: &[Lit])
+    requires sound { IsSound solver.old }
+    requires named { All (λ lit. lit.variable < length solver.old.values) lits.now }
+    ensures sound { IsSound solver.new }
+    ensures raised { solver.new ≡ record solver.old { order = raised lits.now solver.old.order } }
+{
+    for lit in lits {
+        solver.raise(lit.variable);
     }
 }
 

@@ -17,9 +17,9 @@ pub struct Search<'a> {
 }
 
 impl<'a> Model for Search<'a> {
-    ghost use Rattle.gp_search.specs.Verdict.{Searching};
+    ghost use Rattle.gp_search.specs.Verdict.{SearchForm};
 
-    ghost Value = { Searching };
+    ghost Value = { SearchForm };
 
     ghost use Rattle.gp_search.specs.Inside.{IsIdle};
 

@@ -77,9 +77,7 @@ impl Engine {
         ensures same { GoesOn self.old self.new }
         ensures answer { IsPropagated self.new.solver result }
     {
-        let propagated = self.solver.propagate();
-        let _ = self.solver.trail();
-        propagated
+        self.solver.propagate()
     }
 
     // The attached clause of a number, which is false.
@@ -93,9 +91,9 @@ impl Engine {
         requires conflict { IsFalseClause self.now.solver number }
         ensures { IfOk result (λ conflict. IsConflict problem.now query.now self.now.solver conflict.lits.items conflict.number) }
     {
-        let clause = self.solver.clause(number);
+        let lits = self.solver.clause(number);
         Ok(Conflict {
-            lits: Vec::from_slice(*self.log.allocator(), clause.lits())?,
+            lits: Vec::from_slice(*self.log.allocator(), lits)?,
             number: Some(number),
         })
     }

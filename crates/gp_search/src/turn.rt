@@ -1,8 +1,7 @@
 ghost use Rattle.std.specs.Prelude.{◌≡◌, ◌+◌, ◌<◌, ◌≤◌, ◌^◌, length, IfOk, OnOk, OnErr};
 ghost use Rattle.gp_clause.specs.Problem.{IsValidQuery};
 ghost use Rattle.gp_search.specs.Inside.{IsTurning, IsWhole, IsIdle};
-ghost use Rattle.gp_sat.specs.State.{grown};
-ghost use Rattle.gp_search.specs.Moves.{KeepsLog, IsEnded, IsGrown, retired};
+ghost use Rattle.gp_search.specs.Moves.{KeepsLog, IsEnded, IsGrown, IsRoomy, retired};
 ghost use Rattle.gp_search.specs.Verdict.{IsDue};
 
 use crate::engine::{Conflict, Engine};
@@ -64,7 +63,8 @@ impl Engine {
         }
     }
 
-    // Makes room for a query, and begins its turn at the end of the log.
+    // Makes room for a query, takes its variables and those of the problem into use, and begins its turn at the end of the
+    // log.
     fn begin(&mut self, problem: &Problem, query: &Query) -> Result<(), AllocError>
         requires idle { IsIdle problem.now self.old }
         requires valid { IsValidQuery problem.now query.now }
@@ -80,8 +80,8 @@ impl Engine {
         self.assumed = 0;
         let variables = (problem.kinds.len() + query.locals.len()) as u32;
         grow(&mut self.solver, variables)?;
+        self.solver.set_used(variables);
         self.graph.reserve(self.solver.variables())?;
-        let _ = self.solver.trail();
         Ok(())
     }
 
@@ -137,7 +137,7 @@ impl Engine {
 
 // Makes room for so many variables, where there is less.
 fn grow(solver: &mut Solver, variables: u32) -> Result<(), AllocError>
-    ensures ok { OnOk result (solver.new ≡ grown solver.old variables) }
+    ensures ok { OnOk result (IsRoomy solver.old solver.new variables) }
     ensures err { OnErr result (solver.new ≡ solver.old) }
 {
     if variables <= solver.variables() {

@@ -4,7 +4,7 @@ use Rattle.std.proofs.lemmas.Bool.{false≢true}
 use Rattle.std.proofs.lemmas.List.Sorted.{answers_always}
 use Rattle.gp_clause.specs.declared.lit.Lit.{Lit}
 use Rattle.gp_clause.specs.Clause.{NamesOnce}
-use Rattle.gp_clause.proofs.Occurrences.{once_from_rising, rises_from_tests}
+use Rattle.gp_clause.specs.OccurrenceLaws.{once_from_rising, rises_from_tests}
 use Rattle.gp_search.proofs.tests.is_once.Goals as goal
 
 -- where each variable is less than the next, none stands twice

@@ -1,15 +1,16 @@
 use Rattle.std.proofs.Common.{refl, ◌∙◌, ap, subst, Bool, List, [], ◌∷◌, ◌++◌}
 use Rattle.gp_derivation.specs.declared.log.LogEntry.{LogEntry}
-use Rattle.gp_search.specs.Moves.{RestsOnMarked}
+use Rattle.gp_search.specs.Moves.{RestsOnMarked, raised}
 use Rattle.gp_search.proofs.Logging.{logged_more, entry_of}
 use Rattle.gp_search.proofs.engine.Engine.keep.Goals as goal
 
 pub returns-clause-turning : goal.returns-clause-turning
 returns-clause-turning c =
     let P : List Bool → Type 0 = λ marks. RestsOnMarked c.args.problem.now marks c.args.step in
-    logged_more c.args.problem.now c.args.query.now c.args.self.now _ c.args.step c.is_pure-pure.result c.log_grows.ensures c.requires.turning c.trail.ensures.sound
+    logged_more c.args.problem.now c.args.query.now c.args.self.now _ c.args.step c.is_pure-pure.result c.log_grows.ensures c.requires.turning c.raise_all.ensures.sound
     (record {
-      solver = c.in_ok-attach.ensures.ok;
+      order = raised c.args.step.clause c.args.self.now.solver.order;
+      solver = c.raise_all.ensures.raised ∙ (λ i. record (c.in_ok-attach.ensures.ok i) { order = raised (c.lits.ensures.lits i) (c.in_ok-attach.ensures.ok i).order });
       graph = refl;
       log = c.push_reserved-2.ensures.items ∙ ap (λ (es : List LogEntry). es ++ entry_of c.args.step ∷ []) c.reserve.ensures.items;
       pure = c.push_reserved.ensures.items ∙ ap (λ (bs : List Bool). bs ++ c.is_pure-pure.result ∷ []) c.reserve-2.ensures.items;

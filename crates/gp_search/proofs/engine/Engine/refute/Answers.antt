@@ -2,7 +2,7 @@ use Rattle.std.proofs.Common.{sym, subst, ℕ, List, length}
 use Rattle.gp_clause.specs.declared.lit.Lit.{Lit}
 use Rattle.gp_derivation.specs.Log.{LearnedPasses}
 use Rattle.gp_sat.specs.Learning.{IsFinal}
-use Rattle.gp_search.proofs.Lessons.{learned_passes}
+use Rattle.gp_search.proofs.LearnedSteps.{learned_passes}
 use Rattle.gp_search.proofs.Refuting.{final_negated}
 use Rattle.gp_search.proofs.engine.Engine.refute.Goals as goal
 

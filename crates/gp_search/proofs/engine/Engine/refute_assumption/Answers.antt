@@ -1,7 +1,6 @@
 use Rattle.std.proofs.Common.{◌≡◌, ◌∙◌, [], ◌∷◌, ◌++◌}
 use Rattle.gp_clause.specs.Lit.{opposite}
-use Rattle.gp_sat.proofs.Passing.{makes_clause, clause_sorted}
-use Rattle.gp_search.proofs.Refuting.{once_beside, apart_from_false, assumption_passes, assumption_negated}
+use Rattle.gp_search.proofs.Refuting.{makes_clause, clause_sorted, once_beside, apart_from_false, assumption_passes, assumption_negated}
 use Rattle.gp_search.proofs.engine.Engine.refute_assumption.Goals as goal
 
 pub unwrap-requires : goal.unwrap-requires

@@ -14,15 +14,15 @@ use Rattle.gp_clause.specs.Lit.{opposite}
 use Rattle.gp_derivation.specs.declared.log.LogEntry.{LogEntry}
 use Rattle.gp_derivation.specs.Log.{logged, LearnedPasses, IsUsable}
 use Rattle.gp_derivation.specs.Step.{negations, named, IsRefuted}
-use Rattle.gp_derivation.proofs.Lists.{contains_map, named_contains}
-use Rattle.gp_derivation.proofs.Passing.{derived_more}
-use Rattle.gp_sat.specs.declared.stored.Stored.{Stored}
-use Rattle.gp_sat.specs.State.{State, assigned, clause_at, no_clause, IsAttached}
+use Rattle.gp_derivation.specs.ListLaws.{contains_map, named_contains}
+use Rattle.gp_clause.specs.ClosureLaws.{derived_more}
+use Rattle.gp_sat.specs.Stored.{Stored}
+use Rattle.gp_sat.specs.State.{SolverForm, assigned, clause_at, no_clause, IsAttached}
 use Rattle.gp_sat.specs.Standing.{IsFalse, IsForcing, Each}
 use Rattle.gp_sat.specs.Sound.{IsSound, true_lit}
 use Rattle.gp_sat.specs.Learning.{IsLearned, IsReason, hinted}
 use Rattle.gp_sat.specs.Looking.{IsTrueLit}
-use Rattle.gp_sat.proofs.Storing.{attached_within}
+use Rattle.gp_sat.specs.SolverLaws.{attached_within}
 use Rattle.gp_search.specs.declared.engine.Engine.{Engine}
 use Rattle.gp_search.specs.Inside.{all_kinds, IsTurning, IsConflict, IsNumber, numbered, IsReasoned}
 use Rattle.gp_search.specs.Moves.{with_number}
@@ -31,7 +31,7 @@ use Rattle.gp_search.proofs.Lists.{contains_cases, here, mapped_cases}
 use Rattle.gp_search.proofs.Cycles.{all_from_contains}
 
 -- the reason of an assignment has one true literal
-pub reason_headed : (s : State) (number : ℕ) → IsSound s → IsReason s number → IsHeaded (assigned s) (clause_at s.clauses number)
+pub reason_headed : (s : SolverForm) (number : ℕ) → IsSound s → IsReason s number → IsHeaded (assigned s) (clause_at s.clauses number)
 reason_headed s number sound (variable, a, is, reason) =
     let forcing : IsForcing (assigned s) (clause_at s.clauses number) (true_lit variable a) a.place = (sound.explained.forced variable a number is reason).1 in
     record {
@@ -42,7 +42,7 @@ reason_headed s number sound (variable, a, is, reason) =
     }
 
 -- the conflict of an analysis is reached from the negation of what is learned
-pub learned_reached : (s : State) (conflict clause : List Lit) (hints : List ℕ) → IsSound s → Each (IsFalse (assigned s)) conflict → IsLearned s conflict clause hints
+pub learned_reached : (s : SolverForm) (conflict clause : List Lit) (hints : List ℕ) → IsSound s → Each (IsFalse (assigned s)) conflict → IsLearned s conflict clause hints
     → IsReached (negations clause) (hinted s hints) conflict
 learned_reached s conflict clause hints sound all_false learned =
     reached (assigned s) (negations clause) (hinted s hints) conflict starts heads all_false learned.passes
@@ -79,7 +79,7 @@ with_number_hints hints None hint is = is
 with_number_hints hints (Some number) hint is = Contains-append_left hints (number ∷ []) hint is
 
 -- all hints are attached
-pub hints_attached : (s : State) (names : ℕ) (hints : List ℕ) (number : Option ℕ) → IsReasoned names s → ((hint : ℕ) → Contains hints hint → IsReason s hint) → IsNumber s number
+pub hints_attached : (s : SolverForm) (names : ℕ) (hints : List ℕ) (number : Option ℕ) → IsReasoned names s → ((hint : ℕ) → Contains hints hint → IsReason s hint) → IsNumber s number
     → (hint : ℕ) → Contains (with_number hints number) hint → IsAttached s.clauses hint
 hints_attached s names hints None reasoned reasons attached hint is =
     let why = reasons hint is in reasoned.attached why.0 why.1 hint why.2 why.3
@@ -92,7 +92,7 @@ hints_attached s names hints (Some number) reasoned reasons attached hint is = e
 ]
 
 -- the clause of the number is among those that the hints name
-numbered_among : (problem : Problem) (log : List LogEntry) (s : State) (hints : List ℕ) (number : Option ℕ) → map (λ (stored : Stored). stored.clause) s.clauses ≡ logged problem log → IsNumber s number
+numbered_among : (problem : Problem) (log : List LogEntry) (s : SolverForm) (hints : List ℕ) (number : Option ℕ) → map (λ (stored : Stored). stored.clause) s.clauses ≡ logged problem log → IsNumber s number
     → All (Contains (named (logged problem log) (with_number hints number))) (numbered s number)
 numbered_among problem log s hints None same attached = λ k d within. absurd (omega (arith, within))
 numbered_among problem log s hints (Some number) same attached = all_from_contains (Contains (named (logged problem log) (hints ++ number ∷ []))) (clause_at s.clauses number ∷ []) (λ clause is.
@@ -104,7 +104,7 @@ numbered_among problem log s hints (Some number) same attached = all_from_contai
     ])
 
 -- the clauses of the hints are among those that they name in the log
-hinted_among : (problem : Problem) (log : List LogEntry) (s : State) (names : ℕ) (hints : List ℕ) (number : Option ℕ) → map (λ (stored : Stored). stored.clause) s.clauses ≡ logged problem log → IsReasoned names s
+hinted_among : (problem : Problem) (log : List LogEntry) (s : SolverForm) (names : ℕ) (hints : List ℕ) (number : Option ℕ) → map (λ (stored : Stored). stored.clause) s.clauses ≡ logged problem log → IsReasoned names s
     → ((hint : ℕ) → Contains hints hint → IsReason s hint) → All (Contains (named (logged problem log) (with_number hints number))) (hinted s hints)
 hinted_among problem log s names hints number same reasoned reasons = all_from_contains (Contains (named (logged problem log) (with_number hints number))) (hinted s hints) (λ clause is.
     let one = mapped_cases (clause_at s.clauses) hints clause is in
@@ -115,7 +115,7 @@ hinted_among problem log s names hints number same reasoned reasons = all_from_c
     (clause_got problem log s.clauses one.0 same within)))
 
 -- a clause whose literals are false names variables that are assigned
-pub names_from_false : (s : State) (names : ℕ) (clause : List Lit) → IsReasoned names s → Each (IsFalse (assigned s)) clause → NamesBelow names clause
+pub names_from_false : (s : SolverForm) (names : ℕ) (clause : List Lit) → IsReasoned names s → Each (IsFalse (assigned s)) clause → NamesBelow names clause
 names_from_false s names clause reasoned all_false = all_from_contains (λ (lit : Lit). lit.variable < names) clause (λ lit is.
     let fell = all_false lit is in reasoned.below lit.variable fell.0 fell.1)
 
@@ -147,7 +147,7 @@ pub learned_passes : (problem : Problem) (query : Query) (engine : Engine) (conf
     → IsConflict problem query engine.solver conflict number → IsLearned engine.solver conflict clause hints
     → LearnedPasses problem query.locals engine.log.items engine.begins (length engine.log.items) (record { clause = clause; hints = with_number hints number })
 learned_passes problem query engine conflict number clause hints turning found learned =
-    let s : State = engine.solver in
+    let s : SolverForm = engine.solver in
     let same = turning.whole.stored.lits in
     let more : List (List Lit) = named (logged problem engine.log.items) (with_number hints number) in
     let among : All (Contains more) (hinted s hints) = hinted_among problem engine.log.items s (length (all_kinds problem query)) hints number same turning.reasoned learned.reasons in
@@ -177,7 +177,7 @@ pub final_passes : (problem : Problem) (query : Query) (engine : Engine) (lit : 
     → (Contains final lit → ⊥) → NamesBelow (length (all_kinds problem query)) final
     → LearnedPasses problem query.locals engine.log.items engine.begins (length engine.log.items) (record { clause = final; hints = hints })
 final_passes problem query engine lit clause final hints turning fell learned longer has absent names =
-    let s : State = engine.solver in
+    let s : SolverForm = engine.solver in
     let same = turning.whole.stored.lits in
     let more : List (List Lit) = named (logged problem engine.log.items) hints in
     let among : All (Contains more) (hinted s hints) = hinted_among problem engine.log.items s (length (all_kinds problem query)) hints None same turning.reasoned learned.reasons in

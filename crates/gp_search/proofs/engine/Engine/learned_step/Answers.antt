@@ -1,10 +1,10 @@
-use Rattle.std.proofs.Common.{sym, subst, ℕ, List, length}
+use Rattle.std.proofs.Common.{sym, subst, ℕ, List, length, arith}
 use Rattle.gp_clause.specs.declared.lit.Lit.{Lit}
 use Rattle.gp_derivation.specs.Log.{LearnedPasses}
 use Rattle.gp_sat.specs.Learning.{IsFirstPoint}
-use Rattle.gp_search.proofs.Lessons.{learned_passes}
+use Rattle.gp_search.proofs.LearnedSteps.{learned_passes}
 use Rattle.gp_search.proofs.Logging.{lesson_below}
-use Rattle.gp_search.proofs.engine.Engine.lesson.Goals as goal
+use Rattle.gp_search.proofs.engine.Engine.learned_step.Goals as goal
 
 pub returns : goal.returns
 returns c =
@@ -17,5 +17,5 @@ returns c =
       all_false = found.learned.all_false;
       point = found.point;
       highest = found.level;
-      below = lesson_below c.args.self.now.solver c.in_ok-learned.learned.clause c.in_ok-learned.learned.level c.requires.above found.level;
+      below = lesson_below c.args.self.now.solver c.in_ok-learned.learned.clause c.in_ok-learned.learned.level (omega (arith, c.requires.above)) found.level;
     }

@@ -137,98 +137,185 @@ fn analyse_final(rt: &impl Abort, solver: &Solver, number: u32) -> Result<Learne
     Ok(solver.analyse_final(conflict)?)
 }
 
+// A solver of so many variables with these clauses.
+fn of_clauses(
+    rt: &impl Abort,
+    alloc: Global,
+    variables: u32,
+    clauses: &[&[Lit]],
+) -> Result<Solver, Fail> {
+    let mut solver = Solver::new(alloc, variables)?;
+    for lits in clauses {
+        let clause = Clause::of(Vec::from_slice(alloc, lits)?)?;
+        attach(rt, &mut solver, &clause)?;
+    }
+    Ok(solver)
+}
+
+fn is_quiet(solver: &mut Solver) -> bool {
+    solver.propagate() == Propagated::Quiet
+}
+
+fn is_false_at(solver: &mut Solver, number: u32) -> bool {
+    solver.propagate() == Propagated::False(number)
+}
+
+fn has_trail(solver: &Solver, lits: &[Lit]) -> bool {
+    solver.trail() == lits
+}
+
+fn is_next(solver: &mut Solver, variable: Option<u32>) -> bool {
+    solver.next_free() == variable
+}
+
+fn is_learned(learned: &Learned, lits: &[Lit], level: u32, hints: &[u32]) -> bool {
+    learned.clause.lits() == lits && learned.level == level && learned.hints.as_slice() == hints
+}
+
+fn go_back(solver: &mut Solver) {
+    solver.backjump(0);
+}
+
+fn raise(rt: &impl Abort, solver: &mut Solver, variable: u32) {
+    assert!(rt; variable < solver.variables());
+    solver.raise(variable);
+}
+
+fn use_first(rt: &impl Abort, solver: &mut Solver, count: u32) {
+    assert!(rt; count <= solver.variables());
+    solver.set_used(count);
+}
+
+fn clear(solver: &mut Solver) {
+    solver.clear();
+}
+
+fn retire(rt: &impl Abort, solver: &mut Solver, number: u32) {
+    assert!(rt; solver.level() == 0);
+    assert!(rt; number < solver.clause_count());
+    solver.retire(number);
+}
+
+fn grow(rt: &impl Abort, solver: &mut Solver, variables: u32) -> Result<(), Fail> {
+    assert!(rt; solver.variables() <= variables);
+    Ok(solver.grow(variables)?)
+}
+
+// Decides the first variable false, learns from the conflict, and goes on with what was learned.
+fn goes_on(rt: &impl Abort, solver: &mut Solver) -> Result<bool, Fail> {
+    let quiet = is_quiet(solver);
+    decide(rt, solver, NOT_A);
+    let fails = is_false_at(solver, 0);
+    let learned = analyse(rt, solver, 0)?;
+    go_back(solver);
+    let number = attach(rt, solver, &learned.clause)?;
+    let again = is_quiet(solver);
+    Ok(
+        quiet
+            && fails
+            && again
+            && number == 2
+            && learned.level == 0
+            && learned.clause.lits() == [A].as_slice()
+            && has_trail(solver, [A].as_slice()),
+    )
+}
+
 #[test]
 fn learns_a_unit_and_goes_on(rt: HostRuntime) -> Result<(), Fail> {
-    let mut solver = Solver::new(rt.alloc(), 2)?;
-    for lits in [[A, B], [A, NOT_B]] {
-        let clause = Clause::of(Vec::from_slice(rt.alloc(), lits.as_slice())?)?;
-        attach(&rt, &mut solver, &clause)?;
-    }
-    assert_eq!(rt; solver.propagate(), Propagated::Quiet);
-    decide(&rt, &mut solver, NOT_A);
-    assert_eq!(rt; solver.propagate(), Propagated::False(0));
-    let learned = analyse(&rt, &solver, 0)?;
-    assert_eq!(rt; learned.clause.lits(), [A].as_slice());
-    assert_eq!(rt; learned.level, 0);
-    assert!(rt; solver.level() == 1);
-    solver.backjump(0);
-    assert_eq!(rt; attach(&rt, &mut solver, &learned.clause)?, 2);
-    assert_eq!(rt; solver.propagate(), Propagated::Quiet);
-    assert_eq!(rt; solver.trail(), [A].as_slice());
+    let mut solver = of_clauses(&rt, rt.alloc(), 2, &[&[A, B], &[A, NOT_B]])?;
+    assert!(rt; goes_on(&rt, &mut solver)?);
     Ok(())
+}
+
+// Clauses and decisions, the clause that is false then, and what is learned from it, first and finally.
+#[derive(Drop)]
+struct Row<'a> {
+    clauses: &'a [&'a [Lit]],
+    decisions: &'a [Lit],
+    conflict: u32,
+    lits: &'a [Lit],
+    level: u32,
+    hints: &'a [u32],
+    last: &'a [Lit],
+}
+
+fn learns(rt: &impl Abort, alloc: Global, row: &Row) -> Result<bool, Fail> {
+    let mut solver = of_clauses(rt, alloc, 4, row.clauses)?;
+    for lit in row.decisions {
+        decide(rt, &mut solver, *lit);
+    }
+    let fails = is_false_at(&mut solver, row.conflict);
+    let learned = analyse(rt, &solver, row.conflict)?;
+    let last = analyse_final(rt, &solver, row.conflict)?;
+    Ok(
+        fails
+            && is_learned(&learned, row.lits, row.level, row.hints)
+            && last.clause.lits() == row.last,
+    )
 }
 
 #[test]
 fn learns_from_conflicts(rt: HostRuntime) -> Result<(), Fail> {
-    let rows: [(&[&[Lit]], &[Lit], u32, &[Lit], u32, &[u32], &[Lit]); 3] = [
-        (
-            &[&[NOT_A, NOT_B, C], &[NOT_B, NOT_C]],
-            &[A, B],
-            0,
-            &[NOT_A, NOT_B],
-            1,
-            &[1],
-            &[NOT_A, NOT_B],
-        ),
-        (
-            &[&[NOT_A, B], &[NOT_B, C], &[NOT_B, D], &[NOT_C, NOT_D]],
-            &[A],
-            3,
-            &[NOT_B],
-            0,
-            &[1, 2],
-            &[NOT_A],
-        ),
-        (
-            &[&[A], &[NOT_A, NOT_B, C], &[NOT_B, NOT_C]],
-            &[B],
-            1,
-            &[NOT_B],
-            0,
-            &[2, 0],
-            &[NOT_B],
-        ),
+    let rows = [
+        Row {
+            clauses: &[&[NOT_A, NOT_B, C], &[NOT_B, NOT_C]],
+            decisions: &[A, B],
+            conflict: 0,
+            lits: &[NOT_A, NOT_B],
+            level: 1,
+            hints: &[1],
+            last: &[NOT_A, NOT_B],
+        },
+        Row {
+            clauses: &[&[NOT_A, B], &[NOT_B, C], &[NOT_B, D], &[NOT_C, NOT_D]],
+            decisions: &[A],
+            conflict: 3,
+            lits: &[NOT_B],
+            level: 0,
+            hints: &[1, 2],
+            last: &[NOT_A],
+        },
+        Row {
+            clauses: &[&[A], &[NOT_A, NOT_B, C], &[NOT_B, NOT_C]],
+            decisions: &[B],
+            conflict: 1,
+            lits: &[NOT_B],
+            level: 0,
+            hints: &[2, 0],
+            last: &[NOT_B],
+        },
     ];
-    for (clauses, decisions, conflict, want, level, hints, last) in rows {
-        let mut solver = Solver::new(rt.alloc(), 4)?;
-        for lits in clauses {
-            let clause = Clause::of(Vec::from_slice(rt.alloc(), lits)?)?;
-            attach(&rt, &mut solver, &clause)?;
-        }
-        for lit in decisions {
-            decide(&rt, &mut solver, *lit);
-        }
-        assert_eq!(rt; solver.propagate(), Propagated::False(conflict));
-        let learned = analyse(&rt, &solver, conflict)?;
-        assert_eq!(rt; learned.clause.lits(), want);
-        assert_eq!(rt; learned.level, level);
-        assert_eq!(rt; learned.hints.as_slice(), hints);
-        assert_eq!(rt; analyse_final(&rt, &solver, conflict)?.clause.lits(), last);
+    for row in &rows {
+        assert!(rt; learns(&rt, rt.alloc(), row)?);
     }
     Ok(())
 }
 
+// Finds a false clause, takes everything back, retires the other one, and grows.
+fn starts_again(rt: &impl Abort, solver: &mut Solver) -> Result<bool, Fail> {
+    let fails = is_false_at(solver, 1);
+    let last = analyse_final(rt, solver, 1)?;
+    let full = is_next(solver, None);
+    clear(solver);
+    retire(rt, solver, 0);
+    grow(rt, solver, 3)?;
+    let quiet = is_quiet(solver);
+    Ok(
+        fails
+            && full
+            && quiet
+            && last.clause.is_empty()
+            && last.hints.as_slice() == [0].as_slice()
+            && has_trail(solver, [NOT_A].as_slice())
+            && is_next(solver, Some(1)),
+    )
+}
+
 #[test]
 fn clears_retires_and_grows(rt: HostRuntime) -> Result<(), Fail> {
-    let mut solver = Solver::new(rt.alloc(), 1)?;
-    for lits in [[A], [NOT_A]] {
-        let clause = Clause::of(Vec::from_slice(rt.alloc(), lits.as_slice())?)?;
-        attach(&rt, &mut solver, &clause)?;
-    }
-    assert_eq!(rt; solver.propagate(), Propagated::False(1));
-    let last = analyse_final(&rt, &solver, 1)?;
-    assert!(rt; last.clause.is_empty());
-    assert_eq!(rt; last.hints.as_slice(), [0].as_slice());
-    assert_eq!(rt; solver.next_free(), None);
-    solver.clear();
-    assert!(rt; solver.clause_count() == 2);
-    assert!(rt; solver.level() == 0);
-    solver.retire(0);
-    assert!(rt; solver.variables() == 1);
-    solver.grow(3)?;
-    assert_eq!(rt; solver.propagate(), Propagated::Quiet);
-    assert_eq!(rt; solver.trail(), [NOT_A].as_slice());
-    assert_eq!(rt; solver.next_free(), Some(1));
+    let mut solver = of_clauses(&rt, rt.alloc(), 1, &[&[A], &[NOT_A]])?;
+    assert!(rt; starts_again(&rt, &mut solver)?);
     Ok(())
 }
 
@@ -280,20 +367,22 @@ fn visits_only_what_watches(rt: HostRuntime) -> Result<(), Fail> {
     Ok(())
 }
 
+// Follows the order of the queue, with a raised variable first, and passes by what is not in use.
+fn follows_the_order(rt: &impl Abort, solver: &mut Solver) -> bool {
+    let first = is_next(solver, Some(0));
+    raise(rt, solver, 2);
+    let raised = is_next(solver, Some(2));
+    decide(rt, solver, NOT_C);
+    let behind = is_next(solver, Some(0));
+    go_back(solver);
+    let again = is_next(solver, Some(2));
+    use_first(rt, solver, 2);
+    first && raised && behind && again && is_next(solver, Some(0))
+}
+
 #[test]
 fn decides_in_the_order_of_the_queue(rt: HostRuntime) -> Result<(), Fail> {
     let mut solver = Solver::new(rt.alloc(), 3)?;
-    assert_eq!(rt; solver.next_free(), Some(0));
-    assert!(rt; solver.variables() == 3);
-    solver.raise(2);
-    assert_eq!(rt; solver.next_free(), Some(2));
-    decide(&rt, &mut solver, NOT_C);
-    assert_eq!(rt; solver.next_free(), Some(0));
-    assert!(rt; solver.level() == 1);
-    solver.backjump(0);
-    assert_eq!(rt; solver.next_free(), Some(2));
-    assert!(rt; solver.variables() == 3);
-    solver.set_used(2);
-    assert_eq!(rt; solver.next_free(), Some(0));
+    assert!(rt; follows_the_order(&rt, &mut solver));
     Ok(())
 }

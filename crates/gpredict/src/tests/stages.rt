@@ -117,7 +117,7 @@ fn absence_ends<R: AllocGlobal + Threads + Sync>(
     }
     let words = words_of(alloc, task)?;
     let script = Script {
-        reads: vec![in alloc; place as u64 + 2]?,
+        reads: vec![in alloc; (place as u64).wrapping_add(2)]?,
         puts: Vec::new(alloc),
     };
     Ok(runs_to(rt, words.as_slice(), files, script, 3, text))

@@ -114,6 +114,3 @@ fn add_moved(
     }
     Ok(())
 }
-
-#[cfg(test)]
-mod tests;

@@ -11,8 +11,6 @@ mod pending;
 mod propagation;
 mod solver;
 mod store;
-#[cfg(test)]
-mod tests;
 mod walk;
 mod watches;
 

@@ -11,8 +11,6 @@ mod deciding;
 mod engine;
 mod learning;
 mod search;
-#[cfg(test)]
-mod tests;
 mod theory;
 mod turn;
 mod verdict;

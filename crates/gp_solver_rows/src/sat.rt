@@ -4,51 +4,12 @@ ghost use Rattle.gp_sat.specs.State.{assigned};
 ghost use Rattle.gp_sat.specs.Standing.{IsFalse, Each};
 ghost use Rattle.gp_sat.specs.Changes.{HasPresent, IsOfLevel};
 
-use crate::{Learned, Propagated, Solver};
+use crate::fixture::{A, B, C, D, NOT_A, NOT_B, NOT_C, NOT_D, no, yes};
 use gp_clause::{Clause, Lit};
+use gp_sat::{Learned, Propagated, Solver};
 use std::alloc::{AllocError, Global};
 use std::process::Abort;
 use std::test::Fail;
-
-const A: Lit = Lit {
-    variable: 0,
-    positive: true,
-};
-
-const NOT_A: Lit = Lit {
-    variable: 0,
-    positive: false,
-};
-
-const B: Lit = Lit {
-    variable: 1,
-    positive: true,
-};
-
-const NOT_B: Lit = Lit {
-    variable: 1,
-    positive: false,
-};
-
-const C: Lit = Lit {
-    variable: 2,
-    positive: true,
-};
-
-const NOT_C: Lit = Lit {
-    variable: 2,
-    positive: false,
-};
-
-const D: Lit = Lit {
-    variable: 3,
-    positive: true,
-};
-
-const NOT_D: Lit = Lit {
-    variable: 3,
-    positive: false,
-};
 
 // Whether a clause names variables of a solver alone.
 fn is_named(clause: &Clause, variables: u32) -> bool
@@ -121,20 +82,38 @@ fn decide(rt: &impl Abort, solver: &mut Solver, lit: Lit) {
     }
 }
 
-fn analyse(rt: &impl Abort, solver: &Solver, number: u32) -> Result<Learned, Fail> {
+fn conflict_at(
+    rt: &impl Abort,
+    alloc: Global,
+    solver: &Solver,
+    number: u32,
+) -> Result<Vec<Lit>, AllocError> {
     assert!(rt; number < solver.clause_count());
-    let conflict = solver.clause(number);
-    assert!(rt; solver.level() > 0);
-    assert!(rt; are_false(solver, conflict));
-    assert!(rt; has_present(solver, conflict));
-    Ok(solver.analyse(conflict)?)
+    Vec::from_slice(alloc, solver.clause(number))
 }
 
-fn analyse_final(rt: &impl Abort, solver: &Solver, number: u32) -> Result<Learned, Fail> {
-    assert!(rt; number < solver.clause_count());
-    let conflict = solver.clause(number);
-    assert!(rt; are_false(solver, conflict));
-    Ok(solver.analyse_final(conflict)?)
+fn analyse(
+    rt: &impl Abort,
+    alloc: Global,
+    solver: &mut Solver,
+    number: u32,
+) -> Result<Learned, Fail> {
+    let conflict = conflict_at(rt, alloc, solver, number)?;
+    assert!(rt; solver.level() > 0);
+    assert!(rt; are_false(solver, &conflict));
+    assert!(rt; has_present(solver, &conflict));
+    Ok(solver.analyse(&conflict)?)
+}
+
+fn analyse_final(
+    rt: &impl Abort,
+    alloc: Global,
+    solver: &mut Solver,
+    number: u32,
+) -> Result<Learned, Fail> {
+    let conflict = conflict_at(rt, alloc, solver, number)?;
+    assert!(rt; are_false(solver, &conflict));
+    Ok(solver.analyse_final(&conflict)?)
 }
 
 // A solver of so many variables with these clauses.
@@ -168,8 +147,13 @@ fn is_next(solver: &mut Solver, variable: Option<u32>) -> bool {
     solver.next_free() == variable
 }
 
+// Whether this was learned, with these hints in some order.
 fn is_learned(learned: &Learned, lits: &[Lit], level: u32, hints: &[u32]) -> bool {
-    learned.clause.lits() == lits && learned.level == level && learned.hints.as_slice() == hints
+    let given = learned.hints.as_slice();
+    learned.clause.lits() == lits
+        && learned.level == level
+        && given.len() == hints.len()
+        && hints.iter().all(|hint| given.contains(hint))
 }
 
 fn go_back(solver: &mut Solver) {
@@ -202,11 +186,11 @@ fn grow(rt: &impl Abort, solver: &mut Solver, variables: u32) -> Result<(), Fail
 }
 
 // Decides the first variable false, learns from the conflict, and goes on with what was learned.
-fn goes_on(rt: &impl Abort, solver: &mut Solver) -> Result<bool, Fail> {
+fn goes_on(rt: &impl Abort, alloc: Global, solver: &mut Solver) -> Result<bool, Fail> {
     let quiet = is_quiet(solver);
     decide(rt, solver, NOT_A);
     let fails = is_false_at(solver, 0);
-    let learned = analyse(rt, solver, 0)?;
+    let learned = analyse(rt, alloc, solver, 0)?;
     go_back(solver);
     let number = attach(rt, solver, &learned.clause)?;
     let again = is_quiet(solver);
@@ -224,7 +208,7 @@ fn goes_on(rt: &impl Abort, solver: &mut Solver) -> Result<bool, Fail> {
 #[test]
 fn learns_a_unit_and_goes_on(rt: HostRuntime) -> Result<(), Fail> {
     let mut solver = of_clauses(&rt, rt.alloc(), 2, &[&[A, B], &[A, NOT_B]])?;
-    assert!(rt; goes_on(&rt, &mut solver)?);
+    assert!(rt; goes_on(&rt, rt.alloc(), &mut solver)?);
     Ok(())
 }
 
@@ -246,8 +230,8 @@ fn learns(rt: &impl Abort, alloc: Global, row: &Row) -> Result<bool, Fail> {
         decide(rt, &mut solver, *lit);
     }
     let fails = is_false_at(&mut solver, row.conflict);
-    let learned = analyse(rt, &solver, row.conflict)?;
-    let last = analyse_final(rt, &solver, row.conflict)?;
+    let learned = analyse(rt, alloc, &mut solver, row.conflict)?;
+    let last = analyse_final(rt, alloc, &mut solver, row.conflict)?;
     Ok(
         fails
             && is_learned(&learned, row.lits, row.level, row.hints)
@@ -293,9 +277,9 @@ fn learns_from_conflicts(rt: HostRuntime) -> Result<(), Fail> {
 }
 
 // Finds a false clause, takes everything back, retires the other one, and grows.
-fn starts_again(rt: &impl Abort, solver: &mut Solver) -> Result<bool, Fail> {
+fn starts_again(rt: &impl Abort, alloc: Global, solver: &mut Solver) -> Result<bool, Fail> {
     let fails = is_false_at(solver, 1);
-    let last = analyse_final(rt, solver, 1)?;
+    let last = analyse_final(rt, alloc, solver, 1)?;
     let full = is_next(solver, None);
     clear(solver);
     retire(rt, solver, 0);
@@ -315,7 +299,7 @@ fn starts_again(rt: &impl Abort, solver: &mut Solver) -> Result<bool, Fail> {
 #[test]
 fn clears_retires_and_grows(rt: HostRuntime) -> Result<(), Fail> {
     let mut solver = of_clauses(&rt, rt.alloc(), 1, &[&[A], &[NOT_A]])?;
-    assert!(rt; starts_again(&rt, &mut solver)?);
+    assert!(rt; starts_again(&rt, rt.alloc(), &mut solver)?);
     Ok(())
 }
 
@@ -324,15 +308,7 @@ const PAIRS: u32 = 400_000;
 // The clause of the two variables of a pair.
 fn pair(alloc: Global, number: u32) -> Result<Vec<Lit>, AllocError> {
     let variable = number.saturating_mul(2);
-    let first = Lit {
-        variable,
-        positive: true,
-    };
-    let second = Lit {
-        variable: variable.saturating_add(1),
-        positive: true,
-    };
-    Vec::from_slice(alloc, [first, second].as_slice())
+    Vec::from_slice(alloc, &[yes(variable), yes(variable.saturating_add(1))])
 }
 
 // Whether each pair's second literal is forced by its first one.
@@ -341,14 +317,7 @@ fn forces_each(rt: &impl Abort, solver: &mut Solver) -> bool {
     for number in 0..PAIRS {
         let variable = number.saturating_mul(2);
         let partner = variable.saturating_add(1);
-        decide(
-            rt,
-            solver,
-            Lit {
-                variable,
-                positive: false,
-            },
-        );
+        decide(rt, solver, no(variable));
         let quiet = solver.propagate() == Propagated::Quiet;
         assert!(rt; partner < solver.variables());
         all = all && quiet && solver.value(partner) == Some(true);

@@ -4,7 +4,7 @@ use Rattle.gp_clause.specs.declared.lit.Lit.{Lit}
 use Rattle.gp_sat.specs.State.{assigned}
 use Rattle.gp_sat.specs.Standing.{IsFalse, Each}
 use Rattle.gp_sat.proofs.Marked.{none_in_nil, each_more}
-use Rattle.gp_sat.proofs.tests.are_false.Goals as goal
+use Rattle.gp_solver_rows.proofs.sat.are_false.Goals as goal
 
 pub loop-lit-init : goal.loop-lit-init
 loop-lit-init c = λ lit is. absurd (none_in_nil lit is)

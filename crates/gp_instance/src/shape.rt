@@ -53,7 +53,7 @@ pub fn names_of(event: &Event) -> &[Name]
         Event::Release(name) => slice::from_ref(name),
         Event::Begin(name) => slice::from_ref(name),
         Event::End(name) => slice::from_ref(name),
-        Event::Op(_, objects) => objects.as_slice(),
+        Event::Op(operation) => operation.objects(),
         _ => &[],
     }
 }
@@ -68,7 +68,7 @@ fn is_kind(shape: &Shape, event: &Event) -> bool
         (Shape::Release(_), Event::Release(_)) => true,
         (Shape::Start(thread), Event::Start(found)) => allows_thread(thread, *found),
         (Shape::Join(thread), Event::Join(found)) => allows_thread(thread, *found),
-        (Shape::Op(name, _), Event::Op(found, _)) => name == found,
+        (Shape::Op(name, _), Event::Op(found)) => name == found.name(),
         (Shape::Begin(_), Event::Begin(_)) => true,
         (Shape::End(_), Event::End(_)) => true,
         _ => false,

@@ -35,13 +35,12 @@ pub fn atoms_from(
 {
     let mut atoms = Row::new(alloc);
     for (number, step) in pattern.iter().enumerate() {
-        add_step(alloc, &mut atoms, events, number, step.atoms.as_slice())?;
+        add_step(&mut atoms, events, number, step.atoms.as_slice())?;
     }
     Ok(atoms)
 }
 
 fn add_step(
-    alloc: Global,
     row: &mut Row<PatternAtom>,
     events: &[EventDef],
     step: usize,
@@ -50,13 +49,12 @@ fn add_step(
     ensures { OnOk result (row.new ≡ row.old ++ flat_map (placed events.now step) atoms.now) }
 {
     for atom in atoms {
-        add_atom(alloc, row, step, atom, shape_named(events, &atom.event))?;
+        add_atom(row, step, atom, shape_named(events, &atom.event))?;
     }
     Ok(())
 }
 
 fn add_atom(
-    alloc: Global,
     row: &mut Row<PatternAtom>,
     step: usize,
     atom: &Atom,
@@ -67,7 +65,7 @@ fn add_atom(
     match shape {
         Some(shape) => row.push(PatternAtom {
             step,
-            shape: shape.copied(alloc)?,
+            shape: shape.clone()?,
             thread_var: atom.thread_var,
             opens: atom.opens,
             closes: atom.closes,

@@ -1,8 +1,8 @@
-ghost use Rattle.std.specs.Prelude.{◌≡◌, IfOk};
+ghost use Rattle.std.specs.Prelude.{◌≡◌};
 ghost use Rattle.gp_property.specs.Property.{IsProperty};
 
 use gp_text::{Name, Row};
-use std::alloc::{AllocError, Global};
+use std::alloc::AllocError;
 use std::marker::Model;
 
 /// The most properties of a file.
@@ -57,11 +57,10 @@ pub enum Shape {
     End(Term),
 }
 
-impl Shape {
-    /// The same shape, in memory of its own.
-    pub fn copied(&self, alloc: Global) -> Result<Shape, AllocError>
-        ensures { IfOk result (λ copy. copy ≡ self.now) }
-    {
+impl Clone for Shape {
+    ghost is_clone = { λ shape copy. copy ≡ shape };
+
+    fn clone(&self) -> Result<Shape, AllocError> {
         match self {
             Shape::Read(name, value) => Ok(Shape::Read(*name, *value)),
             Shape::Write(name, value) => Ok(Shape::Write(*name, *value)),
@@ -69,10 +68,7 @@ impl Shape {
             Shape::Release(name) => Ok(Shape::Release(*name)),
             Shape::Start(thread) => Ok(Shape::Start(*thread)),
             Shape::Join(thread) => Ok(Shape::Join(*thread)),
-            Shape::Op(name, objects) => {
-                let objects = Vec::from_slice(alloc, objects.as_slice())?;
-                Ok(Shape::Op(*name, Row::from_vec(objects)))
-            }
+            Shape::Op(name, objects) => Ok(Shape::Op(*name, objects.clone()?)),
             Shape::Begin(name) => Ok(Shape::Begin(*name)),
             Shape::End(name) => Ok(Shape::End(*name)),
         }

@@ -1,4 +1,5 @@
 ghost use Rattle.std.specs.Prelude.{◌≡◌, ◌+◌, ◌<◌, ◌==◌, [], ◌∷◌, ◌++◌, List, length, OnOk, OnErr, slice_set};
+ghost use Rattle.std.specs.List.{AllZip};
 
 use std::alloc::{AllocError, Global};
 use std::marker::Model;
@@ -78,5 +79,14 @@ impl<T: Drop> Row<T> {
         ensures { self.new ≡ slice_set self.old index value }
     {
         self.vec[index] = value;
+    }
+}
+
+/// A clone has clones of the elements, in order.
+impl<T: Clone> Clone for Row<T> {
+    ghost is_clone = { λ row copy. AllZip T.is_clone row copy };
+
+    fn clone(&self) -> Result<Row<T>, AllocError> {
+        Ok(Row::from_vec(self.vec.clone()?))
     }
 }

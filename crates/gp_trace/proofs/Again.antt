@@ -40,7 +40,7 @@ entry_again spelled format (RAcquire lock) is belongs = rw (belongs refl, is) re
 entry_again spelled format (RRelease lock) is belongs = rw (belongs refl, is) refl
 entry_again spelled format (Start thread) is belongs = rw ((spelled.small (decimal thread) thread is).1 refl) refl
 entry_again spelled format (Join thread) is belongs = rw ((spelled.small (decimal thread) thread is).1 refl) refl
-entry_again spelled format (Op name objects) is belongs = rw (names_again objects is.1, few_true (length objects) is.2, is.0) refl
+entry_again spelled format (Op (name, objects)) is belongs = rw (names_again objects is.1, few_true (length objects) is.2, is.0) refl
 entry_again spelled format (Begin region) is belongs = rw is refl
 entry_again spelled format (End region) is belongs = rw is refl
 
@@ -72,16 +72,16 @@ event_short plain (RAcquire lock) is = ((refl, lit≤ tt), (plain.names lock is,
 event_short plain (RRelease lock) is = ((refl, lit≤ tt), (plain.names lock is, tt))
 event_short plain (Start thread) is = ((refl, lit≤ tt), (short_number plain thread is, tt))
 event_short plain (Join thread) is = ((refl, lit≤ tt), (short_number plain thread is, tt))
-event_short plain (Op name objects) is = ((refl, lit≤ tt), (plain.names name is.0, short_names plain objects is.1))
+event_short plain (Op (name, objects)) is = ((refl, lit≤ tt), (plain.names name is.0, short_names plain objects is.1))
 event_short plain (Begin region) is = ((refl, lit≤ tt), (plain.names region is, tt))
 event_short plain (End region) is = ((refl, lit≤ tt), (plain.names region is, tt))
 
 event_few : (event : Event) → IsEvent event → length (event_words event) ≤ 6
-event_few (Op name objects) is = omega (arith, is.2)
+event_few (Op (name, objects)) is = omega (arith, is.2)
 event_few event is = lit≤ tt
 
 event_says : (event : Event) → is_passed_over (event_words event) ≡ false
-event_says (Op name objects) = refl
+event_says (Op (name, objects)) = refl
 event_says event = refl
 
 -- short words in a row

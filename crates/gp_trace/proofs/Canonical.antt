@@ -110,10 +110,10 @@ with_value spelled keyword first event says words is =
     let same : keyword ≡ first = same_bytes keyword first is in
     mapped (λ r. words ≡ r.0 ∷ signed_decimal r.1 ∷ []) (IsSaid keyword words) event (λ r so. cc (same, so, says r)) (name_and_value words) (name_value spelled words)
 
-op_line : (keyword : List ℕ) (words : List (List ℕ)) → bytes_eq keyword (codes "op") ≡ true → InSome (IsSaid keyword words) (option_map (λ o. Op o.0 o.1) (name_and_objects words))
+op_line : (keyword : List ℕ) (words : List (List ℕ)) → bytes_eq keyword (codes "op") ≡ true → InSome (IsSaid keyword words) (option_map Op (name_and_objects words))
 op_line keyword words is =
     let same : keyword ≡ codes "op" = same_bytes keyword (codes "op") is in
-    mapped (λ o. words ≡ o.0 ∷ o.1) (IsSaid keyword words) (λ o. Op o.0 o.1) (λ o so. cc (same, so)) (name_and_objects words) (name_objects words)
+    mapped (λ o. words ≡ o.0 ∷ o.1) (IsSaid keyword words) Op (λ o so. cc (same, so)) (name_and_objects words) (name_objects words)
 
 event_said : OneSpelling → (format : ℕ) (keyword : List ℕ) (words : List (List ℕ)) → InSome (IsSaid keyword words) (event_of format keyword words)
 event_said spelled format keyword words =

@@ -110,8 +110,8 @@ valued_in P event good (Some name) (Some value) named fits = good name value nam
 valued_in P event good (Some name) None named fits = tt
 valued_in P event good None value named fits = tt
 
-op_in : (P : Event → Type 0) → ((name : List ℕ) (objects : List (List ℕ)) → IsNamed name → AreObjects objects → P (Op name objects))
-    → (name : Option (List ℕ)) (objects : Option (List (List ℕ))) → InSome IsNamed name → InSome AreObjects objects → InSome P (option_map (λ o. Op o.0 o.1) (both name objects))
+op_in : (P : Event → Type 0) → ((name : List ℕ) (objects : List (List ℕ)) → IsNamed name → AreObjects objects → P (Op (name, objects)))
+    → (name : Option (List ℕ)) (objects : Option (List (List ℕ))) → InSome IsNamed name → InSome AreObjects objects → InSome P (option_map Op (both name objects))
 op_in P good (Some name) (Some objects) named are = good name objects named are
 op_in P good (Some name) None named are = tt
 op_in P good None objects named are = tt
@@ -133,8 +133,8 @@ a_valued P event good (name ∷ []) = tt
 a_valued P event good (name ∷ value ∷ []) = valued_in P event good (name_of name) (signed_of value) (a_name name) (a_value value)
 a_valued P event good (name ∷ value ∷ word ∷ words) = tt
 
-an_op : (P : Event → Type 0) → ((name : List ℕ) (objects : List (List ℕ)) → IsNamed name → AreObjects objects → P (Op name objects))
-    → (words : List (List ℕ)) → InSome P (option_map (λ o. Op o.0 o.1) (name_and_objects words))
+an_op : (P : Event → Type 0) → ((name : List ℕ) (objects : List (List ℕ)) → IsNamed name → AreObjects objects → P (Op (name, objects)))
+    → (words : List (List ℕ)) → InSome P (option_map Op (name_and_objects words))
 an_op P good [] = tt
 an_op P good (name ∷ objects) = op_in P good (name_of name) (at_most_four (names_of objects)) (a_name name) (some_objects (names_of objects) (some_names objects))
 

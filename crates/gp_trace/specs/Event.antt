@@ -75,7 +75,7 @@ event_of format keyword words =
     (if bytes_eq keyword (codes "release") then option_map Release (name_alone words) else
     (if bytes_eq keyword (codes "start") then option_map Start (number_alone words) else
     (if bytes_eq keyword (codes "join") then option_map Join (number_alone words) else
-    (if bytes_eq keyword (codes "op") then option_map (λ o. Op o.0 o.1) (name_and_objects words) else
+    (if bytes_eq keyword (codes "op") then option_map Op (name_and_objects words) else
     (if bytes_eq keyword (codes "begin") then option_map Begin (name_alone words) else
     (if bytes_eq keyword (codes "end") then option_map End (name_alone words) else
     (if format == 2 then shared_of keyword words else None)))))))))

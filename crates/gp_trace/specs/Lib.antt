@@ -2,6 +2,7 @@ pub mod Event
 pub mod Faults
 pub mod Grammar
 pub mod LockUse
+pub mod Operation
 pub mod Printed
 pub mod Rules
 pub mod RulesLaws

@@ -18,7 +18,7 @@ event_words (RAcquire lock) = codes "racquire" ∷ lock ∷ []
 event_words (RRelease lock) = codes "rrelease" ∷ lock ∷ []
 event_words (Start thread) = codes "start" ∷ decimal thread ∷ []
 event_words (Join thread) = codes "join" ∷ decimal thread ∷ []
-event_words (Op name objects) = codes "op" ∷ name ∷ objects
+event_words (Op (name, objects)) = codes "op" ∷ name ∷ objects
 event_words (Begin region) = codes "begin" ∷ region ∷ []
 event_words (End region) = codes "end" ∷ region ∷ []
 

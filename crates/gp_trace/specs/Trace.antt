@@ -28,7 +28,7 @@ IsEvent (RAcquire lock) = is_name lock ≡ true
 IsEvent (RRelease lock) = is_name lock ≡ true
 IsEvent (Start other) = other < 2 ^ 32
 IsEvent (Join other) = other < 2 ^ 32
-IsEvent (Op name objects) = (is_name name ≡ true) × AllByRecursion (λ object. is_name object ≡ true) objects × (length objects ≤ 4)
+IsEvent (Op (name, objects)) = (is_name name ≡ true) × AllByRecursion (λ object. is_name object ≡ true) objects × (length objects ≤ 4)
 IsEvent (Begin region) = is_name region ≡ true
 IsEvent (End region) = is_name region ≡ true
 

@@ -1,7 +1,9 @@
-ghost use Rattle.std.specs.Prelude.{◌≡◌, IfOk};
+ghost use Rattle.std.specs.Prelude.{◌≡◌};
 
-use gp_text::{Name, Row};
-use std::alloc::{AllocError, Global};
+use crate::operation::Operation;
+use gp_text::Name;
+use std::alloc::AllocError;
+use std::mem::size_of;
 
 /// What one thread did at one step of the recorded run.
 #[derive(Debug, Drop)]
@@ -22,19 +24,18 @@ pub enum Event {
     Start(u32),
     /// Waited for the end of the thread of this number.
     Join(u32),
-    /// Did the named operation on these objects, four at the most.
-    Op(Name, Row<Name>),
+    /// Did this operation, on four objects at the most.
+    Op(Operation),
     /// Began this region.
     Begin(Name),
     /// Ended this region, the innermost one.
     End(Name),
 }
 
-impl Event {
-    /// The same event again.
-    pub fn copied(&self, alloc: Global) -> Result<Event, AllocError>
-        ensures { IfOk result (λ copy. copy ≡ self.now) }
-    {
+impl Clone for Event {
+    ghost is_clone = { λ event copy. copy ≡ event };
+
+    fn clone(&self) -> Result<Event, AllocError> {
         match self {
             Event::Read(name, value) => Ok(Event::Read(*name, *value)),
             Event::Write(name, value) => Ok(Event::Write(*name, *value)),
@@ -44,12 +45,12 @@ impl Event {
             Event::RRelease(lock) => Ok(Event::RRelease(*lock)),
             Event::Start(thread) => Ok(Event::Start(*thread)),
             Event::Join(thread) => Ok(Event::Join(*thread)),
-            Event::Op(name, objects) => {
-                let objects = Vec::from_slice(alloc, objects.as_slice())?;
-                Ok(Event::Op(*name, Row::from_vec(objects)))
-            }
+            Event::Op(operation) => Ok(Event::Op(operation.clone()?)),
             Event::Begin(region) => Ok(Event::Begin(*region)),
             Event::End(region) => Ok(Event::End(*region)),
         }
     }
 }
+
+// A window can have tens of millions of events.
+const _: () = prove!(size_of::<Event>() <= 48);

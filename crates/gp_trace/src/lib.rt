@@ -10,6 +10,7 @@ mod fault;
 mod grammar;
 mod line;
 mod lock_use;
+mod operation;
 mod printing;
 mod rules;
 #[cfg(test)]
@@ -21,5 +22,6 @@ pub use event::Event;
 pub use fault::TraceFault;
 pub use grammar::traces_are_spelled;
 pub use lock_use::{LockMode, LockUse};
+pub use operation::Operation;
 pub use printing::{print_trace, trace_reads_again};
 pub use trace::{LocalTrace, read_trace, traces_fit};

@@ -2,6 +2,7 @@ ghost use Rattle.std.specs.Prelude.{◌≡◌, IfOk};
 ghost use Rattle.gp_trace.specs.Event.{alone, at_most_four, did, entry_of, event_of, name_alone, name_and_objects, name_and_value, names_of, number_alone, shared_of};
 
 use crate::event::Event;
+use crate::operation::Operation;
 use gp_text::{Name, Row, Words, read_i64, read_u32};
 use std::alloc::{AllocError, Global};
 
@@ -79,7 +80,7 @@ fn event_of(
     } else if keyword == b"join".as_slice() {
         Ok(number_alone(words).map(|thread| Event::Join(thread)))
     } else if keyword == b"op".as_slice() {
-        Ok(name_and_objects(alloc, words)?.map(|(name, objects)| Event::Op(name, objects)))
+        Ok(name_and_objects(alloc, words)?.map(|operation| Event::Op(operation)))
     } else if keyword == b"begin".as_slice() {
         Ok(name_alone(words).map(|region| Event::Begin(region)))
     } else if keyword == b"end".as_slice() {
@@ -137,7 +138,7 @@ fn name_and_value(words: Words) -> Option<(Name, i64)>
     Some((Name::of(name)?, read_i64(value)?))
 }
 
-fn name_and_objects(alloc: Global, words: Words) -> Result<Option<(Name, Row<Name>)>, AllocError>
+fn name_and_objects(alloc: Global, words: Words) -> Result<Option<Operation>, AllocError>
     ensures { IfOk result (λ operation. operation ≡ name_and_objects words.entry) }
 {
     let mut words = words;
@@ -148,7 +149,7 @@ fn name_and_objects(alloc: Global, words: Words) -> Result<Option<(Name, Row<Nam
         return Ok(None);
     };
     match Name::of(name) {
-        Some(name) => Ok(Some((name, objects))),
+        Some(name) => Ok(Some(Operation::on_objects(alloc, name, objects)?)),
         None => Ok(None),
     }
 }

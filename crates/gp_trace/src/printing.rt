@@ -102,7 +102,7 @@ fn put_event(out: &mut Vec<u8>, event: &Event) -> Result<(), AllocError>
         Event::RRelease(lock) => put_named(out, b"rrelease", lock),
         Event::Start(thread) => put_numbered(out, b"start", *thread),
         Event::Join(thread) => put_numbered(out, b"join", *thread),
-        Event::Op(name, objects) => put_op(out, name, objects.as_slice()),
+        Event::Op(operation) => put_op(out, operation.name(), operation.objects()),
         Event::Begin(region) => put_named(out, b"begin", region),
         Event::End(region) => put_named(out, b"end", region),
     }

@@ -140,11 +140,7 @@ pub fn segments_of(
 fn copied_events(alloc: Global, events: &[Event]) -> Result<Row<Event>, AllocError>
     ensures { IfOk result (λ copy. copy ≡ events.now) }
 {
-    let mut copy = Row::new(alloc);
-    for event in events {
-        copy.push(event.copied(alloc)?)?;
-    }
-    Ok(copy)
+    Ok(Row::from_vec(Vec::from_clones(alloc, events)?))
 }
 
 /// The values of a window without those that are 0.

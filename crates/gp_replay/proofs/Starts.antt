@@ -1,5 +1,6 @@
 -- Entries that are put into a table in the order of their keys.
 use Rattle.std.proofs.Common.{ℕ, true, ◌≡◌, ◌∙◌, sym, ap, refl, subst, List, [], ◌∷◌, ◌++◌, append_assoc}
+use Rattle.std.specs.Prelude.{◌↔◌, Some}
 use Rattle.std.specs.declared.cmp.Ordering.{Ordering}
 use Rattle.std.specs.declared.cmp.Ordering.TheVariants.{Less, Greater}
 use Rattle.std.specs.Cmp.Lexicographic.{slice_cmp}
@@ -16,10 +17,12 @@ use Rattle.std.proofs.lemmas.Map.Lookups.{exact_bytes}
 use Rattle.std.proofs.lemmas.Map.Views.{Contains-from_lookup, tells_apart}
 use Rattle.gp_window.specs.Holders.{holder_cmp}
 use Rattle.gp_window.specs.HoldersLaws.{holder_total, stands_to}
-use Rattle.gp_window.specs.Formed.{IsFormed}
+use Rattle.gp_trace.specs.declared.lock_use.LockMode.TheVariants.{Exclusive, Shared}
+use Rattle.gp_window.specs.Formed.{IsFormed, mode_at_start}
+use Rattle.gp_window.specs.FormedLaws.{holds_at_start, reads_at_start}
 use Rattle.gp_window.specs.WindowForm.{WindowForm}
 use Rattle.gp_replay.specs.Readers.{is_reader, with_readers}
-use Rattle.gp_replay.specs.Step.{start_state}
+use Rattle.gp_replay.specs.Step.{holder_of, start_state}
 use Rattle.gp_replay.specs.ExclusionLaws.{HoldersAreAlone}
 use Rattle.gp_text.specs.Table.{value_at, with_entries}
 
@@ -105,6 +108,19 @@ holders_as_told window formed = put_all_in_order nat_list_cmp_total window.holde
 
 pub readers_as_told : (window : WindowForm) → IsFormed window → (start_state window).readers ≡ window.readers
 readers_as_told window formed = add_all_in_order window.readers formed.readers
+
+-- a thread is the holder of a lock where it holds the lock alone, and a reader where it reads it
+pub held_as_told : (window : WindowForm) → IsFormed window → (lock : List ℕ) (thread : ℕ)
+    → (holder_of (start_state window) lock ≡ Some thread) ↔ (mode_at_start window thread lock ≡ Some Exclusive)
+held_as_told window formed lock thread =
+    subst (λ holders. (value_at (slice_cmp nat_cmp) holders lock ≡ Some thread) ↔ (mode_at_start window thread lock ≡ Some Exclusive))
+    (sym (holders_as_told window formed)) (holds_at_start window formed lock thread)
+
+pub read_as_told : (window : WindowForm) → IsFormed window → (lock : List ℕ) (thread : ℕ)
+    → (is_reader (start_state window).readers lock thread ≡ true) ↔ (mode_at_start window thread lock ≡ Some Shared)
+read_as_told window formed lock thread =
+    subst (λ readers. (is_reader readers lock thread ≡ true) ↔ (mode_at_start window thread lock ≡ Some Shared))
+    (sym (readers_as_told window formed)) (reads_at_start window formed lock thread)
 
 -- and no lock that has a holder then has a reader
 pub alone_at_start : (window : WindowForm) → IsFormed window → HoldersAreAlone (start_state window)

@@ -19,13 +19,14 @@ use Rattle.gp_window.specs.declared.schedule.EventId.{EventId}
 use Rattle.gp_window.specs.Contested.{first_contested}
 use Rattle.gp_window.specs.Events.{event_at, has_thread, segment_in}
 use Rattle.gp_window.specs.Formed.{IsFormed, mode_at_start, stands_at, UsesLocksWell}
+use Rattle.gp_window.specs.FormedLaws.{mode_by}
 use Rattle.gp_window.specs.Holders.{Holdings, held_over, segment_after}
 use Rattle.gp_window.specs.HoldersLaws.{stands_from}
 use Rattle.gp_window.specs.RecordingForm.{AreNumbered, IsRecording, RecordingForm}
 use Rattle.gp_window.specs.Starts.{after_traces, is_among, is_thread}
 use Rattle.gp_window.specs.WindowForm.{exited_of, has_exited, IsWindow, numbers_from, started_before, window_of, WindowForm}
 use Rattle.gp_window.proofs.Happening.{in_window, OfEach, segments_short}
-use Rattle.gp_window.proofs.HeldRising.{mode_among, mode_by, over_rises, readers_rise}
+use Rattle.gp_window.proofs.HeldRising.{mode_among, over_rises, readers_rise}
 use Rattle.gp_window.proofs.OwnLocks.{held_by, none_by, over_tells, segment_well}
 use Rattle.gp_window.proofs.Rising.{each, start_values_rise}
 use Rattle.gp_window.proofs.StartCounts.{in_all, one, started_now, started_once}

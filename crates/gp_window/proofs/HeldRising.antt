@@ -1,6 +1,6 @@
 -- The holdings over a mark stand in order, and tell at each lock and thread how the thread holds the lock.
 use Rattle.std.proofs.Common.{◌≡◌, ◌∙◌, refl, ap, sym, subst, Bool, true, false, cond, ℕ, zero, suc, List, [], ◌∷◌, map}
-use Rattle.std.specs.Prelude.{◌||◌, not, filter, if◌then◌else◌, Option, Some, None}
+use Rattle.std.specs.Prelude.{◌||◌, not, filter, Option, Some, None}
 use Rattle.std.specs.declared.cmp.Ordering.TheVariants.{Less}
 use Rattle.std.specs.BTreeMap.{is_at}
 use Rattle.std.specs.List.{AllByRecursion, list_any}
@@ -16,6 +16,7 @@ use Rattle.gp_trace.specs.declared.lock_use.LockUse.{LockUse}
 use Rattle.gp_trace.specs.declared.lock_use.LockUse.TheVariants.{Take, GiveBack}
 use Rattle.gp_trace.specs.LockUse.{lock_use_of}
 use Rattle.gp_trace.specs.Trace.{LocalTraceForm}
+use Rattle.gp_window.specs.FormedLaws.{mode_by}
 use Rattle.gp_window.specs.Holders.{Holdings, held_after, held_after_events, held_after_window, held_over, holder_cmp, holders_among, is_exclusive, readers_among, segment_after}
 use Rattle.gp_window.specs.HoldersLaws.{found_itself, found_pair, holder_total, not_found}
 use Rattle.gp_window.proofs.Rising.{filter_rises, put_rises}
@@ -101,10 +102,6 @@ absent p (one ∷ held) place above = at (p one.1) (absent p held place above.1)
         → list_any (is_at (holder_cmp place)) (map (λ one. one.0) (cond b (one ∷ filter (λ one. p one.1) held) (filter (λ one. p one.1) held))) ≡ false
     at true none = ap (λ b. b || list_any (is_at (holder_cmp place)) (map (λ one. one.0) (filter (λ one. p one.1) held))) (ap is_eq above.0) ∙ none
     at false none = none
-
--- how a thread holds a lock by who holds it alone and who reads it
-abbrev pub mode_by : Bool → Bool → Option LockMode
-mode_by alone reads = if alone then Some Exclusive else (if reads then Some Shared else None)
 
 mode_first : (mode : LockMode) (place key : List ℕ × ℕ) (held : Holdings) (here : Bool) → is_at (holder_cmp place) key ≡ here
     → (here ≡ true → AllByRecursion (λ other. holder_cmp key other ≡ Less) (keys_of held))

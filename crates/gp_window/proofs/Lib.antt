@@ -6,6 +6,9 @@ pub mod Formed
 pub mod Happening
 pub mod Heads
 pub mod HeldRising
+pub mod ManifestGrammar
+pub mod ManifestLines
+pub mod ManifestValues
 pub mod OwnLocks
 pub mod Parsed
 pub mod PassedMarks

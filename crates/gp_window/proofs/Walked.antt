@@ -22,7 +22,7 @@ IsKnown threads roots (Join thread) = is_thread threads thread ≡ true
 IsKnown threads roots _ = Unit {0}
 
 -- what follows gave a value, so the first step did
-first_gave : {A B E : Type 0} (first : Result A E) (rest : A → Result B E) (value : B) → and_then first rest ≡ Ok value
+pub first_gave : {A B E : Type 0} (first : Result A E) (rest : A → Result B E) (value : B) → and_then first rest ≡ Ok value
     → (a : A) × (first ≡ Ok a) × (rest a ≡ Ok value)
 first_gave (Ok a) rest value e = (a, refl, e)
 first_gave (Err fault) rest value e = cc

@@ -4,7 +4,9 @@ pub mod EventIds
 pub mod Events
 pub mod FileNames
 pub mod Formed
+pub mod FormedLaws
 pub mod Gives
+pub mod Grammar
 pub mod Holders
 pub mod HoldersLaws
 pub mod Manifest
@@ -12,6 +14,7 @@ pub mod ManifestFaults
 pub mod ManifestForm
 pub mod Marks
 pub mod Number
+pub mod NumberLaws
 pub mod Parsed
 pub mod Recording
 pub mod RecordingFaults

@@ -30,7 +30,7 @@ pub use content::{ContentFault, content_of};
 pub use event_id::{event_id_of, event_ids_read_exactly, put_event_id};
 pub use fault::RecordingFault;
 pub use file_name::FileName;
-pub use laws::windows_are_formed;
+pub use laws::{manifests_are_spelled, windows_are_formed};
 pub use manifest::{
     MOST_EPOCHS, MOST_FORMAT, MOST_THREADS, Manifest, ManifestFault, StartValue, read_manifest,
 };

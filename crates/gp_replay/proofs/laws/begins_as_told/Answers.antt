@@ -1,4 +1,4 @@
-use Rattle.gp_replay.proofs.Starts.{holders_as_told, readers_as_told, values_as_told}
+use Rattle.gp_replay.proofs.Starts.{held_as_told, holders_as_told, read_as_told, readers_as_told, values_as_told}
 use Rattle.gp_replay.proofs.laws.begins_as_told.Goals as goal
 
 pub returns : goal.returns
@@ -8,4 +8,6 @@ returns c =
       values = λ window is. values_as_told window (formed window is);
       holders = λ window is. holders_as_told window (formed window is);
       readers = λ window is. readers_as_told window (formed window is);
+      holds = λ window is lock thread. held_as_told window (formed window is) lock thread;
+      reads = λ window is lock thread. read_as_told window (formed window is) lock thread;
     }

@@ -4,6 +4,7 @@ pub mod Cycles
 pub mod LearnedSteps
 pub mod Wholes
 pub mod Asserting
+pub mod Levels
 pub mod Trails
 pub mod Conflicts
 pub mod Logging

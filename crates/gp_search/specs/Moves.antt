@@ -27,11 +27,22 @@ use Rattle.gp_search.specs.declared.verdict.Verdict.{Verdict}
 use Rattle.gp_search.specs.declared.verdict.Verdict.TheVariants.{Model, Refuted, Spent}
 use Rattle.gp_search.specs.Inside.{IsConflict, IsBlank, false_lit}
 
--- the log and its marks, the beginning of the turn and the number of variables stay
+-- the log, the places where the turn begins and begins to learn, and the number of variables stay
 pub record KeepsLog (old new : Engine) : Type 0 where
   pub log : new.log.items ≡ old.log.items
   pub begins : new.begins ≡ old.begins
+  pub learned : new.learned ≡ old.learned
   pub variables : length new.solver.values ≡ length old.solver.values
+
+-- only the place of the next assumption changes
+abbrev pub MovesNext : Engine → Engine → Type 0
+MovesNext old new = new ≡ record old { next = new.next }
+
+-- a literal was decided, which began a level: the bounds of the graph and the place of the next assumption were noted
+pub record BeginsLevel (old new : Engine) (lit : Lit) : Type 0 where
+  pub same : new ≡ record old { solver = new.solver; levels = new.levels }
+  pub solver : new.solver ≡ with_literal old.solver lit (old.solver.level + 1) None
+  pub levels : new.levels.items ≡ old.levels.items ++ record { bounds = length old.graph.kept; next = old.next } ∷ []
 
 -- the log stays, and the trail is as long or longer
 pub record GoesOn (old new : Engine) : Type 0 where
@@ -81,6 +92,7 @@ pub record LearnsOne (old new : Engine) : Type 0 where
   pub entry : LogEntry
   pub log : new.log.items ≡ old.log.items ++ entry ∷ []
   pub begins : new.begins ≡ old.begins
+  pub learned : new.learned ≡ old.learned
   pub order : new.solver.order ≡ raised entry.step.clause old.solver.order
 
 -- whether a hint names a base clause or an entry with a mark
@@ -115,9 +127,9 @@ pub record IsTruthOf (s : SolverForm) (names : ℕ) (truth : List Bool) : Type 0
   pub same : (variable : ℕ) → variable < names → slice_index_or truth variable false ≡ is_true (assigned s variable)
 
 -- the trail has one literal more, for which there was room
-pub record GoesFurther (old new : Engine) : Type 0 where
-  pub longer : length new.solver.trail ≡ length old.solver.trail + 1
-  pub room : length old.solver.trail < length old.solver.values
+pub record GoesFurther (old new : SolverForm) : Type 0 where
+  pub longer : length new.trail ≡ length old.trail + 1
+  pub room : length old.trail < length old.values
 
 -- the first unassigned variable in the order of decisions was decided
 pub record DecidesNext (old new : SolverForm) : Type 0 where

@@ -1,11 +1,10 @@
-ghost use Rattle.std.specs.Prelude.{◌≡◌, ◌+◌, ◌<◌, ◌^◌, ◌≤◌, length, All, IfOk, OnOk, OnErr, IsTrue};
+ghost use Rattle.std.specs.Prelude.{◌≡◌, ◌+◌, ◌*◌, ◌<◌, ◌^◌, ◌≤◌, length, All, IfOk, OnOk, OnErr, IsTrue};
 ghost use Rattle.gp_derivation.specs.Log.{LearnedPasses};
 ghost use Rattle.gp_sat.specs.Changes.{MayAttach};
 ghost use Rattle.gp_sat.specs.Sound.{IsSound};
 ghost use Rattle.gp_search.specs.Inside.{IsTurning, IsConflict};
 ghost use Rattle.gp_search.specs.Moves.{IsLearnedStep, IsBackAt, KeepsLog, LearnsOne, with_number, raised, RestsOnMarked, is_marked};
 
-use crate::bounds::count_bounds;
 use crate::engine::{Conflict, Engine};
 use gp_clause::{Lit, Problem, Query, Row};
 use gp_derivation::{LogEntry, Origin, Step, log_grows};
@@ -30,7 +29,7 @@ impl Engine {
         requires turning { IsTurning problem.now query.now self.old }
         requires conflict { IsConflict problem.now query.now self.old.solver conflict.now.lits.items conflict.now.number }
         requires above { self.old.assumed < self.old.solver.level }
-        requires few { length problem.now.clauses + length self.old.log.items + 2 < 2 ^ 32 }
+        requires few { length problem.now.clauses + 64 * (length self.old.log.items + 2) < 2 ^ 32 }
         ensures turning { IsTurning problem.now query.now self.new }
         ensures ok { OnOk result (LearnsOne self.old self.new) }
         ensures err { OnErr result (KeepsLog self.old self.new) }
@@ -69,12 +68,13 @@ impl Engine {
         ensures turning { IsTurning problem.now query.now self.new }
         ensures back { IsBackAt self.old self.new level }
     {
+        let begun = self.levels[level as usize];
+        self.levels.truncate(level as usize);
         self.solver.backjump(level);
-        let trail = self.solver.trail();
-        self.asserted = self.asserted.min(trail.len());
-        let mark = count_bounds(problem, query, &trail[..self.asserted]);
-        self.graph.undo_to(mark);
+        self.graph.undo_to(begun.bounds);
+        self.asserted = self.solver.trail().len();
         self.assumed = self.assumed.min(level);
+        self.next = begun.next;
     }
 
     // Logs a step under the next number, attaches its clause, and raises the variables of it.
@@ -82,7 +82,7 @@ impl Engine {
         requires turning { IsTurning problem.now query.now self.old }
         requires passes { LearnedPasses problem.now query.now.locals self.old.log.items self.old.begins (length self.old.log.items) step }
         requires may { MayAttach self.old.solver step.clause }
-        requires few { length problem.now.clauses + length self.old.log.items + 2 < 2 ^ 32 }
+        requires few { length problem.now.clauses + 64 * (length self.old.log.items + 2) < 2 ^ 32 }
         ensures turning { IsTurning problem.now query.now self.new }
         ensures ok { OnOk result (LearnsOne self.old self.new) }
         ensures err { OnErr result (KeepsLog self.old self.new) }

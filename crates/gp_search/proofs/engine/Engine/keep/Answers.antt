@@ -15,7 +15,10 @@ returns-clause-turning c =
       log = c.push_reserved-2.ensures.items ∙ ap (λ (es : List LogEntry). es ++ entry_of c.args.step ∷ []) c.reserve.ensures.items;
       pure = c.push_reserved.ensures.items ∙ ap (λ (bs : List Bool). bs ++ c.is_pure-pure.result ∷ []) c.reserve-2.ensures.items;
       begins = refl;
+      learned = refl;
       asserted = refl;
       assumed = refl;
+      levels = refl;
+      next = refl;
     })
     (λ is. subst P c.reserve-2.ensures.items (c.is_pure-pure.ensures is)) c.requires.passes c.requires.few

@@ -13,3 +13,5 @@ pub mod BoundsAt
 pub mod Bounding
 pub mod Trying
 pub mod Sharing
+pub mod Tightening
+pub mod Naming

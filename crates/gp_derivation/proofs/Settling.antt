@@ -1,8 +1,8 @@
 -- The loops over an assignment: taking a start, going over clauses, and taking all back.
-use Rattle.std.proofs.Common.{◌≡◌, ◌≢◌, ℕ, ◌+◌, ◌<◌, ◌≤◌, zero, suc, Bool, Option, None, Some, List, [], ◌∷◌, ◌++◌, length, map, take, get_or, set, replicate, vec_capacity, All, Contains, ◌⊎◌, inl, inr, refl, ap, sym, ◌∙◌, subst, arith}
+use Rattle.std.proofs.Common.{Vec, Global, ◌≡◌, ℕ, ◌+◌, ◌<◌, ◌≤◌, suc, Bool, Option, None, Some, List, [], ◌∷◌, ◌++◌, length, take, get_or, set, replicate, vec_capacity, All, Contains, ◌⊎◌, inl, inr, refl, ap, sym, ◌∙◌, subst, arith}
 use Rattle.std.proofs.lemmas.Bool.{cases_eq, cases_lt}
-use Rattle.std.proofs.lemmas.List.{length-set, length-map, length-take, get_or-take, get_or-map, get_or-set_same, get_or-set_other, get_or_past, get_or_default, get_or-replicate, length-replicate, take_more, take_all}
-use Rattle.std.proofs.lemmas.List.Elements.{All-nil, All-push}
+use Rattle.std.proofs.lemmas.List.{length-set, length-map, length-take, get_or-take, get_or-map, get_or-set_same, get_or-set_other, get_or_past, get_or_default, take_more, take_all}
+use Rattle.std.proofs.lemmas.List.Elements.{All-nil, All-push, All-append, All-take, All-replicate}
 use Rattle.std.proofs.lemmas.List.Sums.{sum_by-cons}
 use Rattle.gp_clause.specs.declared.lit.Lit.{Lit}
 use Rattle.gp_clause.specs.Clause.{NamesOnce, occurrences}
@@ -115,6 +115,38 @@ none_kept assignment none trail room = record {
   trailed = λ lit holds. absurd (none lit.variable lit.positive holds);
   noted = let P : List Lit → Type 0 = λ ls. All (IsTrueIn (value_of assignment.values.items)) ls in subst P (sym trail) (All-nil (IsTrueIn (value_of assignment.values.items)));
 }
+
+-- no variable has a value when none is true
+all_none : (assignment : Assignment) → IsKept assignment → assignment.trail.items ≡ [] → All (λ (o : Option Bool). o ≡ None) assignment.values.items
+all_none assignment kept none k d within = at (get_or assignment.values.items k d) refl
+  where
+    at : (o : Option Bool) → get_or assignment.values.items k d ≡ o → get_or assignment.values.items k d ≡ None
+    at None is = is
+    at (Some sign) is =
+        let lit : Lit = record { variable = k; positive = sign } in
+        let holds : IsTrueIn (value_of assignment.values.items) lit = get_or_default assignment.values.items k None d within ∙ is in
+        let Q : List Lit → Type 0 = λ lits. Contains lits lit in
+        let nowhere : Contains [] lit = subst Q none (kept.trailed lit holds) in
+        let length_nil : nowhere.0 < 0 = nowhere.1 in
+        absurd (omega arith)
+
+-- an assignment without a value that is cut or filled up
+pub resized : (old new : Assignment) (n m : ℕ) → IsKept old → old.trail.items ≡ [] → new.values.items ≡ take n old.values.items ++ replicate m None → length new.values.items ≡ n
+    → new.trail ≡ old.trail → n ≤ vec_capacity old.trail → IsKept new
+resized old new n m kept none values size trail room =
+    let P : List (Option Bool) → Type 0 = λ vs. All (λ (o : Option Bool). o ≡ None) vs in
+    let all : All (λ (o : Option Bool). o ≡ None) new.values.items =
+    subst P (sym values) (All-append (λ (o : Option Bool). o ≡ None) (take n old.values.items) (replicate m None) (All-take (λ (o : Option Bool). o ≡ None) n old.values.items (all_none old kept none))
+    (All-replicate (λ (o : Option Bool). o ≡ None) m None refl)) in
+    let same : vec_capacity new.trail ≡ vec_capacity old.trail = ap (λ (v : Vec Lit Global). vec_capacity v) trail in
+    none_kept new (no_value new.values.items all) (ap (λ (v : Vec Lit Global). v.items) trail ∙ none) (omega (arith, room, size, same))
+  where
+    no_value : (values : List (Option Bool)) → All (λ (o : Option Bool). o ≡ None) values → (variable : ℕ) (sign : Bool) → value_of values variable ≡ Some sign → ⊥
+    no_value values all variable sign has = at (cases_lt variable (length values))
+      where
+        at : (variable < length values) ⊎ (length values ≤ variable) → ⊥
+        at (inl within) = some_clash _ sign has (all variable None within)
+        at (inr past) = some_clash _ sign has (get_or_past values variable None past)
 
 -- on the way of taking all back, what still has a value stands further on in the trail
 pub record IsClearing (old now : Assignment) (i : ℕ) : Type 0 where

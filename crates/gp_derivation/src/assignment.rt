@@ -1,4 +1,4 @@
-ghost use Rattle.std.specs.Prelude.{◌≡◌, ◌≢◌, ◌+◌, ◌<◌, ◌≤◌, ◌↔◌, None, Some, [], ◌∷◌, ◌++◌, length, IsTrue, IfOk, MatchBool, MatchOption, All, Any, Contains, List, slice_set};
+ghost use Rattle.std.specs.Prelude.{◌≡◌, ◌≢◌, ◌+◌, ◌<◌, ◌≤◌, ◌↔◌, None, Some, [], ◌∷◌, ◌++◌, length, IsTrue, IfOk, OnOk, MatchBool, MatchOption, All, Any, Contains, List, slice_set, vec_capacity};
 ghost use Rattle.gp_clause.specs.declared.lit.Lit.{Lit};
 ghost use Rattle.gp_clause.specs.Clause.{NamesBelow, NamesOnce};
 ghost use Rattle.gp_clause.specs.Closure.{Conflicts, IsTrueIn};
@@ -25,7 +25,7 @@ pub(crate) enum Progress {
 }
 
 // The value of each variable that has one, and the literals that are true in the order in which they became so.
-#[derive(Drop)]
+#[derive(Debug, Drop)]
 pub(crate) struct Assignment {
     values: Vec<Option<bool>>,
     trail: Vec<Lit>,
@@ -42,6 +42,32 @@ impl Assignment {
         values.resize(variables, None)?;
         let trail = Vec::with_capacity(alloc, variables)?;
         Ok(Assignment { values, trail })
+    }
+
+    // Makes room for so many variables.
+    pub(crate) fn reserve(&mut self, variables: usize) -> Result<(), AllocError>
+        requires { self.old.trail.items ≡ [] }
+        ensures values { self.new.values.items ≡ self.old.values.items }
+        ensures trail { self.new.trail.items ≡ self.old.trail.items }
+        ensures room { OnOk result ((variables ≤ vec_capacity self.new.values) × (variables ≤ vec_capacity self.new.trail)) }
+        ensures more { vec_capacity self.old.trail ≤ vec_capacity self.new.trail }
+    {
+        self.trail.reserve(variables)?;
+        self.values.reserve(variables)?;
+        Ok(())
+    }
+
+    // Cuts or fills up the variables to so many, for which there is room. None has a value.
+    pub(crate) fn resize(&mut self, variables: usize)
+        requires kept { IsKept self.old }
+        requires none { self.old.trail.items ≡ [] }
+        requires values { variables ≤ vec_capacity self.old.values }
+        requires trail { variables ≤ vec_capacity self.old.trail }
+        ensures kept { IsKept self.new }
+        ensures none { self.new.trail.items ≡ [] }
+        ensures size { length self.new.values.items ≡ variables }
+    {
+        let _ = self.values.resize(variables, None);
     }
 
     // The literals that are true.

@@ -2,7 +2,7 @@ use Rattle.std.proofs.Common.{◌<◌, length, sym, arith}
 use Rattle.std.proofs.lemmas.List.Elements.{All-contains}
 use Rattle.gp_clause.specs.Clause.{NamesBelow}
 use Rattle.gp_clause.specs.declared.lit.Lit.{Lit}
-use Rattle.gp_derivation.specs.Assignment.{StandsAs, IsOpen, IsDue, value_of}
+use Rattle.gp_derivation.specs.Assignment.{IsDue}
 use Rattle.gp_derivation.proofs.Settling.{swept_none, swept_open, swept_due, swept_false, swept_all}
 use Rattle.gp_derivation.proofs.assignment.Assignment.sweep.Goals as goal
 use Rattle.gp_derivation.proofs.assignment.Assignment.sweep.Goals.{in-Open, in-Due}

@@ -1,4 +1,4 @@
-use Rattle.std.proofs.Common.{◌≡◌, ℕ, ◌↔◌, IsTrue, List, length, All, sym, ap, ◌∙◌, subst, rules}
+use Rattle.std.proofs.Common.{ℕ, ◌↔◌, IsTrue, List, length, All, sym, ap, ◌∙◌, subst, rules}
 use Rattle.gp_clause.specs.declared.kind.Kind.{Kind}
 use Rattle.gp_clause.specs.Problem.{IsValidKind}
 use Rattle.gp_difference.specs.Graph.{GraphForm}
@@ -14,6 +14,8 @@ invariant_of-self c =
       none = c.refutes.ensures.none;
       size = c.refutes.ensures.size ∙ ap (λ (ks : List Kind). length ks) c.as_slice-kinds.ensures.value;
       kinds = subst P (sym (ap (λ (g : GraphForm). g.points) c.refutes.ensures.graph)) c.self.invariant.kinds;
+      lasting = c.self.invariant.lasting;
+      few = c.self.invariant.few;
       bare = bare_again _ _ _ c.refutes.ensures.same c.refutes.ensures.graph c.self.invariant.bare;
     }
 

@@ -1,12 +1,15 @@
 -- What a decision needs, and how it goes further.
-use Rattle.std.proofs.Common.{◌≡◌, refl, sym, subst, ◌∙◌, ap, ℕ, ◌+◌, ◌<◌, ◌≤◌, Bool, false, Option, Some, None, List, length, Contains, inl, inr, arith}
+use Rattle.std.proofs.Common.{◌≡◌, refl, sym, subst, ◌∙◌, ap, ℕ, ◌+◌, ◌<◌, ◌≤◌, Bool, false, Option, Some, None, List, [], ◌∷◌, ◌++◌, length, Contains, inl, inr, arith}
 use Rattle.std.specs.Option.{option_map, is_some}
+use Rattle.std.specs.Prelude.{Result, Ok, Err, OnErr}
 use Rattle.std.proofs.lemmas.Bool.{cases_lt, true≢false}
 use Rattle.std.proofs.lemmas.List.{length_push, length-append, length-set}
 use Rattle.std.proofs.lemmas.List.Elements.{All-contains}
 use Rattle.gp_clause.specs.declared.lit.Lit.{Lit}
 use Rattle.gp_clause.specs.declared.problem.Problem.{Problem}
 use Rattle.gp_clause.specs.declared.problem.Query.{Query}
+use Rattle.gp_derivation.specs.declared.log.LogEntry.{LogEntry}
+use Rattle.gp_derivation.specs.declared.step.Step.{Step}
 use Rattle.gp_sat.specs.declared.assigned.Assigned.{Assigned}
 use Rattle.gp_sat.specs.State.{SolverForm, assigned, with_literal}
 use Rattle.gp_sat.specs.Deciding.{IsFull}
@@ -14,7 +17,7 @@ use Rattle.gp_sat.specs.Sound.{IsSound}
 use Rattle.gp_sat.specs.SolverLaws.{added, room_left}
 use Rattle.gp_search.specs.declared.engine.Engine.{Engine}
 use Rattle.gp_search.specs.Inside.{all_kinds, IsTurning, IsAssuming, IsSettled}
-use Rattle.gp_search.specs.Moves.{IsAllAssigned, IsOpen, GoesFurther, KeepsLog, MovesNext, BeginsLevel}
+use Rattle.gp_search.specs.Moves.{IsAllAssigned, IsOpen, GoesFurther, KeepsLog, MovesNext, BeginsLevel, IsBackAt, LearnsOne, IsLesson, raised}
 
 -- where an assumption is not true, every decision is an assumption
 pub open_low : (assumed : List Lit) (s : SolverForm) (level : ℕ) (lit : Lit) → IsAssuming assumed s level → IsOpen assumed s lit → s.level ≤ level
@@ -72,6 +75,26 @@ keeps_moved old new moves = record {
 -- and it is settled where the other was
 pub settled_moved : (old new : Engine) → MovesNext old new → IsSettled old → IsSettled new
 settled_moved old new moves settled = subst (λ (e : Engine). IsSettled e) (sym moves) (record { closed = settled.closed; all = settled.all })
+
+-- what holds anyway holds on an error
+pub on_any : {T E P : Type 0} (r : Result T E) → P → OnErr r P
+on_any (Ok x) p = tt
+on_any (Err e) p = p
+
+-- what was learned after a backjump was learned at the end of the log before it
+pub learns_on : (old mid back new : Engine) (level : ℕ) → mid ≡ old → IsBackAt mid back level → LearnsOne back new → LearnsOne old new
+learns_on old mid back new level same went one = record {
+  entry = one.entry;
+  log = one.log ∙ ap (λ (es : List LogEntry). es ++ one.entry ∷ []) (went.keeps.log ∙ ap (λ (e : Engine). e.log.items) same);
+  begins = one.begins ∙ (went.keeps.begins ∙ ap (λ (e : Engine). e.begins) same);
+  learned = one.learned ∙ (went.keeps.learned ∙ ap (λ (e : Engine). e.learned) same);
+  order = one.order ∙ ap (raised one.entry.step.clause) (went.solver.order ∙ ap (λ (e : Engine). e.solver.order) same);
+}
+
+-- what may be learned at the end of a log may be so after a backjump
+pub lesson_back : (problem : Problem) (query : Query) (mid back : Engine) (step : Step) → KeepsLog mid back → IsLesson problem query mid.log.items mid.begins step → IsLesson problem query back.log.items back.begins step
+lesson_back problem query mid back step keeps lesson =
+    subst (λ (n : ℕ). IsLesson problem query back.log.items n step) (sym keeps.begins) (subst (λ (es : List LogEntry). IsLesson problem query es mid.begins step) (sym keeps.log) lesson)
 
 -- where all variables in use are assigned, so are those of the problem and the query
 pub all_assigned : (problem : Problem) (query : Query) (old new : Engine) → IsTurning problem query old → new ≡ old → IsFull old.solver → IsAllAssigned (length (all_kinds problem query)) new.solver

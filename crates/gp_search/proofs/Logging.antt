@@ -2,21 +2,21 @@
 use Rattle.std.proofs.Common.{◌≡◌, refl, sym, ◌∙◌, ap, subst, ℕ, ◌+◌, ◌*◌, ◌<◌, ◌≤◌, ◌^◌, Bool, true, false, Option, Some, None, List, [], ◌∷◌, ◌++◌, length, get_or, map, Contains, ◌⊎◌, inl, inr, append_assoc, arith}
 use Rattle.std.specs.List.{slice_get}
 use Rattle.std.proofs.lemmas.Bool.{cases_lt}
-use Rattle.std.proofs.lemmas.Option.{same_Some, slice_get-get_or, slice_get_within}
+use Rattle.std.proofs.lemmas.Option.{same_Some, slice_get-get_or}
 use Rattle.std.proofs.lemmas.List.{map-append, length_push, get_or_append_left, get_or_push, get_or_past}
 use Rattle.std.proofs.lemmas.List.Elements.{All-push}
 use Rattle.gp_clause.specs.declared.kind.Kind.{Kind}
 use Rattle.gp_clause.specs.declared.lit.Lit.{Lit}
 use Rattle.gp_clause.specs.declared.problem.Problem.{Problem}
 use Rattle.gp_clause.specs.declared.problem.Query.{Query}
-use Rattle.gp_clause.specs.Clause.{NamesBelow}
+use Rattle.gp_clause.specs.Clause.{NamesBelow, IsRising}
 use Rattle.gp_derivation.specs.declared.log.LogEntry.{LogEntry}
-use Rattle.gp_derivation.specs.declared.log.Origin.TheVariants.{Learned}
 use Rattle.gp_derivation.specs.declared.step.Step.{Step}
 use Rattle.gp_derivation.specs.Log.{IsLearned, IsPure, LogGrows, LearnedPasses}
 use Rattle.gp_derivation.specs.Log.IsPure.{taken, learned}
-use Rattle.gp_derivation.specs.ListLaws.{got_front, slice_get_front, slice_get_back}
+use Rattle.gp_derivation.specs.ListLaws.{got_front}
 use Rattle.gp_derivation.specs.Numbering.{size_of}
+use Rattle.gp_derivation.specs.Tester.{TesterForm}
 use Rattle.gp_difference.specs.Graph.{GraphForm}
 use Rattle.gp_sat.specs.declared.assigned.Assigned.{Assigned}
 use Rattle.gp_sat.specs.Stored.{Stored}
@@ -28,9 +28,10 @@ use Rattle.gp_sat.specs.Learning.{HasOnePresent, IsHighestBelow, IsBelowLevel}
 use Rattle.gp_sat.specs.SolverLaws.{attached_within}
 use Rattle.gp_search.specs.declared.engine.Engine.{Engine}
 use Rattle.gp_search.specs.declared.engine.Level.{Level}
-use Rattle.gp_search.specs.Inside.{all_kinds, IsPlain, IsMarked, IsStored, IsKeeping, IsPassing, IsTurning, IsReasoned, IsAsserted, IsAssuming, IsGraphOf, IsLevelled, no_level}
-use Rattle.gp_search.specs.Moves.{RestsOnMarked}
+use Rattle.gp_search.specs.Inside.{all_kinds, IsPlain, IsMarked, IsStored, IsKeeping, IsPassing, IsTurning, IsReasoned, IsAsserted, IsAssuming, IsGraphOf, IsLevelled, IsTaught, IsTesterOf, turn_from, no_level}
+use Rattle.gp_search.specs.Moves.{IsLesson, RestsOnMarked}
 use Rattle.gp_search.proofs.LearnedSteps.{clauses_counted}
+use Rattle.gp_search.proofs.Taught.{entry_of, last_got, old_or_last, taught_more}
 use Rattle.gp_search.proofs.Levels.{back_was, back_stays, begun_same}
 
 -- a literal of the level that was left is unassigned
@@ -73,10 +74,6 @@ lesson_below s clause level above highest = elim highest.reached [
 pub pure_longer : (problem : Problem) (log more : List LogEntry) (place : ℕ) → IsPure problem log place → IsPure problem (log ++ more) place
 pure_longer problem log more place (taken p own got took) = taken p own (got_front log more p own got) took
 pure_longer problem log more place (learned p own got below others) = learned p own (got_front log more p own got) below (λ other by. pure_longer problem log more other (others other by))
-
--- the entry at the end of a log
-pub last_got : (log : List LogEntry) (entry : LogEntry) (place : ℕ) → place ≡ length log → slice_get (log ++ entry ∷ []) place ≡ Some entry
-last_got log entry place at_end = ap (λ (n : ℕ). slice_get (log ++ entry ∷ []) n) (let same : place ≡ length log + 0 = omega (arith, at_end) in same) ∙ slice_get_back log (entry ∷ []) 0
 
 plain_longer : (problem : Problem) (log : List LogEntry) (entry : LogEntry) (place : ℕ) → place < length log → IsPlain problem log place → IsPlain problem (log ++ entry ∷ []) place
 plain_longer problem log entry place within plain = record {
@@ -188,14 +185,11 @@ pub record Logs (old new : Engine) (entry : LogEntry) (mark : Bool) : Type 0 whe
   pub pure : new.pure.items ≡ old.pure.items ++ mark ∷ []
   pub begins : new.begins ≡ old.begins
   pub learned : new.learned ≡ old.learned
+  pub tester : new.tester ≡ old.tester
   pub asserted : new.asserted ≡ old.asserted
   pub assumed : new.assumed ≡ old.assumed
   pub levels : new.levels.items ≡ old.levels.items
   pub next : new.next ≡ old.next
-
--- a learned entry
-abbrev pub entry_of : Step → LogEntry
-entry_of step = record { step = step; origin = Learned }
 
 -- a log that passes, and one learned entry more
 passing_more : (problem : Problem) (locals : List Kind) (log : List LogEntry) (begins from : ℕ) (step : Step) → LogGrows → IsPassing problem locals log begins from
@@ -204,21 +198,18 @@ passing_more problem locals log begins from step grows old passes = record {
   began = old.began;
   within = omega (arith, old.within, length_push log (entry_of step));
   small = All-push (λ (e : LogEntry). size_of e ≤ 64) log (entry_of step) old.small (omega arith);
-  learned = λ place entry got late. elim (cases_lt place (length log)) [
-    | inl before ↦ old.learned place entry (sym (slice_get_front log (entry_of step ∷ []) place before) ∙ got) late
-    | inr after ↦
-        let within : place < length (log ++ entry_of step ∷ []) = slice_get_within (log ++ entry_of step ∷ []) place entry got in
-        let same : entry_of step ≡ entry =
-        let both : Some (entry_of step) ≡ Some entry = sym (last_got log (entry_of step) place (omega (arith, after, within, length_push log (entry_of step)))) ∙ got in same_Some (entry_of step) entry both in
-        subst (λ (e : LogEntry). IsLearned e.origin) same tt
+  learned = λ place entry got late. elim (old_or_last log (entry_of step) place entry got) [
+    | inl before ↦ old.learned place entry before.1 late
+    | inr last ↦ subst (λ (e : LogEntry). IsLearned e.origin) last.1 tt
   ];
   passes = grows.pushed problem locals log begins (entry_of step) (omega (arith, old.began, old.within)) old.passes passes;
 }
 
 pub logged_more : (problem : Problem) (query : Query) (old new : Engine) (step : Step) (mark : Bool) → LogGrows → IsTurning problem query old → IsSound new.solver → Logs old new (entry_of step) mark
-    → (mark ≡ true → RestsOnMarked problem old.pure.items step) → LearnedPasses problem query.locals old.log.items old.begins (length old.log.items) step
+    → (mark ≡ true → RestsOnMarked problem old.pure.items step) → IsLesson problem query old.log.items old.begins step → IsRising step.clause
     → length problem.clauses + 64 * (length old.log.items + 2) < 2 ^ 32 → IsTurning problem query new
-logged_more problem query old new step mark grows turning sound more rests passes few =
+logged_more problem query old new step mark grows turning sound more rests lesson rising few =
+    let passes : LearnedPasses problem query.locals old.log.items old.begins (length old.log.items) step = lesson.passes in
     let entry : LogEntry = entry_of step in
     let names : ℕ = length (all_kinds problem query) in
     let s : SolverForm = old.solver in
@@ -268,6 +259,7 @@ logged_more problem query old new step mark grows turning sound more rests passe
             (solver_at (λ x. IsKeeping (length problem.clauses) old.begins (length (old.log.items ++ entry ∷ [])) (old.pure.items ++ mark ∷ []) x.clauses) keeping)));
         marked = subst (λ (xs : List LogEntry). IsMarked problem xs new.pure.items) (sym more.log) (subst (λ (bs : List Bool). IsMarked problem (old.log.items ++ entry ∷ []) bs) (sym more.pure) marked);
         graph = subst (λ (g : GraphForm). IsGraphOf problem g) (sym more.graph) turning.whole.graph;
+        tester = subst (λ (t : TesterForm). IsTesterOf problem t) (sym more.tester) turning.whole.tester;
         variables = omega (arith, values, turning.whole.variables);
       };
       variables = omega (arith, values, turning.variables);
@@ -281,4 +273,9 @@ logged_more problem query old new step mark grows turning sound more rests passe
       levels = subst (λ (n : ℕ). IsLevelled (all_kinds problem query) query.assumed new.solver new.levels.items n) (sym more.next)
           (subst (λ (ls : List Level). IsLevelled (all_kinds problem query) query.assumed new.solver ls old.next) (sym more.levels)
           (solver_at (λ x. IsLevelled (all_kinds problem query) query.assumed x old.levels.items old.next) levels));
+      kinds = ap (λ (t : TesterForm). t.kinds) more.tester ∙ turning.kinds;
+      taught = subst (λ (n : ℕ). IsTaught problem query new.log.items (turn_from new.begins n (length new.log.items))) (sym more.learned)
+          (subst (λ (n : ℕ). IsTaught problem query new.log.items (turn_from n old.learned (length new.log.items))) (sym more.begins)
+          (subst (λ (es : List LogEntry). IsTaught problem query es (turn_from old.begins old.learned (length es))) (sym more.log)
+          (taught_more problem query old.log.items old.begins old.learned step turning.whole.log turning.taught lesson rising)));
     }

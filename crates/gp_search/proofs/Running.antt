@@ -6,9 +6,10 @@ use Rattle.gp_clause.specs.declared.problem.Problem.{Problem}
 use Rattle.gp_clause.specs.declared.problem.Query.{Query}
 use Rattle.gp_derivation.specs.declared.log.LogEntry.{LogEntry}
 use Rattle.gp_derivation.specs.Log.{IsLearned, EntryPasses, LogPasses}
+use Rattle.gp_derivation.specs.Spent.{IsNewBy, turned}
 use Rattle.gp_derivation.specs.ListLaws.{all_from_got, slice_get_back}
 use Rattle.gp_search.specs.declared.engine.Engine.{Engine}
-use Rattle.gp_search.specs.Inside.{IsWhole, IsTurning}
+use Rattle.gp_search.specs.Inside.{IsWhole, IsTurning, turn_from}
 use Rattle.gp_search.specs.Moves.{KeepsLog, LearnsOne, Adds, IsGrown}
 use Rattle.gp_search.specs.Verdict.{Learns, IsUsedUp}
 
@@ -45,6 +46,8 @@ used_up problem query budget old new from to turning begins learned first last c
   to_new = last;
   counted = omega (arith, first, learned, last, counted);
   spent = λ ticket. record {
+    begins = refl;
+    ends = refl;
     learning = record {
       counted = omega (arith, first, learned, last, counted);
       logged = omega (arith, last);
@@ -54,6 +57,12 @@ used_up problem query budget old new from to turning begins learned first last c
         let P : ℕ → Type 0 = λ n. EntryPasses problem query.locals new.log.items n place entry in
         let same : new.begins ≡ from = omega (arith, begins, learned, first) in
         subst P same (turning.whole.log.passes.current place entry got (omega (arith, same, low)));
+    news = λ place entry got low high.
+        let one = turning.taught.news place entry got (omega (arith, first, low)) (omega (arith, last, high)) in
+        let P : ℕ → Type 0 = λ n. IsNewBy problem query (turned problem new.log.items (turn_from n new.learned (length new.log.items)) place) entry.step.clause one.0 in
+        let same : new.begins ≡ from = omega (arith, begins, learned, first) in
+        (one.0, subst P same one.1);
+    tight = λ place entry got low high. turning.taught.tight place entry got (omega (arith, first, low)) (omega (arith, last, high));
   };
 }
 

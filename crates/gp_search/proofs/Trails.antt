@@ -8,6 +8,7 @@ use Rattle.gp_clause.specs.declared.lit.Lit.{Lit}
 use Rattle.gp_clause.specs.declared.problem.Problem.{Problem}
 use Rattle.gp_clause.specs.declared.problem.Query.{Query}
 use Rattle.gp_clause.specs.Clause.{NamesBelow}
+use Rattle.gp_derivation.specs.Tester.{TesterForm}
 use Rattle.gp_difference.specs.declared.bound.Bound.{Bound}
 use Rattle.gp_difference.specs.Graph.{GraphForm}
 use Rattle.gp_sat.specs.declared.assigned.Assigned.{Assigned}
@@ -25,7 +26,7 @@ use Rattle.gp_search.specs.Inside.{all_kinds, IsTurning, IsAsserted, IsReasoned,
 use Rattle.gp_search.specs.Moves.{BeginsLevel}
 use Rattle.gp_search.proofs.Lists.{contains_cases, here, there}
 use Rattle.gp_search.proofs.Levels.{at_place, back_was, back_stays, bounds_back, levelled_more, levelled_decided, levelled_back}
-use Rattle.gp_search.proofs.Wholes.{HasSameLog, whole_moved}
+use Rattle.gp_search.proofs.Wholes.{HasSameLog, taught_moved, whole_moved}
 
 -- the reasons after a propagation
 reasoned_more : (names : ℕ) (old new : SolverForm) → ((number : ℕ) → IsAttached old.clauses number → NamesBelow names (clause_at old.clauses number)) → Propagates old new → IsReasoned names old → IsReasoned names new
@@ -80,7 +81,7 @@ assuming_more assumed old new level more was = record {
 pub propagated : (problem : Problem) (query : Query) (engine : Engine) (solver : SolverForm) → IsTurning problem query engine → IsSound solver → Propagates engine.solver solver
     → IsTurning problem query (record engine { solver = solver })
 propagated problem query engine solver turning sound more = record {
-  whole = whole_moved problem query engine (record engine { solver = solver }) (record { log = refl; pure = refl; begins = refl; learned = refl }) turning.whole more.clauses more.variables turning.whole.graph;
+  whole = whole_moved problem query engine (record engine { solver = solver }) (record { log = refl; pure = refl; begins = refl; learned = refl; tester = refl }) turning.whole more.clauses more.variables turning.whole.graph;
   variables = omega (arith, more.variables, turning.variables);
   used = more.used ∙ turning.used;
   sound = sound;
@@ -88,6 +89,8 @@ propagated problem query engine solver turning sound more = record {
   asserted = asserted_more (all_kinds problem query) engine.solver solver engine.graph engine.asserted turning.sound sound more turning.asserted;
   assuming = assuming_more query.assumed engine.solver solver engine.assumed more turning.assuming;
   levels = levelled_more (all_kinds problem query) query.assumed engine.solver solver engine.levels.items engine.next more turning.levels;
+  kinds = turning.kinds;
+  taught = turning.taught;
 }
 
 -- the reasons after a decision
@@ -134,6 +137,7 @@ decided_on old new lit assumed begun = record {
     pure = ap (λ (e : Engine). e.pure.items) begun.same;
     begins = ap (λ (e : Engine). e.begins) begun.same;
     learned = ap (λ (e : Engine). e.learned) begun.same;
+    tester = ap (λ (e : Engine). e.tester) begun.same;
   };
   solver = begun.solver;
   graph = ap (λ (e : Engine). e.graph) begun.same;
@@ -170,6 +174,8 @@ decided_but problem query old new lit turning sound all free below decided assum
       levels = subst (λ (n : ℕ). IsLevelled kinds query.assumed new.solver new.levels.items n) (sym decided.next)
           (subst (λ (ls : List Level). IsLevelled kinds query.assumed new.solver ls old.next) (sym decided.levels)
           (solver_at (λ x. IsLevelled kinds query.assumed x (old.levels.items ++ record { bounds = length old.graph.kept; next = old.next } ∷ []) old.next) levels));
+      kinds = ap (λ (t : TesterForm). t.kinds) decided.same.tester ∙ turning.kinds;
+      taught = taught_moved problem query old new decided.same turning.taught;
     }
 
 -- an assumption was decided, where no other literal was
@@ -230,13 +236,15 @@ turning_levels problem query old new turning same solver graph asserted assumed 
           (solver_at (λ x. IsAsserted kinds x old.graph old.asserted) turning.asserted));
       assuming = subst (λ (n : ℕ). IsAssuming query.assumed new.solver n) (sym assumed) (solver_at (λ x. IsAssuming query.assumed x old.assumed) turning.assuming);
       levels = solver_at (λ x. IsLevelled kinds query.assumed x new.levels.items new.next) levels;
+      kinds = ap (λ (t : TesterForm). t.kinds) same.tester ∙ turning.kinds;
+      taught = taught_moved problem query old new same turning.taught;
     }
 
 -- one assumption more was seen to be true
 pub passed_next : (problem : Problem) (query : Query) (engine : Engine) (d : Lit) (next : ℕ) → IsTurning problem query engine → engine.next < length query.assumed → IsTrueLit (assigned engine.solver) (get_or query.assumed engine.next d)
     → next ≡ engine.next + 1 → IsTurning problem query (record engine { next = next })
 passed_next problem query engine d next turning within holds is =
-    turning_levels problem query engine (record engine { next = next }) turning (record { log = refl; pure = refl; begins = refl; learned = refl }) refl refl refl refl (record {
+    turning_levels problem query engine (record engine { next = next }) turning (record { log = refl; pure = refl; begins = refl; learned = refl; tester = refl }) refl refl refl refl (record {
       counted = turning.levels.counted;
       begun = λ below low. turning.levels.begun below low;
       passed = subst (λ (n : ℕ). All (IsTrueLit (assigned engine.solver)) (take n query.assumed)) (sym is)
@@ -356,6 +364,8 @@ went_back problem query old new level begun turning sound below taken =
       levels = subst (λ (n : ℕ). IsLevelled kinds query.assumed new.solver new.levels.items n) (sym (taken.next ∙ ap (λ (b : Level). b.next) taken.begun_is))
           (subst (λ (ls : List Level). IsLevelled kinds query.assumed new.solver ls (get_or old.levels.items level no_level).next) (sym taken.levels)
           (levelled_back kinds query.assumed s new.solver old.levels.items old.next level turning.sound back below turning.levels));
+      kinds = ap (λ (t : TesterForm). t.kinds) taken.same.tester ∙ turning.kinds;
+      taught = taught_moved problem query old new taken.same turning.taught;
     }
 
 -- a literal of a false clause is of the present level, or all are below it

@@ -26,9 +26,10 @@ use Rattle.gp_sat.specs.SolverLaws.{attached_within, free_at, grown_at}
 use Rattle.gp_search.specs.declared.engine.Engine.{Engine}
 use Rattle.gp_search.specs.declared.engine.Level.{Level}
 use Rattle.gp_search.specs.Bounds.{bounds_along}
-use Rattle.gp_search.specs.Inside.{all_kinds, IsPlain, IsMarked, IsStored, IsKeeping, IsPassing, IsGraphOf, IsWhole, IsTurning, IsIdle, IsBlank}
+use Rattle.gp_search.specs.Inside.{all_kinds, IsPlain, IsMarked, IsStored, IsKeeping, IsPassing, IsGraphOf, IsWhole, IsTurning, IsIdle, IsBlank, IsTesterOf}
 use Rattle.gp_search.specs.Moves.{retired, IsRetired, IsRoomy, of_clauses}
 use Rattle.gp_search.proofs.LearnedSteps.{clauses_counted, clause_got}
+use Rattle.gp_search.proofs.Taught.{taught_none}
 
 -- a solver that grows has room
 pub grown_roomy : (s : SolverForm) (variables : ℕ) → IsRoomy s (grown s variables) variables
@@ -79,6 +80,7 @@ pub record IsBegunFrom (problem : Problem) (old new : Engine) : Type 0 where
   pub clauses : new.solver.clauses ≡ old.solver.clauses
   pub values : length old.solver.values ≤ length new.solver.values
   pub graph : IsGraphOf problem new.graph
+  pub tester : IsTesterOf problem new.tester
 
 pub begun_whole : (problem : Problem) (query : Query) (old new : Engine) → LogGrows → IsIdle problem old → IsValidQuery problem query
     → length problem.clauses + 64 * (length old.log.items + 1) < 2 ^ 32 → IsBegunFrom problem old new → IsWhole problem query new
@@ -110,6 +112,7 @@ begun_whole problem query old new grows idle asked few begun =
           (subst (λ (cs : List Stored). IsKeeping bases (length log) (length log) old.pure.items cs) (sym begun.clauses) idle.keeping)));
       marked = subst (λ (es : List LogEntry). IsMarked problem es new.pure.items) (sym begun.log) (subst (λ (bs : List Bool). IsMarked problem log bs) (sym begun.pure) idle.marked);
       graph = begun.graph;
+      tester = begun.tester;
       variables = omega (arith, begun.values, idle.variables);
     }
 
@@ -119,8 +122,8 @@ blank_free s blank v = ap (λ (vs : List (Option Assigned)). get_or vs v None) b
 
 pub begun_turning : (problem : Problem) (query : Query) (engine : Engine) → IsWhole problem query engine → IsSound engine.solver → ((v : ℕ) → assigned engine.solver v ≡ None) → engine.solver.trail ≡ [] → engine.solver.level ≡ 0
     → engine.graph.kept ≡ [] → length engine.solver.values ≤ engine.graph.room → length (all_kinds problem query) ≤ length engine.solver.values → engine.solver.used ≡ length (all_kinds problem query)
-    → engine.asserted ≡ 0 → engine.assumed ≡ 0 → engine.next ≡ 0 → engine.levels.items ≡ [] → IsTurning problem query engine
-begun_turning problem query engine whole sound free trail level kept room enough used none_asserted none_assumed none_seen none_begun = record {
+    → engine.asserted ≡ 0 → engine.assumed ≡ 0 → engine.next ≡ 0 → engine.levels.items ≡ [] → engine.tester.kinds ≡ all_kinds problem query → engine.learned ≡ length engine.log.items → IsTurning problem query engine
+begun_turning problem query engine whole sound free trail level kept room enough used none_asserted none_assumed none_seen none_begun kinds learned = record {
   whole = whole;
   variables = enough;
   used = used;
@@ -145,6 +148,8 @@ begun_turning problem query engine whole sound free trail level kept room enough
     begun = λ below low. absurd (omega (arith, low, level));
     passed = subst (λ (n : ℕ). All (IsTrueLit (assigned engine.solver)) (take n query.assumed)) (sym none_seen) (All-nil (IsTrueLit (assigned engine.solver)));
   };
+  kinds = kinds;
+  taught = taught_none problem query engine.log.items engine.begins engine.learned (omega (arith, learned));
 }
   where
     clash : (v : ℕ) (a : Assigned) → assigned engine.solver v ≡ Some a → ⊥
@@ -213,7 +218,7 @@ retired_more bases begins place marks old now next from is done = subst (λ (s :
     at false mark = without_mark mark
 
 -- the clause of an entry has the number of its place after those of the problem
-entry_clause : (problem : Problem) (log : List LogEntry) (clauses : List Stored) (other : ℕ) (d : LogEntry) → map (λ (stored : Stored). stored.clause) clauses ≡ logged problem log → other < length log
+pub entry_clause : (problem : Problem) (log : List LogEntry) (clauses : List Stored) (other : ℕ) (d : LogEntry) → map (λ (stored : Stored). stored.clause) clauses ≡ logged problem log → other < length log
     → clause_at clauses (length problem.clauses + other) ≡ (get_or log other d).step.clause
 entry_clause problem log clauses other d same within =
     let number : ℕ = length problem.clauses + other in
@@ -292,6 +297,7 @@ finished problem query engine solver graph grows whole done undone =
       };
       marked = whole.marked;
       graph = record { points = ap (λ (g : GraphForm). g.points) undone ∙ whole.graph.points; edges = ap (λ (g : GraphForm). g.edges) undone ∙ whole.graph.edges };
+      tester = whole.tester;
       variables = omega (arith, done.variables, whole.variables);
       blank = done.blank;
       kept = ap (λ (g : GraphForm). g.kept) undone;
@@ -336,6 +342,7 @@ same_more old now next solver first second = λ i. record {
   assumed = (ap (λ (e : Engine). e.assumed) second ∙ ap (λ (e : Engine). e.assumed) first) i;
   next = (ap (λ (e : Engine). e.next) second ∙ ap (λ (e : Engine). e.next) first) i;
   levels = (ap (λ (e : Engine). e.levels) second ∙ ap (λ (e : Engine). e.levels) first) i;
+  tester = (ap (λ (e : Engine). e.tester) second ∙ ap (λ (e : Engine). e.tester) first) i;
 }
 
 pub undone_more : (old : GraphForm) (now next : Engine) (solver : SolverForm) → now.graph ≡ record old { kept = []; room = now.graph.room } → next ≡ record now { solver = solver } → next.graph ≡ record old { kept = []; room = next.graph.room }
@@ -366,8 +373,8 @@ names_all clauses number names all is =
 
 -- a new engine is idle
 pub new_idle : (problem : Problem) (engine : Engine) → IsValidProblem problem → engine.log.items ≡ [] → engine.pure.items ≡ [] → engine.solver ≡ of_clauses (length problem.kinds) problem.clauses → IsGraphOf problem engine.graph → engine.graph.kept ≡ []
-    → IsIdle problem engine
-new_idle problem engine valid log pure solver graph kept = record {
+    → IsTesterOf problem engine.tester → IsIdle problem engine
+new_idle problem engine valid log pure solver graph kept tester = record {
   valid = valid;
   log = subst (λ (es : List LogEntry). IsPassing problem [] es (length es) (length es)) (sym log) empty_passing;
   stored = subst (λ (es : List LogEntry). IsStored problem (length es) (length problem.kinds) es engine.solver.clauses) (sym log)
@@ -378,6 +385,7 @@ new_idle problem engine valid log pure solver graph kept = record {
   };
   marked = subst (λ (es : List LogEntry). IsMarked problem es engine.pure.items) (sym log) (subst (λ (bs : List Bool). IsMarked problem [] bs) (sym pure) (record { size = refl; plain = λ place is. absurd (false≢true is) }));
   graph = graph;
+  tester = tester;
   variables = omega (arith, ap (λ (s : SolverForm). length s.values) solver, length-replicate {A = Option Assigned} (length problem.kinds) None);
   blank = subst IsBlank (sym solver) (record { values = ap (λ (n : ℕ). replicate n None) (sym (length-replicate {A = Option Assigned} (length problem.kinds) None)); trail = refl; level = refl });
   kept = kept;

@@ -4,12 +4,15 @@ use Rattle.gp_clause.specs.declared.kind.Kind.{Kind}
 use Rattle.gp_clause.specs.declared.lit.Lit.{Lit}
 use Rattle.gp_clause.specs.declared.problem.Problem.{Problem}
 use Rattle.gp_clause.specs.declared.problem.Query.{Query}
-use Rattle.gp_clause.specs.Clause.{NamesBelow}
+use Rattle.gp_clause.specs.Clause.{NamesBelow, IsRising}
 use Rattle.gp_clause.specs.Problem.{IsValidProblem, IsValidQuery}
 use Rattle.gp_derivation.specs.declared.log.LogEntry.{LogEntry}
+use Rattle.gp_derivation.specs.declared.record.Turn.{Turn}
 use Rattle.gp_derivation.specs.Log.{IsLearned, IsPure, LogPasses, logged}
 use Rattle.gp_derivation.specs.Numbering.{size_of}
+use Rattle.gp_derivation.specs.Spent.{LearnsWhatIsNew, LearnsWhatIsTight}
 use Rattle.gp_derivation.specs.Step.{Passes}
+use Rattle.gp_derivation.specs.Tester.{TesterForm}
 use Rattle.gp_difference.specs.Graph.{GraphForm}
 use Rattle.gp_sat.specs.declared.assigned.Assigned.{Assigned}
 use Rattle.gp_sat.specs.Stored.{Stored}
@@ -63,6 +66,12 @@ pub record IsGraphOf (problem : Problem) (graph : GraphForm) : Type 0 where
   pub points : graph.points ≡ problem.points
   pub edges : graph.edges ≡ problem.edges
 
+-- a tester has the points, the edges and the kinds of a problem
+pub record IsTesterOf (problem : Problem) (tester : TesterForm) : Type 0 where
+  pub points : tester.points ≡ problem.points
+  pub edges : tester.edges ≡ problem.edges
+  pub lasting : tester.lasting ≡ problem.kinds
+
 -- what holds of a problem, a query and an engine at every moment of a turn
 pub record IsWhole (problem : Problem) (query : Query) (engine : Engine) : Type 0 where
   pub valid : IsValidProblem problem
@@ -73,6 +82,7 @@ pub record IsWhole (problem : Problem) (query : Query) (engine : Engine) : Type 
   pub keeping : IsKeeping (length problem.clauses) engine.begins (length engine.log.items) engine.pure.items engine.solver.clauses
   pub marked : IsMarked problem engine.log.items engine.pure.items
   pub graph : IsGraphOf problem engine.graph
+  pub tester : IsTesterOf problem engine.tester
   pub variables : length problem.kinds ≤ length engine.solver.values
 
 -- the reasons of assignments are attached, and only variables below the number are assigned
@@ -122,16 +132,28 @@ pub record IsLevelled (kinds : List Kind) (assumed : List Lit) (s : SolverForm) 
   pub begun : (below : ℕ) → below < s.level → IsBegun kinds assumed s below (slice_index_or levels below no_level)
   pub passed : All (IsTrueLit (assigned s)) (take next assumed)
 
+-- a turn whose ticket does not matter
+abbrev pub turn_from : ℕ → ℕ → ℕ → Turn
+turn_from begins learned ends = record { ticket = 0; begins = begins; learned = learned; ends = ends }
+
+-- the clause of each entry that a turn learned rises by variable, is new by one of its literals, and is tight
+pub record IsTaught (problem : Problem) (query : Query) (log : List LogEntry) (turn : Turn) : Type 0 where
+  pub rising : (place : ℕ) (entry : LogEntry) → slice_get log place ≡ Some entry → turn.learned ≤ place → IsRising entry.step.clause
+  pub news : LearnsWhatIsNew problem query log turn
+  pub tight : LearnsWhatIsTight problem query log turn
+
 -- what holds of an engine between the steps of a turn, which decides the variables of the problem and the query alone
 pub record IsTurning (problem : Problem) (query : Query) (engine : Engine) : Type 0 where
   pub whole : IsWhole problem query engine
   pub variables : length (all_kinds problem query) ≤ length engine.solver.values
   pub used : engine.solver.used ≡ length (all_kinds problem query)
+  pub kinds : engine.tester.kinds ≡ all_kinds problem query
   pub sound : IsSound engine.solver
   pub reasoned : IsReasoned (length (all_kinds problem query)) engine.solver
   pub asserted : IsAsserted (all_kinds problem query) engine.solver engine.graph engine.asserted
   pub assuming : IsAssuming query.assumed engine.solver engine.assumed
   pub levels : IsLevelled (all_kinds problem query) query.assumed engine.solver engine.levels.items engine.next
+  pub taught : IsTaught problem query engine.log.items (turn_from engine.begins engine.learned (length engine.log.items))
 
 -- no variable of a solver is assigned
 pub record IsBlank (s : SolverForm) : Type 0 where
@@ -147,6 +169,7 @@ pub record IsIdle (problem : Problem) (engine : Engine) : Type 0 where
   pub keeping : IsKeeping (length problem.clauses) (length engine.log.items) (length engine.log.items) engine.pure.items engine.solver.clauses
   pub marked : IsMarked problem engine.log.items engine.pure.items
   pub graph : IsGraphOf problem engine.graph
+  pub tester : IsTesterOf problem engine.tester
   pub variables : length problem.kinds ≤ length engine.solver.values
   pub blank : IsBlank engine.solver
   pub kept : engine.graph.kept ≡ []

@@ -1,5 +1,5 @@
 -- What the calls of an engine change, and what they find.
-use Rattle.std.specs.Prelude.{◌≡◌, ℕ, ◌+◌, ◌-◌, ◌<◌, ◌≤◌, Bool, true, false, if◌then◌else◌, nat_lt, Option, Some, None, List, [], ◌∷◌, ◌++◌, length, map, replicate, Contains, slice_index_or}
+use Rattle.std.specs.Prelude.{◌≡◌, ℕ, ◌+◌, ◌-◌, ◌<◌, ◌≤◌, ◌⊎◌, Bool, true, false, if◌then◌else◌, nat_lt, Option, Some, None, List, [], ◌∷◌, ◌++◌, length, map, replicate, Contains, slice_index_or}
 use Rattle.gp_clause.specs.declared.lit.Lit.{Lit}
 use Rattle.gp_clause.specs.declared.problem.Problem.{Problem}
 use Rattle.gp_clause.specs.declared.problem.Query.{Query}
@@ -8,7 +8,10 @@ use Rattle.gp_clause.specs.Valuation.{Meets}
 use Rattle.gp_derivation.specs.declared.log.LogEntry.{LogEntry}
 use Rattle.gp_derivation.specs.declared.step.Step.{Step}
 use Rattle.gp_derivation.specs.Certificate.{Refutes}
-use Rattle.gp_derivation.specs.Log.{LearnedPasses}
+use Rattle.gp_derivation.specs.Log.{LearnedPasses, logged}
+use Rattle.gp_derivation.specs.Spent.{IsNewBy, turned}
+use Rattle.gp_derivation.specs.Step.{named}
+use Rattle.gp_derivation.specs.Tight.{IsTight}
 use Rattle.gp_difference.specs.declared.fault.Asserted.{Asserted}
 use Rattle.gp_difference.specs.declared.fault.Asserted.TheVariants.{Kept, Cycle}
 use Rattle.gp_sat.specs.declared.assigned.Assigned.{Assigned}
@@ -16,7 +19,7 @@ use Rattle.gp_sat.specs.Stored.{Stored}
 use Rattle.gp_queue.specs.Order.{numbers_between, moved_to_front}
 use Rattle.gp_sat.specs.State.{SolverForm, assigned, IsAttached, without_clause, with_literal}
 use Rattle.gp_sat.specs.Standing.{IsFalse, Each}
-use Rattle.gp_sat.specs.Changes.{Backjumps}
+use Rattle.gp_sat.specs.Changes.{Backjumps, IsOfLevel}
 use Rattle.gp_sat.specs.Deciding.{IsNextFree}
 use Rattle.gp_sat.specs.Learning.{HasOnePresent, IsHighestBelow}
 use Rattle.gp_sat.specs.Looking.{IsTrueLit}
@@ -25,7 +28,7 @@ use Rattle.gp_search.specs.declared.turn.Descent.{Descent}
 use Rattle.gp_search.specs.declared.turn.Descent.TheVariants.{Verdict as Ended, Conflict as Stuck}
 use Rattle.gp_search.specs.declared.verdict.Verdict.{Verdict}
 use Rattle.gp_search.specs.declared.verdict.Verdict.TheVariants.{Model, Refuted, Spent}
-use Rattle.gp_search.specs.Inside.{IsConflict, IsBlank, false_lit}
+use Rattle.gp_search.specs.Inside.{all_kinds, turn_from, IsConflict, IsBlank, false_lit}
 
 -- the log, the places where the turn begins and begins to learn, and the number of variables stay
 pub record KeepsLog (old new : Engine) : Type 0 where
@@ -68,12 +71,36 @@ abbrev pub with_number : List ℕ → Option ℕ → List ℕ
 with_number hints None = hints
 with_number hints (Some number) = hints ++ number ∷ []
 
--- a step that may be logged, all of whose literals are false and just one of the present level, and the level at which it
--- asserts that one
-pub record IsLearnedStep (problem : Problem) (query : Query) (engine : Engine) (step : Step) (level : ℕ) : Type 0 where
+-- a step may be learned at the end of a log in a turn that begins at a place: it passes, is new by a literal, and is tight
+pub record IsLesson (problem : Problem) (query : Query) (log : List LogEntry) (begins : ℕ) (step : Step) : Type 0 where
+  pub passes : LearnedPasses problem query.locals log begins (length log) step
+  pub lit : Lit
+  pub is_new : IsNewBy problem query (turned problem log (turn_from begins (length log) (length log)) (length log)) step.clause lit
+  pub tight : IsTight problem.edges (all_kinds problem query) (named (logged problem log) step.hints) step.clause
+
+-- a clause and hints that a conflict gave may be logged: the clause passes with what the hints name, which is attached, and
+-- its literals are false, just one of them at the present level
+pub record IsStudied (problem : Problem) (query : Query) (engine : Engine) (step : Step) : Type 0 where
   pub passes : LearnedPasses problem query.locals engine.log.items engine.begins (length engine.log.items) step
+  pub attached : (hint : ℕ) → Contains step.hints hint → IsAttached engine.solver.clauses hint
   pub all_false : Each (IsFalse (assigned engine.solver)) step.clause
   pub point : HasOnePresent engine.solver step.clause
+
+-- of two levels the higher one is that of a literal, where that is below the present level
+pub record IsHigher (s : SolverForm) (lit : Lit) (level higher : ℕ) : Type 0 where
+  pub least : level ≤ higher
+  pub own : (a : Assigned) → assigned s lit.variable ≡ Some a → a.level < s.level → a.level ≤ higher
+  pub reached : (higher ≡ level) ⊎ (IsOfLevel s higher lit × (higher < s.level))
+
+-- a step may be learned, all its literals are false, and just one is of the present level
+pub record IsTightened (problem : Problem) (query : Query) (engine : Engine) (step : Step) : Type 0 where
+  pub lesson : IsLesson problem query engine.log.items engine.begins step
+  pub all_false : Each (IsFalse (assigned engine.solver)) step.clause
+  pub point : HasOnePresent engine.solver step.clause
+
+-- such a step, and the level at which it asserts the one literal of the present level
+pub record IsLearnedStep (problem : Problem) (query : Query) (engine : Engine) (step : Step) (level : ℕ) : Type 0 where
+  pub tightened : IsTightened problem query engine step
   pub highest : IsHighestBelow engine.solver step.clause level
   pub below : level < engine.solver.level
 

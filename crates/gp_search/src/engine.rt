@@ -5,7 +5,7 @@ ghost use Rattle.gp_search.specs.Inside.{IsIdle, IsGraphOf};
 ghost use Rattle.gp_search.specs.Moves.{of_clauses};
 
 use gp_clause::{Lit, Problem, keeping_leaves_no_cycle};
-use gp_derivation::LogEntry;
+use gp_derivation::{LogEntry, Tester};
 use gp_difference::{Graph, GraphFault};
 use gp_sat::Solver;
 use std::alloc::{AllocError, Global};
@@ -13,7 +13,7 @@ use std::alloc::{AllocError, Global};
 // The state of a search. The clauses of the solver have the numbers that hints have: those of the problem, and then the
 // entries of the log. An entry that rests on the problem alone is marked as pure. A turn begins at a place of the log, and
 // learns from another one on. In it the graph keeps the bounds of so many literals of the trail, the decisions up to a
-// level are assumptions, and all assumptions before the next one are true.
+// level are assumptions, and all assumptions before the next one are true. One tester serves all turns.
 #[derive(Debug, Drop)]
 pub(crate) struct Engine {
     pub(crate) solver: Solver,
@@ -26,6 +26,7 @@ pub(crate) struct Engine {
     pub(crate) assumed: u32,
     pub(crate) next: usize,
     pub(crate) levels: Vec<Level>,
+    pub(crate) tester: Tester,
 }
 
 // What stood when a level began: how many bounds the graph had, and the place of the next assumption.
@@ -61,6 +62,7 @@ impl Engine {
             assumed: 0,
             next: 0,
             levels: Vec::new(alloc),
+            tester: Tester::new(alloc, problem, &[])?,
         })
     }
 }

@@ -85,6 +85,7 @@ impl Engine {
         self.assumed = 0;
         self.next = 0;
         self.levels.clear();
+        self.tester.set_locals(query.locals.as_slice())?;
         let variables = (problem.kinds.len() + query.locals.len()) as u32;
         grow(&mut self.solver, variables)?;
         self.solver.set_used(variables);

@@ -1,5 +1,8 @@
+use Rattle.std.proofs.Common.{subst, sym}
 use Rattle.gp_sat.specs.State.{assigned}
-use Rattle.gp_search.proofs.Choosing.{open_low, unassigned, goes_further, named_assumed, named_within, keeps_begun}
+use Rattle.gp_search.specs.declared.engine.Engine.{Engine}
+use Rattle.gp_search.specs.Inside.{IsTurning}
+use Rattle.gp_search.proofs.Choosing.{keeps_same, open_low, unassigned, goes_further, named_assumed, named_within, keeps_begun}
 use Rattle.gp_search.proofs.Trails.{decided_on, assumed_decided}
 use Rattle.gp_search.proofs.engine.Engine.assume.Goals as goal
 
@@ -30,3 +33,9 @@ returns-clause-found c =
     goes_further c.args.self.now.solver _ c.args.lit _ c.requires.turning.sound c.in_ok-begin_level.ensures.ok.solver
     (named_within c.args.problem.now c.args.query.now c.args.self.now c.args.lit c.requires.turning c.requires.next.0)
     (unassigned (assigned c.args.self.now.solver c.args.lit.variable) c.value.result c.is_some.result c.value.ensures c.is_some.ensures c.if-is_some.false)
+
+pub returns-in_err-certificate-clause-turning : goal.returns-in_err-certificate-clause-turning
+returns-in_err-certificate-clause-turning c = subst (λ (e : Engine). IsTurning c.args.problem.now c.args.query.now e) (sym c.refute_assumption.ensures.same) c.requires.turning
+
+pub returns-in_err-certificate-clause-same : goal.returns-in_err-certificate-clause-same
+returns-in_err-certificate-clause-same c = keeps_same c.args.self.now c.refute_assumption.new.self c.refute_assumption.ensures.same

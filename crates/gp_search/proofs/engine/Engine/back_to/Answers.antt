@@ -11,7 +11,7 @@ undo_to-requires c =
 pub returns-clause-turning : goal.returns-clause-turning
 returns-clause-turning c =
     went_back c.args.problem.now c.args.query.now c.args.self.now _ c.args.level c.index-begun.result.now c.requires.turning c.backjump.ensures.sound c.requires.below (record {
-      same = record { log = refl; pure = refl; begins = refl; learned = refl };
+      same = record { log = refl; pure = refl; begins = refl; learned = refl; tester = refl };
       back = c.backjump.ensures.back;
       begun_is = begun_at c.args.problem.now c.args.query.now c.args.self.now c.args.level c.index-begun.result.now c.requires.turning c.requires.below c.index-begun.ensures;
       graph = c.undo_to.ensures;

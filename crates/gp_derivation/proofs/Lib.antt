@@ -7,6 +7,7 @@ pub mod Drafts
 pub mod Rehinting
 pub mod Coning
 pub mod Growing
+pub mod Staying
 pub mod Standing
 pub mod Settling
 pub mod BoundsAt

@@ -59,6 +59,11 @@ pub record IsSpentOn (problem : Problem) (query : Query) (log : List LogEntry) (
   pub news : LearnsWhatIsNew problem query log turn
   pub tight : LearnsWhatIsTight problem query log turn
 
+-- a turn that is spent on some entries of a log stays so when the log grows at its end
+abbrev pub SpentStays : Type 0
+SpentStays = (problem : Problem) (query : Query) (log more : List LogEntry) (budget : ℕ) (turn : Turn) (from to : ℕ) → IsSpentOn problem query log budget turn from to
+    → IsSpentOn problem query (log ++ more) budget turn from to
+
 -- a record has a turn with some ticket that is spent on the entries from one number to another
 abbrev pub HasTurnSpentOn : Problem → Query → WorkerRecord → ℕ → ℕ → ℕ → ℕ → Type 0
 HasTurnSpentOn problem query worker ticket budget from to = (turn : Turn) × Contains worker.turns turn × (turn.ticket ≡ ticket) × IsSpentOn problem query worker.log budget turn from to

@@ -1,5 +1,5 @@
 ghost use Rattle.std.specs.Prelude.{◌≡◌, ℕ, ◌+◌, ◌-◌, ◌<◌, ◌^◌, [], ◌∷◌, ◌++◌, Some, length, map, IfOk, OnOk, All, slice_index_or, slice_get};
-ghost use Rattle.gp_derivation.specs.Cones.{IsCone, ConeChecks, steps_given, kept_steps};
+ghost use Rattle.gp_derivation.specs.Cones.{IsCone, ConeChecks, ConeIsUnique, ConeStays, steps_given, kept_steps};
 ghost use Rattle.gp_derivation.specs.Numbering.{CanBeNumbered, NamesEarlier, moved, with_hints, size_of};
 ghost use Rattle.gp_derivation.specs.declared.step.Step.{Step};
 
@@ -38,6 +38,16 @@ pub fn cone(
 /// A law: the cone of a step that passes at the end of a log whose entries pass is a certificate that checks.
 pub fn cone_checks()
     ensures { ConeChecks }
+{}
+
+/// A law: a step has one cone at most.
+pub fn cone_is_unique()
+    ensures { ConeIsUnique }
+{}
+
+/// A law: the cone of a step stays the same when the log grows.
+pub fn cone_stays()
+    ensures { ConeStays }
 {}
 
 // The steps of a cone so far, and for each entry that was passed the number of the last step then. It serves for the

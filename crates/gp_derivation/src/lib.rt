@@ -17,11 +17,11 @@ mod shared;
 mod step;
 mod tester;
 
-pub use certificate::{Certificate, certificate_follows, refuted_means};
-pub use cones::{cone, cone_checks};
+pub use certificate::{Certificate, certificate_follows, checks_without_locals, refuted_means};
+pub use cones::{cone, cone_checks, cone_is_unique, cone_stays};
 pub use log::{LogEntry, Origin, log_grows, pure_follows};
 pub use numbering::can_be_numbered;
-pub use record::{Offered, Sent, Turn, WorkerRecord};
+pub use record::{Offered, Sent, Turn, WorkerRecord, spent_stays};
 pub use shared::{refuted_over_means, shared_follows, shares_nothing};
 pub use step::{Step, more_passes, passing_follows};
 pub use tester::Tester;

@@ -7,6 +7,7 @@
 mod analysis;
 mod assigned;
 mod kernel;
+mod marking;
 mod pending;
 mod propagation;
 mod solver;

@@ -121,18 +121,30 @@ fn decide(rt: &impl Abort, solver: &mut Solver, lit: Lit) {
     }
 }
 
-fn analyse(rt: &impl Abort, solver: &Solver, number: u32) -> Result<Learned, Fail> {
+fn analyse(
+    rt: &impl Abort,
+    alloc: Global,
+    solver: &mut Solver,
+    number: u32,
+) -> Result<Learned, Fail> {
     assert!(rt; number < solver.clause_count());
-    let conflict = solver.clause(number);
+    let lits = Vec::from_slice(alloc, solver.clause(number))?;
+    let conflict = lits.as_slice();
     assert!(rt; solver.level() > 0);
     assert!(rt; are_false(solver, conflict));
     assert!(rt; has_present(solver, conflict));
     Ok(solver.analyse(conflict)?)
 }
 
-fn analyse_final(rt: &impl Abort, solver: &Solver, number: u32) -> Result<Learned, Fail> {
+fn analyse_final(
+    rt: &impl Abort,
+    alloc: Global,
+    solver: &mut Solver,
+    number: u32,
+) -> Result<Learned, Fail> {
     assert!(rt; number < solver.clause_count());
-    let conflict = solver.clause(number);
+    let lits = Vec::from_slice(alloc, solver.clause(number))?;
+    let conflict = lits.as_slice();
     assert!(rt; are_false(solver, conflict));
     Ok(solver.analyse_final(conflict)?)
 }
@@ -202,11 +214,11 @@ fn grow(rt: &impl Abort, solver: &mut Solver, variables: u32) -> Result<(), Fail
 }
 
 // Decides the first variable false, learns from the conflict, and goes on with what was learned.
-fn goes_on(rt: &impl Abort, solver: &mut Solver) -> Result<bool, Fail> {
+fn goes_on(rt: &impl Abort, alloc: Global, solver: &mut Solver) -> Result<bool, Fail> {
     let quiet = is_quiet(solver);
     decide(rt, solver, NOT_A);
     let fails = is_false_at(solver, 0);
-    let learned = analyse(rt, solver, 0)?;
+    let learned = analyse(rt, alloc, solver, 0)?;
     go_back(solver);
     let number = attach(rt, solver, &learned.clause)?;
     let again = is_quiet(solver);
@@ -224,7 +236,7 @@ fn goes_on(rt: &impl Abort, solver: &mut Solver) -> Result<bool, Fail> {
 #[test]
 fn learns_a_unit_and_goes_on(rt: HostRuntime) -> Result<(), Fail> {
     let mut solver = of_clauses(&rt, rt.alloc(), 2, &[&[A, B], &[A, NOT_B]])?;
-    assert!(rt; goes_on(&rt, &mut solver)?);
+    assert!(rt; goes_on(&rt, rt.alloc(), &mut solver)?);
     Ok(())
 }
 
@@ -246,8 +258,8 @@ fn learns(rt: &impl Abort, alloc: Global, row: &Row) -> Result<bool, Fail> {
         decide(rt, &mut solver, *lit);
     }
     let fails = is_false_at(&mut solver, row.conflict);
-    let learned = analyse(rt, &solver, row.conflict)?;
-    let last = analyse_final(rt, &solver, row.conflict)?;
+    let learned = analyse(rt, alloc, &mut solver, row.conflict)?;
+    let last = analyse_final(rt, alloc, &mut solver, row.conflict)?;
     Ok(
         fails
             && is_learned(&learned, row.lits, row.level, row.hints)
@@ -293,9 +305,9 @@ fn learns_from_conflicts(rt: HostRuntime) -> Result<(), Fail> {
 }
 
 // Finds a false clause, takes everything back, retires the other one, and grows.
-fn starts_again(rt: &impl Abort, solver: &mut Solver) -> Result<bool, Fail> {
+fn starts_again(rt: &impl Abort, alloc: Global, solver: &mut Solver) -> Result<bool, Fail> {
     let fails = is_false_at(solver, 1);
-    let last = analyse_final(rt, solver, 1)?;
+    let last = analyse_final(rt, alloc, solver, 1)?;
     let full = is_next(solver, None);
     clear(solver);
     retire(rt, solver, 0);
@@ -315,7 +327,7 @@ fn starts_again(rt: &impl Abort, solver: &mut Solver) -> Result<bool, Fail> {
 #[test]
 fn clears_retires_and_grows(rt: HostRuntime) -> Result<(), Fail> {
     let mut solver = of_clauses(&rt, rt.alloc(), 1, &[&[A], &[NOT_A]])?;
-    assert!(rt; starts_again(&rt, &mut solver)?);
+    assert!(rt; starts_again(&rt, rt.alloc(), &mut solver)?);
     Ok(())
 }
 

@@ -1,7 +1,7 @@
-ghost use Rattle.std.specs.Prelude.{◌≡◌, ◌+◌, ◌≤◌, ◌<◌, ◌^◌, ◌++◌, ◌↔◌, IsTrue, true, length, slice_get, pos, ◌+ℤ◌, ◌≤ℤ◌, ◌<ℤ◌};
+ghost use Rattle.std.specs.Prelude.{◌≡◌, ◌^◌, ◌↔◌, IsTrue, true, slice_get, pos, ◌+ℤ◌, ◌≤ℤ◌, ◌<ℤ◌};
 ghost use Rattle.gp_clause.specs.Edge.{Keeps};
 ghost use Rattle.gp_difference.specs.Places.{place_at};
-ghost use Rattle.gp_search.specs.Bounds.{lit_bound, bounds_along, KeepsSome};
+ghost use Rattle.gp_search.specs.Bounds.{lit_bound, KeepsSome};
 ghost use Rattle.gp_search.specs.Inside.{all_kinds};
 
 use gp_clause::{Edge, Kind, Lit, Problem, Query};
@@ -27,20 +27,6 @@ pub(crate) fn bound(problem: &Problem, query: &Query, lit: Lit) -> Option<Edge>
         Some(kind) => kind.bound(lit.positive),
         None => None,
     }
-}
-
-// How many of the literals have a bound.
-pub(crate) fn count_bounds(problem: &Problem, query: &Query, lits: &[Lit]) -> u32
-    requires { length lits.now < 2 ^ 32 }
-    ensures { result ≡ length (bounds_along (all_kinds problem.now query.now) lits.now) }
-{
-    let mut count = 0;
-    for lit in lits {
-        if bound(problem, query, *lit).is_some() {
-            count += 1;
-        }
-    }
-    count
 }
 
 // The side of a variable that the places keep already: its positive literal has a bound, and they keep it.

@@ -23,5 +23,3 @@ pub use outputs::Output;
 pub use sinks::{PutFault, Sink};
 pub use std_sinks::StdSink;
 
-#[cfg(test)]
-mod tests;

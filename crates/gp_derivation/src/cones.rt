@@ -12,7 +12,8 @@ use gp_clause::Row;
 use std::alloc::{AllocError, Global};
 
 /// The steps on which `last` rests, each once and in the order of the log, and `last` itself at the end. The steps of a
-/// taken entry's certificate stand for the entry, and a hint to it becomes one to the last of them.
+/// taken entry's certificate stand for the entry, and a hint to it becomes one to the last of them. Besides what these
+/// steps hold it costs a logarithm for each of their hints, and nothing for the rest of the log.
 pub fn cone(
     alloc: Global,
     base_clauses: u32,

@@ -10,6 +10,7 @@ mod bounds;
 mod deciding;
 mod engine;
 mod learning;
+mod lesson;
 mod search;
 #[cfg(test)]
 mod tests;

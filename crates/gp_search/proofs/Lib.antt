@@ -13,6 +13,7 @@ pub mod Refuting
 pub mod Meeting
 pub mod Choosing
 pub mod Turns
+pub mod Few
 pub mod Running
 pub mod News
 pub mod Teaching

@@ -257,7 +257,8 @@ plain_named problem log clauses other entry same got plain =
     entry_clause problem log clauses other entry same within ∙ ap (λ (e : LogEntry). e.step.clause) (get_or_from_slice_get log other entry entry got) in
     subst P (sym clause) (plain.below entry got)
 
-some_entry : (log : List LogEntry) (other : ℕ) → other < length log → (entry : LogEntry) × (slice_get log other ≡ Some entry)
+-- each place of a log has an entry
+pub some_entry : (log : List LogEntry) (other : ℕ) → other < length log → (entry : LogEntry) × (slice_get log other ≡ Some entry)
 some_entry [] other within = absurd (omega arith)
 some_entry (entry ∷ log) zero within = (entry, refl)
 some_entry (entry ∷ log) (suc other) within = some_entry log other (omega arith)

@@ -54,3 +54,13 @@ abbrev pub IsDue : Problem → Query → ℕ → List LogEntry → List LogEntry
 IsDue problem query budget old new (Model valuation) = Meets problem query valuation
 IsDue problem query budget old new (Refuted certificate) = Refutes problem query certificate
 IsDue problem query budget old new (Spent from to) = IsUsedUp problem query budget old new from to
+
+-- a verdict is a model or a certificate
+abbrev pub IsConclusive : Verdict → Type 0
+IsConclusive (Model valuation) = Unit {0}
+IsConclusive (Refuted certificate) = Unit {0}
+IsConclusive (Spent from to) = ⊥
+
+-- a verdict is conclusive where the budget is 3 to the number of variables or more
+abbrev pub ConcludesInTime : Problem → Query → ℕ → Verdict → Type 0
+ConcludesInTime problem query budget verdict = 3 ^ (length problem.kinds + length query.locals) ≤ budget → IsConclusive verdict

@@ -10,7 +10,7 @@ ghost use Rattle.gp_search.specs.Inside.{IsTurning, IsConflict, IsSettled, all_k
 ghost use Rattle.gp_search.specs.Moves.{IsAllAssigned, IsAllTrue, IsTruthOf};
 
 use crate::engine::{Conflict, Engine};
-use crate::learning::add_number;
+use crate::lesson::add_number;
 use gp_clause::{Clause, Lit, Problem, Query, Row, Valuation, true_or_false};
 use gp_derivation::{Certificate, Step, cone, cone_checks};
 use gp_sat::Learned;

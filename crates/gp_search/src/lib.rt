@@ -10,6 +10,7 @@ mod bounds;
 mod deciding;
 mod engine;
 mod learning;
+mod lesson;
 mod search;
 mod theory;
 mod turn;

@@ -2,11 +2,11 @@ ghost use Rattle.std.specs.Prelude.{◌≡◌, ◌+◌, ◌*◌, ◌<◌, ◌≤
 ghost use Rattle.gp_clause.specs.Problem.{IsValidQuery};
 ghost use Rattle.gp_search.specs.Inside.{IsTurning, IsWhole, IsIdle};
 ghost use Rattle.gp_search.specs.Moves.{KeepsLog, IsEnded, IsGrown, IsRoomy, retired};
-ghost use Rattle.gp_search.specs.Verdict.{IsDue};
+ghost use Rattle.gp_search.specs.Verdict.{IsDue, ConcludesInTime};
 
 use crate::engine::{Conflict, Engine};
 use crate::verdict::Verdict;
-use gp_clause::{Problem, Query};
+use gp_clause::{Problem, Query, clauses_are_few};
 use gp_derivation::log_grows;
 use gp_sat::Solver;
 use std::alloc::AllocError;
@@ -34,6 +34,7 @@ impl Engine {
         ensures learned { self.new.learned ≡ length self.old.log.items }
         ensures grown { IsGrown budget self.old self.new }
         ensures verdict { IfOk result (IsDue problem.now query.now budget self.old.log.items self.new.log.items) }
+        ensures enough { IfOk result (ConcludesInTime problem.now query.now budget) }
     {
         self.begin(problem, query)?;
         self.run(problem, query, budget)
@@ -50,7 +51,9 @@ impl Engine {
         ensures learned { self.new.learned ≡ self.old.learned }
         ensures grown { IsGrown budget self.old self.new }
         ensures verdict { IfOk result (IsDue problem.now query.now budget self.old.log.items self.new.log.items) }
+        ensures enough { IfOk result (ConcludesInTime problem.now query.now budget) }
     {
+        clauses_are_few();
         for _ in 0..budget {
             match self.descend(problem, query)? {
                 Descent::Verdict(verdict) => return Ok(verdict),

@@ -1,10 +1,9 @@
-ghost use Rattle.std.specs.Prelude.{◌≡◌, ◌^◌, ◌↔◌, IsTrue, true, slice_get, pos, ◌+ℤ◌, ◌≤ℤ◌, ◌<ℤ◌};
-ghost use Rattle.gp_clause.specs.Edge.{Keeps};
-ghost use Rattle.gp_difference.specs.Places.{place_at};
+ghost use Rattle.std.specs.Prelude.{◌≡◌, ◌↔◌, IsTrue, true, slice_get};
 ghost use Rattle.gp_search.specs.Bounds.{lit_bound, KeepsSome};
 ghost use Rattle.gp_search.specs.Inside.{all_kinds};
 
 use gp_clause::{Edge, Kind, Lit, Problem, Query};
+use gp_difference::keeps;
 
 // The kind of a variable, if it has one.
 fn kind_of(problem: &Problem, query: &Query, variable: u32) -> Option<Kind>
@@ -40,24 +39,5 @@ pub(crate) fn phase(problem: &Problem, query: &Query, places: &[i64], variable: 
     match bound(problem, query, lit) {
         Some(edge) => keeps(places, edge),
         None => false,
-    }
-}
-
-// Whether the places keep an edge.
-pub(crate) fn keeps(places: &[i64], edge: Edge) -> bool
-    ensures { IsTrue result ↔ Keeps (place_at places.now) edge }
-{
-    place_of(places, edge.a) - place_of(places, edge.b) <= i128::from(edge.c)
-}
-
-// The place of a point.
-fn place_of(places: &[i64], point: u32) -> i128
-    ensures place { result ≡ place_at places.now point }
-    ensures low { pos 0 ≤ℤ (result +ℤ pos (2 ^ 63)) }
-    ensures high { result <ℤ pos (2 ^ 63) }
-{
-    match places.get(point as usize) {
-        Some(place) => i128::from(*place),
-        None => 0,
     }
 }

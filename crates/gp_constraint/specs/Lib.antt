@@ -1,0 +1,13 @@
+pub mod Action
+pub mod Points
+pub mod Symbols
+pub mod Terms
+pub mod ProgramOrder
+pub mod Starts
+pub mod Joins
+pub mod Reads
+pub mod Sections
+pub mod HeldLocks
+pub mod Numbering
+pub mod Base
+pub mod Query

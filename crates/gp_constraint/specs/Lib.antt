@@ -11,3 +11,8 @@ pub mod HeldLocks
 pub mod Numbering
 pub mod Base
 pub mod Query
+pub mod HasLaws
+pub mod PointLaws
+pub mod InstanceLaws
+pub mod SymbolTruth
+pub mod Laws

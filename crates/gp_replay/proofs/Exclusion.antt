@@ -10,13 +10,16 @@ use Rattle.gp_window.specs.declared.schedule.EventId.{EventId}
 use Rattle.gp_replay.specs.Feasible.{Runs}
 use Rattle.gp_replay.specs.LockUses.{Takes}
 use Rattle.gp_replay.specs.Readers.{has_reader, is_reader}
-use Rattle.gp_replay.specs.Sharing.{HoldersAreAlone}
 use Rattle.gp_replay.specs.Step.{allowed_use, holder_of, is_held_against, next}
 use Rattle.gp_replay.specs.declared.state.State.{State}
 use Rattle.gp_replay.proofs.Holders.{step_turns}
 use Rattle.gp_replay.proofs.ReaderSets.{no_reader}
 use Rattle.gp_replay.proofs.Sharing.{step_shifts}
 use Rattle.gp_replay.proofs.Uses.{take_finds_free, used}
+
+-- a lock that has a holder in this state has no reader
+abbrev pub HoldersAreAlone : State → Type 0
+HoldersAreAlone state = (lock : List ℕ) (one other : ℕ) → holder_of state lock ≡ Some one → ¬ (is_reader state.readers lock other ≡ true)
 
 -- a step that takes a lock finds that nobody holds it against that
 taker_finds_free : (window : WindowForm) (state middle : State) (id : EventId) (lock : List ℕ)

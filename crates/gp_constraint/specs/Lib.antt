@@ -11,3 +11,5 @@ pub mod HeldLocks
 pub mod Numbering
 pub mod Base
 pub mod Query
+pub mod Truths
+pub mod PointLaws

@@ -1,3 +1,5 @@
-pub mod Meaning
 pub mod Asked
+pub mod Meaning
 pub mod Possible
+pub mod ScheduleTruth
+pub mod SymbolTruth

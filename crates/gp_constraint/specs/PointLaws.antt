@@ -1,216 +1,256 @@
--- Laws: the points of a window are its events, each with its number.
-use Rattle.std.specs.Prelude.{ℕ, zero, suc, ◌≡◌, ◌+◌, ◌<◌, ◌⊎◌, refl, List, [], ◌∷◌, ◌++◌, Option, Some, length, map, slice_get, unwrap_or}
-use Rattle.std.specs.List.{AllByRecursion}
-use Rattle.std.proofs.Common.{arith, ap, sym, ◌∙◌, subst, inl, inr}
+-- Laws: the points of a window are its events, each at its number.
+use Rattle.std.specs.Prelude.{ℕ, zero, suc, ◌≡◌, ◌+◌, ◌<◌, List, [], ◌∷◌, ◌++◌, Option, Some, length, map, slice_get, unwrap_or}
+use Rattle.std.proofs.Common.{ap, sym, ◌∙◌, refl, subst, inl, inr, arith}
 use Rattle.gp_trace.specs.declared.event.Event.{Event}
-use Rattle.gp_window.specs.declared.schedule.EventId.{EventId}
 use Rattle.gp_window.specs.Events.{event_at}
 use Rattle.gp_window.specs.WindowForm.{WindowForm}
+use Rattle.gp_window.specs.declared.schedule.EventId.{EventId}
 use Rattle.gp_constraint.specs.Action.{action_of}
-use Rattle.gp_constraint.specs.declared.point.Point.{Point}
+use Rattle.gp_constraint.specs.HasLaws.{Has, has_left, has_right, parts_back}
 use Rattle.gp_constraint.specs.Points.{first_of, number_at, number_in, points_from, points_in, points_of, sizes_of}
+use Rattle.gp_constraint.specs.declared.point.Point.{Point}
 
--- the point is one of these
-abbrev pub Among : List Point → Point → Type 0
-Among [] p = ⊥
-Among (x ∷ xs) p = (x ≡ p) ⊎ Among xs p
+-- the id of this thread and index
+abbrev pub event_id : ℕ → ℕ → EventId
+event_id thread index = record { thread = thread; index = index }
 
--- the events of each thread rise
-abbrev pub ThreadsRise : List Point → Type 0
-ThreadsRise [] = Unit {0}
-ThreadsRise (p ∷ points) = AllByRecursion (λ (q : Point). p.id.thread ≡ q.id.thread → p.id.index < q.id.index) points × ThreadsRise points
+-- the point of an event at a number
+abbrev pub point : ℕ → ℕ → ℕ → Event → Point
+point number thread index event = record { number = number; id = event_id thread index; action = action_of event }
 
--- the point is that of an event of the window
-pub record IsPoint (window : WindowForm) (p : Point) : Type 0 where
-  pub event : Event
-  pub there : event_at window p.id ≡ Some event
-  pub action : p.action ≡ action_of event
-  pub number : p.number ≡ number_in window p.id
+-- there is an event of this id in the window
+abbrev pub IsEventOf : WindowForm → EventId → Type 0
+IsEventOf window id = (event : Event) × (event_at window id ≡ Some event)
 
--- the points are the events of the window, each at the place of its number
-pub record ArePoints (window : WindowForm) (points : List Point) : Type 0 where
-  pub there : (p : Point) → Among points p → IsPoint window p
-  pub all : (e : EventId) (event : Event) → event_at window e ≡ Some event → (p : Point) × Among points p × (p.id ≡ e)
-  pub placed : (p : Point) → Among points p → slice_get points p.number ≡ Some p
-  pub rise : ThreadsRise points
+-- the points are just the events of the window, each with its number, and the numbers of a thread count on
+pub record ArePoints (window : WindowForm) (number : EventId → ℕ) (points : List Point) : Type 0 where
+  pub all : (id : EventId) (event : Event) → event_at window id ≡ Some event → Has (record { number = number id; id = id; action = action_of event }) points
+  pub own : (p : Point) → Has p points → (event : Event) × (event_at window p.id ≡ Some event) × (p.action ≡ action_of event) × (p.number ≡ number p.id)
+  pub next : (thread index : ℕ) → number (event_id thread (suc index)) ≡ suc (number (event_id thread index))
 
--- the event of this index in the segment at this place
-abbrev event_in_place : List (List Event) → ℕ → ℕ → Option Event
-event_in_place segments place index = slice_get (unwrap_or (slice_get segments place) []) index
+in_segment : (thread from number : ℕ) (events : List Event) (at : ℕ) (event : Event) (n index : ℕ) → slice_get events at ≡ Some event
+    → n ≡ number + at → index ≡ from + at → Has (point n thread index event) (points_in thread from number events)
+in_segment thread from number [] at event n index there numbered placed = cc
+in_segment thread from number (first ∷ events) zero event n index there numbered placed =
+    let is : first ≡ event = cc in
+    let same : number ≡ n = omega arith in
+    let here : from ≡ index = omega arith in
+    inl (ap (λ m. point m thread from first) same ∙ ap (λ i. point n thread i first) here ∙ ap (point n thread index) is)
+in_segment thread from number (first ∷ events) (suc at) event n index there numbered placed =
+    inr (in_segment thread (suc from) (suc number) events at event n index there (omega arith) (omega arith))
 
-abbrev sizes : List (List Event) → List ℕ
-sizes segments = map (λ segment. length segment) segments
+in_segments : (thread number : ℕ) (segments : List (List Event)) (place index : ℕ) (event : Event) (t n : ℕ) → slice_get (unwrap_or (slice_get segments place) []) index ≡ Some event
+    → t ≡ thread + place → n ≡ number + first_of (map (λ segment. length segment) segments) place + index → Has (point n t index event) (points_from thread number segments)
+in_segments thread number [] place index event t n there threaded numbered = cc
+in_segments thread number (segment ∷ segments) zero index event t n there threaded numbered =
+    let same : thread ≡ t = omega arith in
+    subst (λ (u : ℕ). Has (point n u index event) (points_from thread number (segment ∷ segments))) same
+    (has_left (point n thread index event) (points_in thread 0 number segment) (points_from (suc thread) (number + length segment) segments)
+    (in_segment thread 0 number segment index event n index there (omega arith) (omega arith)))
+in_segments thread number (segment ∷ segments) (suc place) index event t n there threaded numbered =
+    has_right (point n t index event) (points_in thread 0 number segment) (points_from (suc thread) (number + length segment) segments)
+    (in_segments (suc thread) (number + length segment) segments place index event t n there (omega arith) (omega arith))
 
-among_left : (xs ys : List Point) (p : Point) → Among xs p → Among (xs ++ ys) p
-among_left [] ys p is = absurd is
-among_left (x ∷ xs) ys p (inl same) = inl same
-among_left (x ∷ xs) ys p (inr is) = inr (among_left xs ys p is)
+-- where a point of a segment stands
+record IsAt (thread from number : ℕ) (events : List Event) (p : Point) : Type 0 where
+  at : ℕ
+  event : Event
+  there : slice_get events at ≡ Some event
+  action_is : p.action ≡ action_of event
+  thread_is : p.id.thread ≡ thread
+  index_is : p.id.index ≡ from + at
+  number_is : p.number ≡ number + at
 
-among_right : (xs ys : List Point) (p : Point) → Among ys p → Among (xs ++ ys) p
-among_right [] ys p is = is
-among_right (x ∷ xs) ys p is = inr (among_right xs ys p is)
+from_segment : (thread from number : ℕ) (events : List Event) (p : Point) → Has p (points_in thread from number events) → IsAt thread from number events p
+from_segment thread from number [] p i = absurd i
+from_segment thread from number (first ∷ events) p (inl same) =
+    let index = ap (λ (q : Point). q.id.index) same in
+    let numbers = ap (λ (q : Point). q.number) same in
+    record {
+      at = 0;
+      event = first;
+      there = refl;
+      action_is = sym (ap (λ (q : Point). q.action) same);
+      thread_is = sym (ap (λ (q : Point). q.id.thread) same);
+      index_is = omega (arith, index);
+      number_is = omega (arith, numbers);
+    }
+from_segment thread from number (first ∷ events) p (inr i) =
+    let rest = from_segment thread (suc from) (suc number) events p i in
+    let index = rest.index_is in
+    let numbers = rest.number_is in
+    record {
+      at = suc rest.at;
+      event = rest.event;
+      there = rest.there;
+      action_is = rest.action_is;
+      thread_is = rest.thread_is;
+      index_is = omega (arith, index);
+      number_is = omega (arith, numbers);
+    }
 
-among_parts : (xs ys : List Point) (p : Point) → Among (xs ++ ys) p → Among xs p ⊎ Among ys p
-among_parts [] ys p is = inr is
-among_parts (x ∷ xs) ys p (inl same) = inl (inl same)
-among_parts (x ∷ xs) ys p (inr is) = elim (among_parts xs ys p is) [ inl left ↦ inl (inr left) | inr right ↦ inr right ]
+record IsAmong (thread number : ℕ) (segments : List (List Event)) (p : Point) : Type 0 where
+  place : ℕ
+  event : Event
+  there : slice_get (unwrap_or (slice_get segments place) []) p.id.index ≡ Some event
+  action_is : p.action ≡ action_of event
+  thread_is : p.id.thread ≡ thread + place
+  number_is : p.number ≡ number + first_of (map (λ segment. length segment) segments) place + p.id.index
 
--- the points of one segment
-in_there : (thread index number : ℕ) (events : List Event) (p : Point) → Among (points_in thread index number events) p
-    → (j : ℕ) × (event : Event) × (p.id.thread ≡ thread) × (p.id.index ≡ index + j) × (p.number ≡ number + j) × (slice_get events j ≡ Some event) × (p.action ≡ action_of event)
-in_there thread index number [] p is = absurd is
-in_there thread index number (event ∷ events) p (inl same) =
-    let place : index ≡ p.id.index = ap (λ (x : Point). x.id.index) same in
-    let count : number ≡ p.number = ap (λ (x : Point). x.number) same in
-    (0, event, ap (λ (x : Point). x.id.thread) (sym same), omega (arith, place), omega (arith, count), refl, ap (λ (x : Point). x.action) (sym same))
-in_there thread index number (event ∷ events) p (inr is) =
-    let rest = in_there thread (suc index) (suc number) events p is in
-    let place = rest.3 in
-    let count = rest.4 in
-    (suc rest.0, rest.1, rest.2, omega (arith, place), omega (arith, count), rest.5, rest.6)
-
-in_all : (thread index number : ℕ) (events : List Event) (j : ℕ) (event : Event) → slice_get events j ≡ Some event
-    → (p : Point) × Among (points_in thread index number events) p × (p.id.thread ≡ thread) × (p.id.index ≡ index + j)
-in_all thread index number [] j event is = cc
-in_all thread index number (first ∷ events) zero event is =
-    (record { number = number; id = record { thread = thread; index = index }; action = action_of first }, inl refl, refl, omega arith)
-in_all thread index number (first ∷ events) (suc j) event is =
-    let rest = in_all thread (suc index) (suc number) events j event is in
-    let place = rest.3 in (rest.0, inr rest.1, rest.2, omega (arith, place))
-
--- the points of all segments
-from_there : (thread number : ℕ) (segments : List (List Event)) (p : Point) → Among (points_from thread number segments) p
-    → (place : ℕ) × (event : Event) × (p.id.thread ≡ thread + place) × (p.number ≡ number + (first_of (sizes segments) place + p.id.index))
-    × (event_in_place segments place p.id.index ≡ Some event) × (p.action ≡ action_of event)
-from_there thread number [] p is = absurd is
-from_there thread number (segment ∷ segments) p is =
-    elim (among_parts (points_in thread 0 number segment) (points_from (suc thread) (number + length segment) segments) p is) [
+from_segments : (thread number : ℕ) (segments : List (List Event)) (p : Point) → Has p (points_from thread number segments) → IsAmong thread number segments p
+from_segments thread number [] p i = absurd i
+from_segments thread number (segment ∷ segments) p i =
+    elim (parts_back p (points_in thread 0 number segment) (points_from (suc thread) (number + length segment) segments) i) [
       | inl here ↦
-          let at = in_there thread 0 number segment p here in
-          let own = at.2 in
-          let same : p.id.index ≡ at.0 = (let e = at.3 in omega (arith, e)) in
-          let count = at.4 in
-          (0, at.1, omega (arith, own), omega (arith, count, same), ap (λ n. slice_get segment n) same ∙ at.5, at.6)
+          let f = from_segment thread 0 number segment p here in
+          let threads = f.thread_is in
+          let index = f.index_is in
+          let numbers = f.number_is in
+          let same : f.at ≡ p.id.index = omega (arith, index) in
+          record {
+            place = 0;
+            event = f.event;
+            there = subst (λ (n : ℕ). slice_get segment n ≡ Some f.event) same f.there;
+            action_is = f.action_is;
+            thread_is = omega (arith, threads);
+            number_is = omega (arith, numbers, index);
+          }
       | inr later ↦
-          let rest = from_there (suc thread) (number + length segment) segments p later in
-          let own = rest.2 in
-          let count = rest.3 in
-          (suc rest.0, rest.1, omega (arith, own), omega (arith, count), rest.4, rest.5)
+          let f = from_segments (suc thread) (number + length segment) segments p later in
+          let threads = f.thread_is in
+          let numbers = f.number_is in
+          record {
+            place = suc f.place;
+            event = f.event;
+            there = f.there;
+            action_is = f.action_is;
+            thread_is = omega (arith, threads);
+            number_is = omega (arith, numbers);
+          }
     ]
 
-from_all : (thread number : ℕ) (segments : List (List Event)) (place index : ℕ) (event : Event) → event_in_place segments place index ≡ Some event
-    → (p : Point) × Among (points_from thread number segments) p × (p.id.thread ≡ thread + place) × (p.id.index ≡ index)
-from_all thread number [] place index event is = cc
-from_all thread number (segment ∷ segments) zero index event is =
-    let here = in_all thread 0 number segment index event is in
-    let own = here.2 in
-    let at = here.3 in
-    (here.0, among_left (points_in thread 0 number segment) (points_from (suc thread) (number + length segment) segments) here.0 here.1, omega (arith, own), omega (arith, at))
-from_all thread number (segment ∷ segments) (suc place) index event is =
-    let rest = from_all (suc thread) (number + length segment) segments place index event is in
-    let own = rest.2 in
-    (rest.0, among_right (points_in thread 0 number segment) (points_from (suc thread) (number + length segment) segments) rest.0 rest.1, omega (arith, own), rest.3)
+point_all : (window : WindowForm) (thread index : ℕ) (event : Event) → event_at window (event_id thread index) ≡ Some event
+    → Has (point (number_at (sizes_of window) thread index) thread index event) (points_of window)
+point_all window zero index event there = cc
+point_all window (suc place) index event there =
+    in_segments 1 0 window.segments place index event (suc place) (first_of (sizes_of window) place + index) there (omega arith) (omega arith)
 
--- the numbers count up
-abbrev Counted : ℕ → List Point → Type 0
-Counted number [] = Unit {0}
-Counted number (p ∷ points) = (p.number ≡ number) × Counted (suc number) points
+-- the numbers of a thread count on
+pub next_number : (sizes : List ℕ) (thread index : ℕ) → number_at sizes thread (suc index) ≡ suc (number_at sizes thread index)
+next_number sizes zero index = refl
+next_number sizes (suc place) index = omega arith
 
-in_counted : (thread index number : ℕ) (events : List Event) (rest : List Point) → Counted (number + length events) rest
-    → Counted number (points_in thread index number events ++ rest)
-in_counted thread index number [] rest counted =
-    subst (λ n. Counted n rest) (let same : number + length {A = Event} [] ≡ number = omega arith in same) counted
-in_counted thread index number (event ∷ events) rest counted =
-    let same : number + length (event ∷ events) ≡ suc number + length events = omega arith in
-    (refl, in_counted thread (suc index) (suc number) events rest (subst (λ n. Counted n rest) same counted))
-
-from_counted : (thread number : ℕ) (segments : List (List Event)) → Counted number (points_from thread number segments)
-from_counted thread number [] = tt
-from_counted thread number (segment ∷ segments) =
-    in_counted thread 0 number segment (points_from (suc thread) (number + length segment) segments) (from_counted (suc thread) (number + length segment) segments)
-
-got : (number : ℕ) (points : List Point) (p : Point) → Counted number points → Among points p → (k : ℕ) × (p.number ≡ number + k) × (slice_get points k ≡ Some p)
-got number [] p counted is = absurd is
-got number (q ∷ points) p counted (inl same) =
-    let first : q.number ≡ number = counted.0 in
-    let own : q.number ≡ p.number = ap (λ (x : Point). x.number) same in
-    (0, omega (arith, first, own), ap (λ (x : Point). Some x) same)
-got number (q ∷ points) p counted (inr is) =
-    let rest = got (suc number) points p counted.1 is in
-    let at = rest.1 in (suc rest.0, omega (arith, at), rest.2)
-
--- the events of each thread rise
-in_rise : (thread index number : ℕ) (events : List Event) (rest : List Point) → ThreadsRise rest → AllByRecursion (λ (q : Point). thread < q.id.thread) rest
-    → ThreadsRise (points_in thread index number events ++ rest)
-in_rise thread index number [] rest rise apart = rise
-in_rise thread index number (event ∷ events) rest rise apart =
-    (above thread index (suc index) (suc number) events rest (omega arith) apart, in_rise thread (suc index) (suc number) events rest rise apart)
-  where
-    beyond : (thread index : ℕ) (rest : List Point) → AllByRecursion (λ (q : Point). thread < q.id.thread) rest
-        → AllByRecursion (λ (q : Point). thread ≡ q.id.thread → index < q.id.index) rest
-    beyond thread index [] apart = tt
-    beyond thread index (q ∷ rest) apart = let less = apart.0 in ((λ same. absurd (omega (arith, less, same))), beyond thread index rest apart.1)
-
-    above : (thread index next number : ℕ) (events : List Event) (rest : List Point) → index < next → AllByRecursion (λ (q : Point). thread < q.id.thread) rest
-        → AllByRecursion (λ (q : Point). thread ≡ q.id.thread → index < q.id.index) (points_in thread next number events ++ rest)
-    above thread index next number [] rest less apart = beyond thread index rest apart
-    above thread index next number (event ∷ events) rest less apart =
-        ((λ same. less), above thread index (suc next) (suc number) events rest (omega (arith, less)) apart)
-
-from_above : (low thread number : ℕ) (segments : List (List Event)) → low < thread → AllByRecursion (λ (q : Point). low < q.id.thread) (points_from thread number segments)
-from_above low thread number [] less = tt
-from_above low thread number (segment ∷ segments) less =
-    inside low thread 0 number segment (points_from (suc thread) (number + length segment) segments) less
-    (from_above low (suc thread) (number + length segment) segments (omega (arith, less)))
-  where
-    inside : (low thread index number : ℕ) (events : List Event) (rest : List Point) → low < thread → AllByRecursion (λ (q : Point). low < q.id.thread) rest
-        → AllByRecursion (λ (q : Point). low < q.id.thread) (points_in thread index number events ++ rest)
-    inside low thread index number [] rest less all = all
-    inside low thread index number (event ∷ events) rest less all = (less, inside low thread (suc index) (suc number) events rest less all)
-
-from_rise : (thread number : ℕ) (segments : List (List Event)) → ThreadsRise (points_from thread number segments)
-from_rise thread number [] = tt
-from_rise thread number (segment ∷ segments) =
-    in_rise thread 0 number segment (points_from (suc thread) (number + length segment) segments) (from_rise (suc thread) (number + length segment) segments)
-    (from_above thread (suc thread) (number + length segment) segments (omega arith))
-
-there_by : (window : WindowForm) (thread place index : ℕ) (event : Event) → thread ≡ suc place → event_in_place window.segments place index ≡ Some event
-    → event_at window (record { thread = thread; index = index }) ≡ Some event
-there_by window thread place index event same there = subst (λ t. event_at window (record { thread = t; index = index }) ≡ Some event) (sym same) there
-
-number_by : (window : WindowForm) (thread place index number : ℕ) → thread ≡ suc place → number ≡ first_of (sizes window.segments) place + index
-    → number ≡ number_at (sizes_of window) thread index
-number_by window thread place index number same is = subst (λ t. number ≡ number_at (sizes_of window) t index) (sym same) is
-
-all_by : (window : WindowForm) (thread index : ℕ) (event : Event) → event_at window (record { thread = thread; index = index }) ≡ Some event
-    → (p : Point) × Among (points_of window) p × (p.id ≡ record { thread = thread; index = index })
-all_by window zero index event there = cc
-all_by window (suc place) index event there =
-    let found = from_all 1 0 window.segments place index event there in
-    let own = found.2 in
-    let same : found.0.id.thread ≡ suc place = omega (arith, own) in
-    let at : found.0.id.index ≡ index = found.3 in
-    (found.0, found.1, λ i. record { thread = same i; index = at i })
+point_own : (window : WindowForm) (p : Point) → Has p (points_of window) → (event : Event) × (event_at window p.id ≡ Some event) × (p.action ≡ action_of event) × (p.number ≡ number_in window p.id)
+point_own window p i =
+    let f = from_segments 1 0 window.segments p i in
+    let threads = f.thread_is in
+    let numbers = f.number_is in
+    let own : suc f.place ≡ p.id.thread = omega (arith, threads) in
+    let told : p.number ≡ number_at (sizes_of window) (suc f.place) p.id.index = omega (arith, numbers) in (
+      f.event,
+      subst (λ (n : ℕ). event_at window (event_id n p.id.index) ≡ Some f.event) own f.there,
+      f.action_is,
+      subst (λ (n : ℕ). p.number ≡ number_at (sizes_of window) n p.id.index) own told,
+    )
 
 -- the points of a window are its events
-pub are_points : (window : WindowForm) → ArePoints window (points_of window)
-are_points window = record {
-  there = λ p is.
-      let at = from_there 1 0 window.segments p is in
-      let own = at.2 in
-      let same : p.id.thread ≡ suc at.0 = omega (arith, own) in
-      let count = at.3 in
-      record {
-        event = at.1;
-        there = there_by window p.id.thread at.0 p.id.index at.1 same at.4;
-        action = at.5;
-        number = number_by window p.id.thread at.0 p.id.index p.number same (omega (arith, count));
-      };
-  all = λ e event there. all_by window e.thread e.index event there;
-  placed = λ p is.
-      let at = got 0 (points_of window) p (from_counted 1 0 window.segments) is in
-      let number = at.1 in
-      let same : p.number ≡ at.0 = omega (arith, number) in
-      ap (λ n. slice_get (points_of window) n) same ∙ at.2;
-  rise = from_rise 1 0 window.segments;
+pub points_named : (window : WindowForm) → ArePoints window (number_in window) (points_of window)
+points_named window = record {
+  all = λ id event there. point_all window id.thread id.index event there;
+  own = point_own window;
+  next = λ thread index. next_number (sizes_of window) thread index;
 }
+
+-- where a point stands in a list of points whose numbers count on from this one
+record IsPlaced (number : ℕ) (points : List Point) (p : Point) : Type 0 where
+  at : ℕ
+  is : p.number ≡ number + at
+  there : slice_get points at ≡ Some p
+
+got_left : (xs ys : List Point) (k : ℕ) (p : Point) → slice_get xs k ≡ Some p → slice_get (xs ++ ys) k ≡ Some p
+got_left [] ys k p e = cc
+got_left (x ∷ xs) ys zero p e = e
+got_left (x ∷ xs) ys (suc k) p e = got_left xs ys k p e
+
+got_right : (xs ys : List Point) (k n : ℕ) (p : Point) → n ≡ length xs + k → slice_get ys k ≡ Some p → slice_get (xs ++ ys) n ≡ Some p
+got_right [] ys k n p size e = subst (λ (m : ℕ). slice_get ys m ≡ Some p) (omega (arith, size)) e
+got_right (x ∷ xs) ys k zero p size e = absurd (omega (arith, size))
+got_right (x ∷ xs) ys k (suc n) p size e = got_right xs ys k n p (omega (arith, size)) e
+
+size_in : (thread index number : ℕ) (events : List Event) → length (points_in thread index number events) ≡ length events
+size_in thread index number [] = refl
+size_in thread index number (event ∷ events) = ap suc (size_in thread (suc index) (suc number) events)
+
+placed_in : (thread index number : ℕ) (events : List Event) (p : Point) → Has p (points_in thread index number events)
+    → IsPlaced number (points_in thread index number events) p
+placed_in thread index number [] p i = absurd i
+placed_in thread index number (event ∷ events) p (inl same) =
+    let numbers = ap (λ (q : Point). q.number) same in
+    record { at = 0; is = omega (arith, numbers); there = ap Some same }
+placed_in thread index number (event ∷ events) p (inr i) =
+    let rest = placed_in thread (suc index) (suc number) events p i in
+    let is = rest.is in
+    record { at = suc rest.at; is = omega (arith, is); there = rest.there }
+
+placed_from : (thread number : ℕ) (segments : List (List Event)) (p : Point) → Has p (points_from thread number segments)
+    → IsPlaced number (points_from thread number segments) p
+placed_from thread number [] p i = absurd i
+placed_from thread number (segment ∷ segments) p i =
+    let here : List Point = points_in thread 0 number segment in
+    let later : List Point = points_from (suc thread) (number + length segment) segments in
+    elim (parts_back p here later i) [
+      | inl one ↦
+          let f = placed_in thread 0 number segment p one in
+          record { at = f.at; is = f.is; there = got_left here later f.at p f.there }
+      | inr other ↦
+          let f = placed_from (suc thread) (number + length segment) segments p other in
+          let is = f.is in
+          let size = size_in thread 0 number segment in
+          record {
+            at = length segment + f.at;
+            is = omega (arith, is);
+            there = got_right here later f.at (length segment + f.at) p (omega (arith, size)) f.there;
+          }
+    ]
+
+got_within : (xs : List Point) (k : ℕ) (p : Point) → slice_get xs k ≡ Some p → k < length xs
+got_within [] k p e = cc
+got_within (x ∷ xs) zero p e = omega arith
+got_within (x ∷ xs) (suc k) p e = let rest = got_within xs k p e in omega (arith, rest)
+
+-- a point stands at its number
+pub point_there : (window : WindowForm) (p : Point) → Has p (points_of window) → slice_get (points_of window) p.number ≡ Some p
+point_there window p i =
+    let f = placed_from 1 0 window.segments p i in
+    let is = f.is in
+    let same : f.at ≡ p.number = omega (arith, is) in
+    subst (λ (n : ℕ). slice_get (points_of window) n ≡ Some p) same f.there
+
+-- a point's number is below the number of points
+pub point_within : (window : WindowForm) (p : Point) → Has p (points_of window) → p.number < length (points_of window)
+point_within window p i = got_within (points_of window) p.number p (point_there window p i)
+
+-- points of one number are one
+pub one_point : (window : WindowForm) (p q : Point) → Has p (points_of window) → Has q (points_of window) → p.number ≡ q.number → p ≡ q
+one_point window p q i j same =
+    let first = subst (λ (n : ℕ). slice_get (points_of window) n ≡ Some p) same (point_there window p i) in
+    let both : ◌≡◌ {A = Option Point} (Some p) (Some q) = sym first ∙ point_there window q j in
+    cc
+
+-- the point of an event
+pub point_for : (window : WindowForm) (id : EventId) → IsEventOf window id → (p : Point) × Has p (points_of window) × (p.number ≡ number_in window id) × (p.id ≡ id)
+point_for window id (event, there) =
+    (record { number = number_in window id; id = id; action = action_of event }, (points_named window).all id event there, refl, refl)
+
+-- events of one number are one
+pub same_event : (window : WindowForm) (a b : EventId) → IsEventOf window a → IsEventOf window b → number_in window a ≡ number_in window b → a ≡ b
+same_event window a b one other same =
+    let p = point_for window a one in
+    let q = point_for window b other in
+    sym p.3 ∙ ap (λ (r : Point). r.id) (one_point window p.0 q.0 p.1 q.1 (p.2 ∙ same ∙ sym q.2)) ∙ q.3
+
+-- an event's number is below the number of points
+pub event_below : (window : WindowForm) (id : EventId) → IsEventOf window id → number_in window id < length (points_of window)
+event_below window id one =
+    let p = point_for window id one in
+    subst (λ (n : ℕ). n < length (points_of window)) p.2 (point_within window p.0 p.1)

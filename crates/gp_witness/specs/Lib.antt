@@ -2,4 +2,4 @@ pub mod Asked
 pub mod Meaning
 pub mod Possible
 pub mod ScheduleTruth
-pub mod SymbolTruth
+pub mod TruthOfSymbols

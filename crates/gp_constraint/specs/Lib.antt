@@ -11,6 +11,7 @@ pub mod HeldLocks
 pub mod Numbering
 pub mod Base
 pub mod Query
+pub mod Truths
 pub mod HasLaws
 pub mod PointLaws
 pub mod InstanceLaws

@@ -20,7 +20,7 @@ use Rattle.gp_window.specs.Formed.{IsFormed}
 use Rattle.gp_window.specs.WindowForm.{WindowForm}
 use Rattle.gp_replay.specs.Readers.{is_reader, with_readers}
 use Rattle.gp_replay.specs.Step.{start_state}
-use Rattle.gp_replay.proofs.Exclusion.{HoldersAreAlone}
+use Rattle.gp_replay.specs.ExclusionLaws.{HoldersAreAlone}
 use Rattle.gp_text.specs.Table.{value_at, with_entries}
 
 -- an entry above all others goes to their end

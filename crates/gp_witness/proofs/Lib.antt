@@ -11,3 +11,10 @@ pub mod Actions
 pub mod Told
 pub mod Queried
 pub mod Witnessed
+pub mod All
+pub mod Done
+pub mod Locked
+pub mod Ordered
+pub mod Placed
+pub mod Standing
+pub mod Written

@@ -5,7 +5,8 @@ use Rattle.gp_property.specs.PropertyForm.{PropertyForm}
 use Rattle.gp_instance.specs.Matches.{groups_of}
 use Rattle.gp_window.specs.declared.schedule.EventId.{EventId}
 use Rattle.gp_window.specs.WindowForm.{WindowForm}
-use Rattle.gp_witness.specs.Meaning.{IsEventOf, Truth}
+use Rattle.gp_constraint.specs.PointLaws.{IsEventOf}
+use Rattle.gp_witness.specs.Meaning.{Truth}
 
 -- each event of a step comes before each event of the next; these, of the step before, come before the first
 abbrev pub StepsFollow : Truth → List EventId → List (List EventId) → Type 0

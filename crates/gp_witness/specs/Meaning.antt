@@ -1,15 +1,14 @@
 -- What the constraints of a window say of its events: each family by its meaning.
-use Rattle.std.specs.Prelude.{ℕ, ℤ, suc, ◌≡◌, ◌≢◌, ◌<◌, ◌≤◌, ◌<ℤ◌, ◌⊎◌, Bool, true, false, List, Some}
-use Rattle.gp_trace.specs.declared.event.Event.{Event}
+use Rattle.std.specs.Prelude.{ℕ, ℤ, suc, ◌≡◌, ◌≢◌, ◌<◌, ◌≤◌, ◌<ℤ◌, ◌⊎◌, Bool, true, false, List}
 use Rattle.gp_trace.specs.declared.lock_use.LockMode.{LockMode}
 use Rattle.gp_window.specs.declared.schedule.EventId.{EventId}
-use Rattle.gp_window.specs.Events.{event_at}
 use Rattle.gp_window.specs.Formed.{mode_at_start}
 use Rattle.gp_window.specs.Starts.{is_among}
 use Rattle.gp_window.specs.WindowForm.{WindowForm}
 use Rattle.gp_replay.specs.LockUses.{GivesBack, Takes}
 use Rattle.gp_replay.specs.Order.{Joins, Starts}
 use Rattle.gp_replay.specs.Value.{Reads, Writes}
+use Rattle.gp_constraint.specs.PointLaws.{IsEventOf}
 use Rattle.gp_constraint.specs.Reads.{start_value}
 use Rattle.gp_constraint.specs.Sections.{exclude}
 
@@ -21,10 +20,6 @@ pub record Truth : Type 0 where
   pub reads : EventId → EventId → Bool
   pub reads_start : EventId → Bool
   pub first : EventId → EventId → Bool
-
--- there is an event of this id in the window
-abbrev pub IsEventOf : WindowForm → EventId → Type 0
-IsEventOf window e = (event : Event) × (event_at window e ≡ Some event)
 
 -- the event is executed, before the other
 abbrev pub Precedes : Truth → EventId → EventId → Type 0

@@ -1,4 +1,4 @@
--- Which threads are readers after one is added or taken away.
+-- Laws: which threads are readers after one is added or taken away.
 use Rattle.std.proofs.Common.{ℕ, ◌≡◌, ◌<◌, arith, ap, sym, ◌∙◌, refl, subst, inl, inr, Bool, true, false, cond, not, List, [], ◌∷◌, filter}
 use Rattle.std.specs.Prelude.{◌||◌, IfSome, slice_get}
 use Rattle.std.specs.declared.cmp.Ordering.{Ordering}

@@ -27,10 +27,10 @@ use Rattle.gp_replay.specs.Sharing.{ReadersAcquired}
 use Rattle.gp_replay.specs.Step.{after, allowed_in, count_of, has_ended, holder_of, start_state, value_of}
 use Rattle.gp_replay.specs.Value.{Reads, ValuesAreLastWrites, Writes}
 use Rattle.gp_constraint.specs.HasLaws.{Has, rec_at}
-use Rattle.gp_constraint.specs.PointLaws.{event_id}
+use Rattle.gp_constraint.specs.PointLaws.{event_id, IsEventOf}
 use Rattle.gp_constraint.specs.Reads.{start_value}
 use Rattle.gp_constraint.specs.Sections.{exclude}
-use Rattle.gp_witness.specs.Meaning.{EachRival, IsEventOf, IsFreedFor, IsStartedFor, MeetsAll, Precedes, Truth}
+use Rattle.gp_witness.specs.Meaning.{EachRival, IsFreedFor, IsStartedFor, MeetsAll, Precedes, Truth}
 use Rattle.gp_witness.proofs.Holds.{given_before, given_between, holder_starts, reader_starts, some_reader}
 use Rattle.gp_witness.proofs.Sorted.{Before, Does, from_events, from_part, in_events, in_middle, in_part, IsScheduleOf, Stands, stands}
 use Rattle.gp_witness.proofs.Steps.{EachMayHappen, feasible_by_steps, happens, started_after}

@@ -14,7 +14,7 @@ use Rattle.gp_replay.specs.Feasible.{IsFeasible}
 use Rattle.gp_constraint.specs.Base.{base_of}
 use Rattle.gp_constraint.specs.Points.{number_in}
 use Rattle.gp_constraint.specs.Query.{query_of}
-use Rattle.gp_witness.specs.Meaning.{IsEventOf}
+use Rattle.gp_constraint.specs.PointLaws.{IsEventOf}
 
 -- the event is one of the window, and the answer has it executed
 abbrev pub IsExecuted : WindowForm → Valuation → EventId → Type 0

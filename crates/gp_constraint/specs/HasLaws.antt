@@ -1,8 +1,8 @@
 -- Laws: what stands in a list, and what all of it keeps.
-use Rattle.std.specs.Prelude.{ℕ, zero, suc, ◌≡◌, ◌≢◌, ◌⊎◌, ◌<◌, Bool, true, false, List, [], ◌∷◌, ◌++◌, if◌then◌else◌, All, length, map, flat_map, take, drop, find, Option, Some}
-use Rattle.std.specs.List.{AllByRecursion}
+use Rattle.std.specs.Prelude.{ℕ, zero, suc, ◌≡◌, ◌≢◌, ◌⊎◌, ◌<◌, Bool, true, false, List, [], ◌∷◌, ◌++◌, if◌then◌else◌, All, length, map, flat_map, take, drop, find, Option, Some, Contains}
+use Rattle.std.specs.List.{AllByRecursion, AllPairs}
 use Rattle.std.proofs.Common.{ap, sym, ◌∙◌, refl, subst, inl, inr, arith, get_or}
-use Rattle.std.proofs.lemmas.Bool.{cases_Bool}
+use Rattle.std.proofs.lemmas.Bool.{cases_Bool, false≢true}
 
 -- something stands in a list
 abbrev pub Has : {X : Type 0} → X → List X → Type 0
@@ -191,3 +191,48 @@ split_apart zero xs h a b i j = absurd i
 split_apart (suc n) [] h a b i j = absurd i
 split_apart (suc n) (x ∷ xs) h a b (inl same) j = λ e. rec_at (λ other. x ≢ other) b xs h.0 (has_dropped b n xs j) (same ∙ e)
 split_apart (suc n) (x ∷ xs) h a b (inr i) j = split_apart n xs h.1 a b i j
+
+-- what stands in a list is contained in it, and the other way round
+pub has_contains : {X : Type 0} (x : X) (xs : List X) → Has x xs → Contains xs x
+has_contains x [] i = absurd i
+has_contains x (first ∷ xs) (inl same) = (0, omega arith, same)
+has_contains x (first ∷ xs) (inr i) =
+    let rest = has_contains x xs i in
+    let below = rest.1 in
+    (suc rest.0, omega (arith, below), rest.2)
+
+pub contains_has : {X : Type 0} (x : X) (xs : List X) → Contains xs x → Has x xs
+contains_has x [] (at, below, is) = absurd (omega arith)
+contains_has x (first ∷ xs) (zero, below, is) = inl is
+contains_has x (first ∷ xs) (suc at, below, is) = inr (contains_has x xs (at, omega arith, is))
+
+all_by_places : {X : Type 0} (P : X → Type 0) (xs : List X) → ((at : ℕ) (d : X) → at < length xs → P (get_or xs at d)) → AllByRecursion P xs
+all_by_places P [] h = tt
+all_by_places P (first ∷ xs) h = (h 0 first (omega arith), all_by_places P xs (λ at d below. h (suc at) d (omega arith)))
+
+-- pairs by places are pairs by recursion
+pub pairs_from : {X : Type 0} (R : X → X → Type 0) (xs : List X) → AllPairs R xs → Pairwise R xs
+pairs_from R [] pairs = tt
+pairs_from R (first ∷ xs) pairs = (
+  all_by_places (R first) xs (λ at d below. pairs 0 (suc at) d (omega arith) (omega arith)),
+  pairs_from R xs (λ i j d less below. pairs (suc i) (suc j) d (omega arith) (omega arith)),
+)
+
+-- what is found is the first that passes
+pub find_first : {X : Type 0} (R : X → X → Type 0) (test : X → Bool) (xs : List X) (x y : X) → Pairwise R xs → find test xs ≡ Some x → Has y xs → test y ≡ true
+    → (x ≡ y) ⊎ R x y
+find_first R test [] x y pairs e i passes = absurd i
+find_first R test (first ∷ xs) x y pairs e i passes =
+    elim (cases_Bool (test first)) [
+      | inl here ↦
+          let found : ◌≡◌ {A = Option _} (Some first) (Some x) = rw here at e in
+          let same : first ≡ x = cc in
+          elim i [
+            | inl own ↦ inl (sym same ∙ own)
+            | inr later ↦ inr (subst (λ z. R z y) same (rec_at (R first) y xs pairs.0 later))
+          ]
+      | inr fails ↦ elim i [
+        | inl own ↦ absurd (false≢true (sym fails ∙ subst (λ z. test z ≡ true) (sym own) passes))
+        | inr later ↦ find_first R test xs x y pairs.1 (rw fails at e) later passes
+      ]
+    ]

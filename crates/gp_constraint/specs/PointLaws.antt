@@ -6,7 +6,7 @@ use Rattle.gp_window.specs.Events.{event_at}
 use Rattle.gp_window.specs.WindowForm.{WindowForm}
 use Rattle.gp_window.specs.declared.schedule.EventId.{EventId}
 use Rattle.gp_constraint.specs.Action.{action_of}
-use Rattle.gp_constraint.specs.HasLaws.{Has, has_left, has_right, parts_back}
+use Rattle.gp_constraint.specs.HasLaws.{append_pairs, Has, has_left, has_right, Pairwise, parts_back, rec_from}
 use Rattle.gp_constraint.specs.Points.{first_of, number_at, number_in, points_from, points_in, points_of, sizes_of}
 use Rattle.gp_constraint.specs.declared.point.Point.{Point}
 
@@ -212,6 +212,38 @@ placed_from thread number (segment ∷ segments) p i =
             there = got_right here later f.at (length segment + f.at) p (omega (arith, size)) f.there;
           }
     ]
+
+-- the numbers of points rise
+abbrev pub HasLesserNumber : Point → Point → Type 0
+HasLesserNumber p q = p.number < q.number
+
+rising_in : (thread index number : ℕ) (events : List Event) → Pairwise HasLesserNumber (points_in thread index number events)
+rising_in thread index number [] = tt
+rising_in thread index number (event ∷ events) = (
+  rec_from (HasLesserNumber (point number thread index event)) (points_in thread (suc index) (suc number) events) (λ q i.
+      let f = placed_in thread (suc index) (suc number) events q i in
+      let is = f.is in
+      omega (arith, is)),
+  rising_in thread (suc index) (suc number) events,
+)
+
+below_in : (thread index number : ℕ) (events : List Event) (p : Point) → Has p (points_in thread index number events) → p.number < number + length events
+below_in thread index number [] p i = absurd i
+below_in thread index number (event ∷ events) p (inl same) = let numbers = ap (λ (q : Point). q.number) same in omega (arith, numbers)
+below_in thread index number (event ∷ events) p (inr i) = let rest = below_in thread (suc index) (suc number) events p i in omega (arith, rest)
+
+rising_from : (thread number : ℕ) (segments : List (List Event)) → Pairwise HasLesserNumber (points_from thread number segments)
+rising_from thread number [] = tt
+rising_from thread number (segment ∷ segments) =
+    append_pairs HasLesserNumber (points_in thread 0 number segment) (points_from (suc thread) (number + length segment) segments)
+    (rising_in thread 0 number segment) (rising_from (suc thread) (number + length segment) segments) (λ p q i j.
+    let below = below_in thread 0 number segment p i in
+    let f = placed_from (suc thread) (number + length segment) segments q j in
+    let is = f.is in
+    omega (arith, below, is))
+
+pub points_rise : (window : WindowForm) → Pairwise HasLesserNumber (points_of window)
+points_rise window = rising_from 1 0 window.segments
 
 got_within : (xs : List Point) (k : ℕ) (p : Point) → slice_get xs k ≡ Some p → k < length xs
 got_within [] k p e = cc

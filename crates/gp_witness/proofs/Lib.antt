@@ -1,3 +1,16 @@
+pub mod Sorted
+pub mod Steps
+pub mod Group
+pub mod Together
+pub mod Match
+pub mod Cut
+pub mod Holds
+pub mod Feasible
+pub mod Clauses
+pub mod Actions
+pub mod Told
+pub mod Queried
+pub mod Witnessed
 pub mod All
 pub mod Done
 pub mod HeldFrom

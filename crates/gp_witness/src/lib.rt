@@ -4,5 +4,7 @@
 #![tactic(auto)]
 
 mod laws;
+mod sound;
 
 pub use laws::schedules_complete;
+pub use sound::witnesses_are_sound;

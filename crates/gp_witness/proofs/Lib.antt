@@ -13,8 +13,13 @@ pub mod Queried
 pub mod Witnessed
 pub mod All
 pub mod Done
+pub mod HeldFrom
+pub mod Listed
 pub mod Locked
+pub mod Meant
 pub mod Ordered
 pub mod Placed
+pub mod PointActions
+pub mod Sought
 pub mod Standing
 pub mod Written

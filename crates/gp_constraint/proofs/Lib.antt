@@ -4,3 +4,4 @@ pub mod Good
 pub mod Valid
 pub mod ValidQuery
 pub mod Once
+pub mod Truths

@@ -190,7 +190,7 @@ pub record Stems (final : List Symbol) (lits : List SymbolicLit) (l : Lit) : Typ
   pub named : Has lit.symbol final
   pub is : numbered_lit final lit ≡ l
 
-with_variable : (n m : ℕ) (positive : Bool) → n ≡ m → ◌≡◌ {A = Lit} (record { variable = n; positive = positive }) (record { variable = m; positive = positive })
+pub with_variable : (n m : ℕ) (positive : Bool) → n ≡ m → ◌≡◌ {A = Lit} (record { variable = n; positive = positive }) (record { variable = m; positive = positive })
 with_variable n m positive same = λ i. record { variable = same i; positive = positive }
 
 pub onto_stems : (final : List Symbol) (l : Lit) (done : List Lit) (names : List Symbol) (lits : List SymbolicLit) → Grows (names_after names lits) final

@@ -12,7 +12,7 @@ mod symbol;
 mod term;
 
 pub use action::Action;
-pub use laws::{answers_mean, problems_are_valid};
+pub use laws::{answers_mean, problems_are_valid, truths_are_numbered};
 pub use point::Point;
 pub use symbol::{Symbol, SymbolicLit};
 pub use term::Term;

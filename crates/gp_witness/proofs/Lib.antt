@@ -23,3 +23,7 @@ pub mod PointActions
 pub mod Sought
 pub mod Standing
 pub mod Written
+pub mod Assumed
+pub mod Matched
+pub mod Valued
+pub mod Completed

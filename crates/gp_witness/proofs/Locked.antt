@@ -18,14 +18,14 @@ use Rattle.gp_trace.specs.declared.lock_use.LockUse.{LockUse}
 use Rattle.gp_trace.specs.declared.lock_use.LockUse.TheVariants.{Take, GiveBack}
 use Rattle.gp_trace.specs.LockUse.{held_after_use, HeldLocks, IsGoodUse, lock_use_of, LocksAreUsedWell, mode_held}
 use Rattle.gp_window.specs.declared.schedule.EventId.{EventId}
-use Rattle.gp_window.specs.Events.{event_at, segment_of}
+use Rattle.gp_window.specs.Events.{segment_of}
 use Rattle.gp_window.specs.Formed.{IsFormed, mode_at_start, stands_at, UsesLocksWell}
 use Rattle.gp_window.specs.HoldersLaws.{stands_to}
 use Rattle.gp_window.specs.WindowForm.{WindowForm}
 use Rattle.gp_instance.specs.Matches.{is_among as is_in}
 use Rattle.gp_replay.specs.declared.state.State.{State}
 use Rattle.gp_replay.specs.Readers.{is_reader}
-use Rattle.gp_replay.specs.Step.{count_of, holder_of, next, start_state}
+use Rattle.gp_replay.specs.Step.{count_of, next, start_state}
 use Rattle.gp_replay.specs.Feasible.{IsFeasible, Runs}
 use Rattle.gp_replay.specs.LockUses.{GivesBack, Takes, use_of}
 use Rattle.gp_replay.specs.CountLaws.{CountsThreads, step_is_counted, step_keeps_others, step_keeps_threads}
@@ -37,7 +37,7 @@ use Rattle.gp_constraint.specs.Sections.{exclude}
 use Rattle.gp_witness.specs.Meaning.{EndsHold, IsFreedFor, SectionsHold, StartHoldsHold}
 use Rattle.gp_witness.specs.ScheduleTruth.{before_of, place_in, schedule_truth}
 use Rattle.gp_witness.proofs.Standing.{before_apart, found, in_back, is_head, is_later}
-use Rattle.gp_witness.proofs.Done.{Happened, happened}
+use Rattle.gp_witness.proofs.Done.{happened}
 use Rattle.gp_witness.proofs.Placed.{place_executed, precedes, stands_before}
 use Rattle.gp_witness.proofs.Written.{IsTold}
 

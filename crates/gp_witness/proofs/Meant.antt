@@ -1,17 +1,15 @@
 -- Each clause of program order, starts, joins, sections and held locks is true where the events meet the families.
-use Rattle.std.proofs.Common.{ℕ, zero, suc, ℤ, pos, ◌≡◌, ◌≢◌, ◌-◌, ◌<◌, ◌≤◌, ◌-ℤ◌, ◌≤ℤ◌, ◌<ℤ◌, ◌⊎◌, ap, sym, ◌∙◌, refl, subst, inl, inr, List, [], ◌∷◌, ◌++◌, Bool, true, false, not, arith, eqb-true, length}
+use Rattle.std.proofs.Common.{ℕ, zero, suc, ℤ, ◌≡◌, ◌-◌, ◌<◌, ◌≤◌, ◌<ℤ◌, ap, sym, ◌∙◌, refl, subst, inl, inr, List, [], ◌∷◌, ◌++◌, Bool, true, false, not, arith, eqb-true, length}
 use Rattle.std.specs.Prelude.{Option, Some, None, ◌||◌, ◌&&◌, ◌==◌, if◌then◌else◌, find, int_lt, nat_lt, nat_le, slice_get}
 use Rattle.std.specs.List.{list_any}
 use Rattle.std.specs.Str.{bytes_eq}
 use Rattle.std.proofs.lemmas.Bool.{and_parts, cases_Bool, cases_eq, cases_lt, eq-eqb, le-leb, leb-true, lt-ltb, ltb-true}
 use Rattle.std.proofs.lemmas.Int.{ints}
-use Rattle.std.proofs.lemmas.Option.{slice_get_within}
 use Rattle.std.proofs.lemmas.Slice.Eq.{bytes_eq-Decides}
 use Rattle.gp_trace.specs.declared.event.Event.{Event}
 use Rattle.gp_trace.specs.declared.event.Event.TheVariants as event
 use Rattle.gp_trace.specs.declared.lock_use.LockMode.{LockMode}
 use Rattle.gp_trace.specs.declared.lock_use.LockMode.TheVariants.{Exclusive, Shared}
-use Rattle.gp_trace.specs.declared.lock_use.LockUse.{LockUse}
 use Rattle.gp_trace.specs.declared.lock_use.LockUse.TheVariants.{Take, GiveBack}
 use Rattle.gp_window.specs.declared.schedule.EventId.{EventId}
 use Rattle.gp_window.specs.Events.{event_at, segment_of, size_of}
@@ -215,24 +213,42 @@ one_before [] n event is = cc
 one_before (first ∷ events) zero event is = (first, refl)
 one_before (first ∷ events) (suc n) event is = one_before events n event is
 
-pub linked_true : (window : WindowForm) (t : Truth) → Setting window t → (f : Point) → Has f (points_of window) → AreTrue (says window t) (linked f)
-linked_true window t s f in_f =
-    let at : ℕ → EventId = id_at (points_of window) in
-    all_either (says window t) (f.id.index == 0) [] (simplified (executed f false ∷ literal (Executed (f.number - 1)) true ∷ [])) (λ none. tt) (λ later.
+-- the event before one in its thread, and its number
+pub record HasBefore (window : WindowForm) (f : Point) : Type 0 where
+  pub before : EventId
+  pub there : IsEventOf window before
+  pub own : before.thread ≡ f.id.thread
+  pub lower : before.index < f.id.index
+  pub at : id_at (points_of window) (f.number - 1) ≡ before
+
+pub before_link : (window : WindowForm) (f : Point) → Has f (points_of window) → (f.id.index == 0) ≡ false → HasBefore window f
+before_link window f in_f later =
     let is = point_is window f in_f in
     let step : f.id.index ≡ suc (f.id.index - 1) = not_zero f.id.index later in
     let there = one_before (segment_of window f.id.thread) (f.id.index - 1) is.event (ap (λ n. slice_get (segment_of window f.id.thread) n) (sym step) ∙ is.there) in
     let e : EventId = record { thread = f.id.thread; index = f.id.index - 1 } in
     let q = point_for window e there in
-    let same : q.0.id ≡ e = q.3 in
     let number : f.number ≡ suc q.0.number =
     number_is window f in_f ∙ ap (λ n. number_at (sizes_of window) f.id.thread n) step ∙ next_number (sizes_of window) f.id.thread (f.id.index - 1) ∙ ap suc (sym q.2) in
     let before_is : f.number - 1 ≡ q.0.number = omega (arith, number) in
-    let names : t.executed (at (f.number - 1)) ≡ t.executed e = ap (λ n. t.executed (at n)) before_is ∙ by_number window t q.0 q.1 ∙ ap t.executed same in
+    record {
+      before = e;
+      there = there;
+      own = refl;
+      lower = omega (arith, step);
+      at = ap (λ n. id_at (points_of window) n) before_is ∙ at_point window q.0 q.1 ∙ q.3;
+    }
+
+pub linked_true : (window : WindowForm) (t : Truth) → Setting window t → (f : Point) → Has f (points_of window) → AreTrue (says window t) (linked f)
+linked_true window t s f in_f =
+    let at : ℕ → EventId = id_at (points_of window) in
+    all_either (says window t) (f.id.index == 0) [] (simplified (executed f false ∷ literal (Executed (f.number - 1)) true ∷ [])) (λ none. tt) (λ later.
+    let link = before_link window f in_f later in
     clause_true (says window t) (executed f false ∷ literal (Executed (f.number - 1)) true ∷ [])
     (neg_or (t.executed (at f.number)) (t.executed (at (f.number - 1)) || false) (λ runs.
     or_here (t.executed (at (f.number - 1))) false
-    (names ∙ s.meets.run e f.id there (point_event window f is) refl (omega (arith, step)) (sym (by_number window t f in_f) ∙ runs)))))
+    (ap t.executed link.at
+    ∙ s.meets.run link.before f.id link.there (point_event window f (point_is window f in_f)) link.own link.lower (sym (by_number window t f in_f) ∙ runs)))))
 
 -- starts
 start_from : (thread : ℕ) (action : Action) → does_start thread action ≡ true → action ≡ Start thread

@@ -1,5 +1,5 @@
 -- Starts and joins.
-use Rattle.std.proofs.Common.{ℕ, ◌≡◌, ◌<◌, ap, sym, ◌∙◌, subst, inl, inr, List, true, arith, eqb-true}
+use Rattle.std.proofs.Common.{ℕ, ◌≡◌, ap, sym, ◌∙◌, subst, inl, inr, List, true, arith, eqb-true}
 use Rattle.std.specs.Prelude.{◌==◌, ◌&&◌, Option, Some}
 use Rattle.std.proofs.lemmas.Bool.{and_parts}
 use Rattle.gp_trace.specs.declared.event.Event.{Event}

@@ -79,7 +79,7 @@ stands_before window ids e f is_e is_f less =
     let at_f = place_executed window ids f is_f in
     shorter_before ids e f (omega (arith, at_e, at_f, less))
 
-numbers_differ : (window : WindowForm) (ids : List EventId) (e f : EventId) → IsEventOf window e → IsEventOf window f
+pub numbers_differ : (window : WindowForm) (ids : List EventId) (e f : EventId) → IsEventOf window e → IsEventOf window f
     → place_in window ids e ≡ place_in window ids f → e ≡ f
 numbers_differ window ids e f event_e event_f same =
     elim (cases_Bool (is_in ids e)) [

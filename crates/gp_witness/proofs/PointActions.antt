@@ -1,5 +1,5 @@
 -- The actions of points, and what the events of the window do.
-use Rattle.std.proofs.Common.{ℕ, ◌≡◌, ap, sym, ◌∙◌, refl, subst, List}
+use Rattle.std.proofs.Common.{ℕ, ◌≡◌, ap, sym, ◌∙◌, refl, List}
 use Rattle.std.specs.Prelude.{ℤ, Option, Some, None}
 use Rattle.gp_trace.specs.LockUse.{lock_use_of}
 use Rattle.gp_trace.specs.declared.event.Event.{Event}
@@ -15,7 +15,6 @@ use Rattle.gp_replay.specs.Order.{Joins, Starts}
 use Rattle.gp_replay.specs.Value.{Reads, Writes}
 use Rattle.gp_constraint.specs.Action.{action_of, used}
 use Rattle.gp_constraint.specs.PointLaws.{IsEventOf}
-use Rattle.gp_constraint.specs.declared.action.Action.{Action}
 use Rattle.gp_constraint.specs.declared.action.Action.TheVariants.{Read, Write, Lock, Start, Join}
 use Rattle.gp_constraint.specs.declared.point.Point.{Point}
 

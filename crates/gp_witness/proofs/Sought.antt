@@ -1,19 +1,15 @@
 -- Each clause of reads is true where the events meet the families, and all clauses together.
-use Rattle.std.proofs.Common.{ℕ, ℤ, ◌≡◌, ◌≢◌, ◌<◌, ap, sym, ◌∙◌, refl, subst, inl, inr, List, [], ◌∷◌, ◌++◌, Bool, true, false, not, arith, eqb-true}
-use Rattle.std.specs.Prelude.{Some, None, Option, ◌&&◌, ◌==◌, flat_map, if◌then◌else◌, nat_lt}
+use Rattle.std.proofs.Common.{ℕ, ℤ, ◌≡◌, ◌≢◌, ◌<◌, ap, sym, ◌∙◌, refl, inl, inr, List, [], ◌∷◌, ◌++◌, Bool, true, false, not, arith, eqb-true}
+use Rattle.std.specs.Prelude.{Some, ◌&&◌, ◌==◌, flat_map, nat_lt}
 use Rattle.std.specs.List.{list_any}
-use Rattle.std.specs.List.{AllByRecursion}
 use Rattle.std.specs.Ordering.{int_eq}
 use Rattle.std.specs.Str.{bytes_eq}
 use Rattle.std.proofs.lemmas.Bool.{and_parts, cases_eq, eq-eqb, le-ltb, ltb-false}
 use Rattle.std.proofs.lemmas.Bool.Decides.{Decides-int_eq}
 use Rattle.std.proofs.lemmas.Slice.Eq.{bytes_eq-Decides}
-use Rattle.gp_trace.specs.declared.event.Event.{Event}
 use Rattle.gp_trace.specs.declared.event.Event.TheVariants as event
 use Rattle.gp_window.specs.declared.schedule.EventId.{EventId}
 use Rattle.gp_window.specs.Events.{event_at}
-use Rattle.gp_window.specs.Formed.{IsFormed, mode_at_start}
-use Rattle.gp_window.specs.Holders.{Holding}
 use Rattle.gp_window.specs.WindowForm.{WindowForm}
 use Rattle.gp_replay.specs.Value.{Reads, Writes}
 use Rattle.gp_constraint.specs.declared.action.Action.{Action}
@@ -21,7 +17,7 @@ use Rattle.gp_constraint.specs.declared.action.Action.TheVariants.{Read, Write}
 use Rattle.gp_constraint.specs.declared.point.Point.{Point}
 use Rattle.gp_constraint.specs.declared.symbol.Symbol.{Symbol}
 use Rattle.gp_constraint.specs.declared.symbol.SymbolicLit.{SymbolicLit}
-use Rattle.gp_constraint.specs.Base.{all_families, clauses_of}
+use Rattle.gp_constraint.specs.Base.{clauses_of}
 use Rattle.gp_constraint.specs.HasLaws.{Has}
 use Rattle.gp_constraint.specs.HeldLocks.{held_apart, holds_at_start}
 use Rattle.gp_constraint.specs.Joins.{join_of}

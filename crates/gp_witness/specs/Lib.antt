@@ -5,3 +5,4 @@ pub mod Witness
 pub mod AnswerTruth
 pub mod ScheduleTruth
 pub mod TruthOfSymbols
+pub mod Complete

@@ -6,5 +6,5 @@
 mod laws;
 mod sound;
 
-pub use laws::schedules_complete;
+pub use laws::schedules_are_complete;
 pub use sound::witnesses_are_sound;

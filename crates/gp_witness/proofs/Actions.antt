@@ -7,7 +7,7 @@ use Rattle.std.proofs.lemmas.Bool.{and_from, and_parts, false_from_ne_true}
 use Rattle.std.proofs.lemmas.Bool.Decides.{Decides-int_eq}
 use Rattle.std.proofs.lemmas.Slice.Eq.{bytes_eq-Decides}
 use Rattle.gp_trace.specs.declared.event.Event.{Event}
-use Rattle.gp_trace.specs.declared.event.Event.TheVariants.{Read, Write, Acquire, Release, RAcquire, RRelease, Start, Join, Op, Begin, End}
+use Rattle.gp_trace.specs.declared.event.Event.TheVariants.{Read, Write, Start, Join}
 use Rattle.gp_trace.specs.declared.lock_use.LockMode.{LockMode}
 use Rattle.gp_trace.specs.declared.lock_use.LockMode.TheVariants.{Exclusive, Shared}
 use Rattle.gp_trace.specs.declared.lock_use.LockUse.{LockUse}
@@ -16,66 +16,51 @@ use Rattle.gp_trace.specs.LockUse.{lock_use_of}
 use Rattle.gp_replay.specs.LockUses.{use_of}
 use Rattle.gp_constraint.specs.declared.action.Action.{Action}
 use Rattle.gp_constraint.specs.declared.action.Action.TheVariants as action
-use Rattle.gp_constraint.specs.Action.{action_of}
+use Rattle.gp_constraint.specs.Action.{action_of, used}
 use Rattle.gp_constraint.specs.Reads.{is_rival, sees}
 use Rattle.gp_constraint.specs.Sections.{exclude, gives_back, same_mode, takes_against}
 use Rattle.gp_constraint.specs.Starts.{does_start}
 
 -- the action of an event tells the event
+pub read_event : (event : Event) (variable : List ℕ) (value : ℤ) → action_of event ≡ action.Read variable value → event ≡ Read variable value
+read_event (Read name found) variable value e =
+    let names : name ≡ variable = cc in
+    let values : found ≡ value = cc in
+    λ i. Read (names i) (values i)
+read_event _ variable value e = cc
+
 pub write_event : (event : Event) (variable : List ℕ) (value : ℤ) → action_of event ≡ action.Write variable value → event ≡ Write variable value
 write_event (Write name found) variable value e =
     let names : name ≡ variable = cc in
     let values : found ≡ value = cc in
-    ap (λ n. Write n found) names ∙ ap (Write variable) values
-write_event (Read name found) variable value e = cc
-write_event (Acquire lock) variable value e = cc
-write_event (Release lock) variable value e = cc
-write_event (RAcquire lock) variable value e = cc
-write_event (RRelease lock) variable value e = cc
-write_event (Start other) variable value e = cc
-write_event (Join other) variable value e = cc
-write_event (Op name objects) variable value e = cc
-write_event (Begin region) variable value e = cc
-write_event (End region) variable value e = cc
+    λ i. Write (names i) (values i)
+write_event _ variable value e = cc
 
 pub start_event : (event : Event) (thread : ℕ) → action_of event ≡ action.Start thread → event ≡ Start thread
 start_event (Start other) thread e = let same : other ≡ thread = cc in ap Start same
-start_event (Read name found) thread e = cc
-start_event (Write name found) thread e = cc
-start_event (Acquire lock) thread e = cc
-start_event (Release lock) thread e = cc
-start_event (RAcquire lock) thread e = cc
-start_event (RRelease lock) thread e = cc
-start_event (Join other) thread e = cc
-start_event (Op name objects) thread e = cc
-start_event (Begin region) thread e = cc
-start_event (End region) thread e = cc
+start_event _ thread e = cc
+
+pub join_event : (event : Event) (thread : ℕ) → action_of event ≡ action.Join thread → event ≡ Join thread
+join_event (Join other) thread e = let same : other ≡ thread = cc in ap Join same
+join_event _ thread e = cc
+
+used_lock : (how : Option LockUse) (u : LockUse) → used how ≡ action.Lock u → how ≡ Some u
+used_lock (Some other) u e = let same : other ≡ u = cc in ap Some same
+used_lock None u e = cc
 
 pub lock_event : (event : Event) (u : LockUse) → action_of event ≡ action.Lock u → lock_use_of event ≡ Some u
-lock_event (Acquire lock) u e = let same : Take Exclusive lock ≡ u = cc in ap Some same
-lock_event (Release lock) u e = let same : GiveBack Exclusive lock ≡ u = cc in ap Some same
-lock_event (RAcquire lock) u e = let same : Take Shared lock ≡ u = cc in ap Some same
-lock_event (RRelease lock) u e = let same : GiveBack Shared lock ≡ u = cc in ap Some same
 lock_event (Read name found) u e = cc
 lock_event (Write name found) u e = cc
 lock_event (Start other) u e = cc
 lock_event (Join other) u e = cc
-lock_event (Op name objects) u e = cc
-lock_event (Begin region) u e = cc
-lock_event (End region) u e = cc
+lock_event event u e = used_lock (lock_use_of event) u e
 
 pub event_lock : (event : Event) (u : LockUse) → lock_use_of event ≡ Some u → action_of event ≡ action.Lock u
-event_lock (Acquire lock) u e = let same : Take Exclusive lock ≡ u = cc in ap action.Lock same
-event_lock (Release lock) u e = let same : GiveBack Exclusive lock ≡ u = cc in ap action.Lock same
-event_lock (RAcquire lock) u e = let same : Take Shared lock ≡ u = cc in ap action.Lock same
-event_lock (RRelease lock) u e = let same : GiveBack Shared lock ≡ u = cc in ap action.Lock same
 event_lock (Read name found) u e = cc
 event_lock (Write name found) u e = cc
 event_lock (Start other) u e = cc
 event_lock (Join other) u e = cc
-event_lock (Op name objects) u e = cc
-event_lock (Begin region) u e = cc
-event_lock (End region) u e = cc
+event_lock event u e = ap used e
 
 -- an event that uses a lock is there
 pub use_event : (o : Option Event) (u : LockUse) → use_of o ≡ Some u → (event : Event) × (o ≡ Some event) × (lock_use_of event ≡ Some u)
@@ -85,11 +70,7 @@ use_event (Some event) u e = (event, refl, e)
 -- tests on actions
 pub start_is : (thread : ℕ) (does : Action) → does_start thread does ≡ true → does ≡ action.Start thread
 start_is thread (action.Start other) e = ap action.Start (eqb-true other thread e)
-start_is thread (action.Read name value) e = cc
-start_is thread (action.Write name value) e = cc
-start_is thread (action.Lock u) e = cc
-start_is thread (action.Join other) e = cc
-start_is thread action.Other e = cc
+start_is thread _ e = cc
 
 pub sees_is : (variable : List ℕ) (value : ℤ) (does : Action) → sees (action.Read variable value) does ≡ true → does ≡ action.Write variable value
 sees_is variable value (action.Write name found) e =
@@ -97,11 +78,7 @@ sees_is variable value (action.Write name found) e =
     let names : variable ≡ name = (bytes_eq-Decides variable name).0 parts.0 in
     let values : value ≡ found = (Decides-int_eq value found).0 parts.1 in
     ap (λ n. action.Write n found) (sym names) ∙ ap (action.Write variable) (sym values)
-sees_is variable value (action.Read name found) e = cc
-sees_is variable value (action.Lock u) e = cc
-sees_is variable value (action.Start other) e = cc
-sees_is variable value (action.Join other) e = cc
-sees_is variable value action.Other e = cc
+sees_is variable value _ e = cc
 
 pub are_seen : (variable : List ℕ) (value : ℤ) → sees (action.Read variable value) (action.Write variable value) ≡ true
 are_seen variable value =
@@ -130,11 +107,7 @@ gives_is mode lock (action.Lock (GiveBack other again)) e =
     let modes : other ≡ mode = mode_is other mode parts.1 in
     ap (λ n. action.Lock (GiveBack other n)) names ∙ ap (λ m. action.Lock (GiveBack m lock)) modes
 gives_is mode lock (action.Lock (Take other again)) e = cc
-gives_is mode lock (action.Read name value) e = cc
-gives_is mode lock (action.Write name value) e = cc
-gives_is mode lock (action.Start thread) e = cc
-gives_is mode lock (action.Join thread) e = cc
-gives_is mode lock action.Other e = cc
+gives_is mode lock _ e = cc
 
 pub does_give : (mode : LockMode) (lock : List ℕ) → gives_back mode lock (action.Lock (GiveBack mode lock)) ≡ true
 does_give mode lock = and_from (bytes_eq lock lock) (same_mode mode mode) ((bytes_eq-Decides lock lock).1 refl) (mode_itself mode)

@@ -21,7 +21,7 @@ use Rattle.gp_constraint.specs.Truths.{AreTrueLits, lit_true}
 use Rattle.gp_witness.specs.Asked.{IsNear, MeetsQuery, StepsFollow}
 use Rattle.gp_witness.specs.Meaning.{Truth}
 use Rattle.gp_witness.specs.TruthOfSymbols.{id_at}
-use Rattle.gp_witness.proofs.Meant.{at_point, int_lt_not, int_lt_to, says}
+use Rattle.gp_witness.proofs.Located.{at_point, int_lt_not, int_lt_to, says}
 
 -- what stands in a list it contains
 pub has_contains : {X : Type 0} (x : X) (xs : List X) → Has x xs → Contains xs x

@@ -22,7 +22,7 @@ use Rattle.gp_witness.specs.ScheduleTruth.{schedule_truth}
 use Rattle.gp_witness.proofs.All.{meets_all}
 use Rattle.gp_witness.proofs.Assumed.{AreEvents, assumed_true, has_contains}
 use Rattle.gp_witness.proofs.Matched.{executed_event, matches_meet}
-use Rattle.gp_witness.proofs.Meant.{says}
+use Rattle.gp_witness.proofs.Located.{says}
 use Rattle.gp_witness.proofs.Sought.{all_true}
 use Rattle.gp_witness.proofs.Valued.{place_at, says_schedule, valued}
 use Rattle.gp_witness.proofs.Written.{IsTold}

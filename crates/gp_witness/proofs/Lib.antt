@@ -16,7 +16,9 @@ pub mod Done
 pub mod HeldFrom
 pub mod Listed
 pub mod Locked
+pub mod Located
 pub mod Meant
+pub mod Sectioned
 pub mod Ordered
 pub mod Placed
 pub mod PointActions

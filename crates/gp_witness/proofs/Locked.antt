@@ -35,7 +35,7 @@ use Rattle.gp_replay.specs.RunLaws.{runs_split}
 use Rattle.gp_replay.specs.StepLaws.{stepped}
 use Rattle.gp_constraint.specs.Sections.{exclude}
 use Rattle.gp_witness.specs.Meaning.{EndsHold, IsFreedFor, SectionsHold, StartHoldsHold}
-use Rattle.gp_witness.specs.ScheduleTruth.{before_of, place_in, schedule_truth}
+use Rattle.gp_witness.specs.ScheduleTruth.{before_of, schedule_place, schedule_truth}
 use Rattle.gp_witness.proofs.Standing.{before_apart, found, in_back, is_head, is_later}
 use Rattle.gp_witness.proofs.Done.{happened}
 use Rattle.gp_witness.proofs.Placed.{place_executed, precedes, stands_before}
@@ -268,7 +268,7 @@ excluded Shared Shared e one two = cc
 -- of two events that take a lock, not both as readers, the first one's section ends before the other
 pub section_ends : (window : WindowForm) (ids : List EventId) (lock : List ℕ) (mode other : LockMode) (a c : EventId) (formed : IsFormed window) → IsTold window
     → IsFeasible window ids → Takes window mode a lock → Takes window other c lock → (mode ≡ Shared → other ≡ Shared → ⊥)
-    → is_in ids a ≡ true → is_in ids c ≡ true → place_in window ids a < place_in window ids c
+    → is_in ids a ≡ true → is_in ids c ≡ true → schedule_place window ids a < schedule_place window ids c
     → IsFreedFor window (schedule_truth window ids) mode lock a.thread (suc a.index) c
 section_ends window ids lock mode other a c formed told feasible takes_a takes_c apart is_a is_c less =
     let uses : Uses window = formed.locks in
@@ -293,10 +293,10 @@ section_ends window ids lock mode other a c formed told feasible takes_a takes_c
 
 -- of two executed events one comes first
 comes_first : (window : WindowForm) (ids : List EventId) (a c : EventId) → is_in ids a ≡ true → is_in ids c ≡ true → a ≢ c
-    → nat_lt (place_in window ids a) (place_in window ids c) ≡ false → place_in window ids c < place_in window ids a
+    → nat_lt (schedule_place window ids a) (schedule_place window ids c) ≡ false → schedule_place window ids c < schedule_place window ids a
 comes_first window ids a c is_a is_c apart second =
-    let more = ltb-false (place_in window ids a) (place_in window ids c) second in
-    elim (cases_eq (place_in window ids a) (place_in window ids c)) [
+    let more = ltb-false (schedule_place window ids a) (schedule_place window ids c) second in
+    elim (cases_eq (schedule_place window ids a) (schedule_place window ids c)) [
       | inl same ↦
           let at_a = place_executed window ids a is_a in
           let at_c = place_executed window ids c is_c in
@@ -309,7 +309,7 @@ sections_hold window ids formed told feasible lock mode other a c takes_a takes_
     let apart = excluded mode other unlike in
     let differ : a ≢ c = (λ same. let own : a.thread ≡ c.thread = ap (λ (x : EventId). x.thread) same in absurd (omega (arith, own, lower))) in (
       (λ first. section_ends window ids lock mode other a c formed told feasible takes_a takes_c apart is_a is_c
-          (ltb-true (place_in window ids a) (place_in window ids c) first)),
+          (ltb-true (schedule_place window ids a) (schedule_place window ids c) first)),
       (λ second. section_ends window ids lock other mode c a formed told feasible takes_c takes_a (λ one two. apart two one) is_c is_a
           (comes_first window ids a c is_a is_c differ second)),
     )

@@ -18,7 +18,7 @@ use Rattle.gp_replay.specs.Step.{start_state}
 use Rattle.gp_replay.specs.StepLaws.{stepped}
 use Rattle.gp_constraint.specs.PointLaws.{IsEventOf}
 use Rattle.gp_witness.specs.Asked.{IsDecided, IsNear, MeetsQuery, StepsFollow}
-use Rattle.gp_witness.specs.ScheduleTruth.{before_of, place_in, schedule_truth}
+use Rattle.gp_witness.specs.ScheduleTruth.{before_of, schedule_place, schedule_truth}
 use Rattle.gp_witness.proofs.Done.{happened, stands_at}
 use Rattle.gp_witness.proofs.Placed.{less_pos, numbers_differ, place_executed}
 use Rattle.gp_witness.proofs.Standing.{in_middle}
@@ -60,7 +60,7 @@ within_in (id ∷ ids) e less =
 before_places : (window : WindowForm) (ids : List EventId) (e f : EventId)
     → is_before (cond (nat_lt (position_or_len (λ other. is_same other e) ids) (length ids)) (Some (position_or_len (λ other. is_same other e) ids)) None)
     (cond (nat_lt (position_or_len (λ other. is_same other f) ids) (length ids)) (Some (position_or_len (λ other. is_same other f) ids)) None) ≡ true
-    → place_in window ids e < place_in window ids f
+    → schedule_place window ids e < schedule_place window ids f
 before_places window ids e f is =
     let parts = ordered (position_or_len (λ other. is_same other e) ids) (position_or_len (λ other. is_same other f) ids) (length ids) is in
     let below_e = parts.0 in
@@ -77,7 +77,7 @@ steps_follow : (window : WindowForm) (ids earlier : List EventId) (groups : List
 steps_follow window ids earlier [] is = tt
 steps_follow window ids earlier (group ∷ groups) is =
     let parts = and_parts (all_before ids earlier group) (follow ids group groups) is in (
-      (λ e f in_e in_f. less_pos (place_in window ids e) (place_in window ids f)
+      (λ e f in_e in_f. less_pos (schedule_place window ids e) (schedule_place window ids f)
           (before_places window ids e f (of_all _ group f (of_all (λ one. is_before_all ids one group) earlier e parts.0 in_e) in_f))),
       steps_follow window ids group groups parts.1,
     )
@@ -105,7 +105,7 @@ record IsInside (ids : List EventId) (e : EventId) (low long place : ℕ) : Type
   most : place < low + long
 
 row_place : (window : WindowForm) (ids front row back : List EventId) (e : EventId) → IsFeasible window ids → ids ≡ front ++ (row ++ back) → Contains row e
-    → IsInside ids e (length front) (length row) (place_in window ids e)
+    → IsInside ids e (length front) (length row) (schedule_place window ids e)
 row_place window ids front row back e feasible is has =
     let split = parted row e has in
     let front_row : List EventId = split.0 in
@@ -137,7 +137,7 @@ is_near window ids group rows feasible together a b in_a in_b =
     let most = at_a.most in
     let least = at_b.least in
     let long : length row.1 ≡ length group = is_row.long in
-    near_places (place_in window ids a) (place_in window ids b) (length row.0) (length group) (omega (arith, most, long)) least
+    near_places (schedule_place window ids a) (schedule_place window ids b) (length row.0) (length group) (omega (arith, most, long)) least
 
 -- an executed event is one of the window
 pub executed_event : (window : WindowForm) (ids : List EventId) (e : EventId) → IsFeasible window ids → is_in ids e ≡ true → IsEventOf window e
@@ -150,11 +150,11 @@ is_decided window ids group rows feasible together many one other in_one is_even
     let row = in_row window ids group rows feasible together in
     let is_row : IsRow group row.1 = row.4 in
     let there = (row_place window ids row.0 row.1 row.2 one feasible row.3 (is_row.all one in_one)).there in
-    elim (cases_lt (place_in window ids one) (place_in window ids other)) [
-      | inl less ↦ inl (less_pos (place_in window ids one) (place_in window ids other) less)
-      | inr more ↦ elim (cases_eq (place_in window ids one) (place_in window ids other)) [
+    elim (cases_lt (schedule_place window ids one) (schedule_place window ids other)) [
+      | inl less ↦ inl (less_pos (schedule_place window ids one) (schedule_place window ids other) less)
+      | inr more ↦ elim (cases_eq (schedule_place window ids one) (schedule_place window ids other)) [
         | inl same ↦ absurd (apart (numbers_differ window ids one other (executed_event window ids one feasible there) is_event same))
-        | inr differ ↦ inr (less_pos (place_in window ids other) (place_in window ids one) (omega (arith, more, differ)))
+        | inr differ ↦ inr (less_pos (schedule_place window ids other) (schedule_place window ids one) (omega (arith, more, differ)))
       ]
     ]
 

@@ -12,7 +12,7 @@ use Rattle.gp_replay.specs.Feasible.{IsFeasible}
 use Rattle.gp_constraint.specs.Points.{first_of, number_in}
 use Rattle.gp_constraint.specs.PointLaws.{IsEventOf}
 use Rattle.gp_witness.specs.Meaning.{PlacesDiffer, PlacesRise, Precedes, ThreadsRun}
-use Rattle.gp_witness.specs.ScheduleTruth.{before_of, late, place_in, schedule_truth}
+use Rattle.gp_witness.specs.ScheduleTruth.{before_of, late, schedule_place, schedule_truth}
 use Rattle.gp_witness.proofs.Standing.{before_absent, before_apart, before_in, before_shorter, before_within, shorter_before}
 use Rattle.gp_witness.proofs.Done.{done_before, happened}
 
@@ -53,10 +53,10 @@ number_differs window (suc p) (suc q) i j first second same =
     let rest = number_at_differs window.segments p q i j first.0 second.0 first.1 second.1 same in (ap suc rest.0, rest.1)
 
 -- the place of an event that is executed, and of one that is not
-pub place_executed : (window : WindowForm) (ids : List EventId) (e : EventId) → is_in ids e ≡ true → place_in window ids e ≡ length (before_of ids e)
+pub place_executed : (window : WindowForm) (ids : List EventId) (e : EventId) → is_in ids e ≡ true → schedule_place window ids e ≡ length (before_of ids e)
 place_executed window ids e is = let none : late window (is_in ids e) e ≡ 0 = ap (λ b. late window b e) is in omega (arith, none)
 
-pub place_absent : (window : WindowForm) (ids : List EventId) (e : EventId) → is_in ids e ≡ false → place_in window ids e ≡ length ids + number_in window e
+pub place_absent : (window : WindowForm) (ids : List EventId) (e : EventId) → is_in ids e ≡ false → schedule_place window ids e ≡ length ids + number_in window e
 place_absent window ids e is =
     let some : late window (is_in ids e) e ≡ number_in window e = ap (λ b. late window b e) is in
     let all : length (before_of ids e) ≡ length ids = ap length (before_absent ids e is) in
@@ -69,18 +69,18 @@ precedes window ids e f is_f before =
     let at_e = place_executed window ids e is_e in
     let at_f = place_executed window ids f is_f in
     let less = before_shorter ids e f before in
-    (is_e, less_pos (place_in window ids e) (place_in window ids f) (omega (arith, at_e, at_f, less)))
+    (is_e, less_pos (schedule_place window ids e) (schedule_place window ids f) (omega (arith, at_e, at_f, less)))
 
 -- what has a lesser place than an executed event stands before it
 pub stands_before : (window : WindowForm) (ids : List EventId) (e f : EventId) → is_in ids e ≡ true → is_in ids f ≡ true
-    → place_in window ids e < place_in window ids f → is_in (before_of ids f) e ≡ true
+    → schedule_place window ids e < schedule_place window ids f → is_in (before_of ids f) e ≡ true
 stands_before window ids e f is_e is_f less =
     let at_e = place_executed window ids e is_e in
     let at_f = place_executed window ids f is_f in
     shorter_before ids e f (omega (arith, at_e, at_f, less))
 
 pub numbers_differ : (window : WindowForm) (ids : List EventId) (e f : EventId) → IsEventOf window e → IsEventOf window f
-    → place_in window ids e ≡ place_in window ids f → e ≡ f
+    → schedule_place window ids e ≡ schedule_place window ids f → e ≡ f
 numbers_differ window ids e f event_e event_f same =
     elim (cases_Bool (is_in ids e)) [
       | inl is_e ↦
@@ -106,19 +106,19 @@ numbers_differ window ids e f event_e event_f same =
 
 pub places_differ : (window : WindowForm) (ids : List EventId) → PlacesDiffer window (schedule_truth window ids)
 places_differ window ids e f event_e event_f same =
-    numbers_differ window ids e f event_e event_f (same_pos (place_in window ids e) (place_in window ids f) same)
+    numbers_differ window ids e f event_e event_f (same_pos (schedule_place window ids e) (schedule_place window ids f) same)
 
 pub threads_run : (window : WindowForm) (ids : List EventId) → IsFeasible window ids → ThreadsRun window (schedule_truth window ids)
 threads_run window ids feasible e f event_e event_f same below is_f =
     before_in ids e f (done_before window ids e f (happened window ids f feasible is_f) same below)
 
 pub rises : (window : WindowForm) (ids : List EventId) → IsFeasible window ids → (e f : EventId) → e.thread ≡ f.thread → e.index < f.index
-    → place_in window ids e < place_in window ids f
+    → schedule_place window ids e < schedule_place window ids f
 rises window ids feasible e f same below =
     elim (cases_Bool (is_in ids f)) [
       | inl is_f ↦
           let comes = precedes window ids e f is_f (done_before window ids e f (happened window ids f feasible is_f) same below) in
-          less_back (place_in window ids e) (place_in window ids f) comes.1
+          less_back (schedule_place window ids e) (schedule_place window ids f) comes.1
       | inr no_f ↦
           let at_f = place_absent window ids f no_f in
           elim (cases_Bool (is_in ids e)) [
@@ -137,4 +137,4 @@ rises window ids feasible e f same below =
 
 pub places_rise : (window : WindowForm) (ids : List EventId) → IsFeasible window ids → PlacesRise window (schedule_truth window ids)
 places_rise window ids feasible e f event_e event_f same below =
-    less_pos (place_in window ids e) (place_in window ids f) (rises window ids feasible e f same below)
+    less_pos (schedule_place window ids e) (schedule_place window ids f) (rises window ids feasible e f same below)

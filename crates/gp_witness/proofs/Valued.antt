@@ -22,13 +22,13 @@ use Rattle.gp_constraint.specs.Symbols.{kind_of}
 use Rattle.gp_constraint.specs.Truths.{variable_true}
 use Rattle.gp_witness.specs.Complete.{SaysSchedule}
 use Rattle.gp_witness.specs.Meaning.{PlacesRise, Truth}
-use Rattle.gp_witness.specs.ScheduleTruth.{before_of, place_in, schedule_truth}
+use Rattle.gp_witness.specs.ScheduleTruth.{before_of, schedule_place, schedule_truth}
 use Rattle.gp_witness.specs.TruthOfSymbols.{id_at, id_in}
 use Rattle.gp_witness.proofs.Assumed.{at_event, int_le_to}
 use Rattle.gp_witness.proofs.Done.{stands_at}
 use Rattle.gp_witness.proofs.Listed.{Counted, from_counted}
 use Rattle.gp_witness.proofs.Matched.{executed_event}
-use Rattle.gp_witness.proofs.Meant.{before_link, int_lt_to, number_is, point_is, says}
+use Rattle.gp_witness.proofs.Located.{before_link, int_lt_to, number_is, point_is, says}
 use Rattle.gp_witness.proofs.Placed.{place_absent, place_executed, places_differ, places_rise}
 use Rattle.gp_witness.proofs.PointActions.{point_event}
 use Rattle.gp_witness.proofs.Standing.{in_middle}
@@ -146,5 +146,5 @@ says_schedule window ids truth feasible same =
           ap t.place (at_event window e (executed_event window ids e feasible there)) ∙ ap pos (place_executed window ids e there ∙ ap length stands ∙ split.3);
       later = λ e is_event absent.
           subst (λ z. pos (length ids) ≤ℤ z) (sym (ap t.place (at_event window e is_event)))
-          (later_place (length ids) (number_in window e) (place_in window ids e) (place_absent window ids e absent));
+          (later_place (length ids) (number_in window e) (schedule_place window ids e) (place_absent window ids e absent));
     }

@@ -18,7 +18,7 @@ use Rattle.gp_replay.specs.Value.{NoneWrites, Reads, Writes}
 use Rattle.gp_replay.specs.ValueLaws.{read_in_run}
 use Rattle.gp_constraint.specs.Reads.{start_value}
 use Rattle.gp_witness.specs.Meaning.{ChoicesHold, ReadsHold, StartChoicesHold}
-use Rattle.gp_witness.specs.ScheduleTruth.{before_of, is_that, last_write, later_of, place_in, schedule_truth, sees_start, sees_write, writes_to}
+use Rattle.gp_witness.specs.ScheduleTruth.{before_of, is_that, last_write, later_of, schedule_place, schedule_truth, sees_start, sees_write, writes_to}
 use Rattle.gp_witness.proofs.Standing.{before_apart, before_in, in_cases, in_middle, in_parts, same_is, same_itself}
 use Rattle.gp_witness.proofs.Done.{happened, stands_at}
 use Rattle.gp_witness.proofs.Placed.{less_back, less_pos, place_executed, precedes, rises, stands_before}
@@ -111,11 +111,11 @@ read_apart window r w variable value written reads writes same =
 
 -- an executed event that does not stand before another one, and is not it, comes after it
 comes_after : (window : WindowForm) (ids : List EventId) (r w : EventId) → is_in ids r ≡ true → is_in ids w ≡ true
-    → (w ≡ r → ⊥) → (is_in (before_of ids r) w ≡ true → ⊥) → place_in window ids r < place_in window ids w
+    → (w ≡ r → ⊥) → (is_in (before_of ids r) w ≡ true → ⊥) → schedule_place window ids r < schedule_place window ids w
 comes_after window ids r w is_r is_w apart not_before =
-    elim (cases_lt (place_in window ids r) (place_in window ids w)) [
+    elim (cases_lt (schedule_place window ids r) (schedule_place window ids w)) [
       | inl less ↦ less
-      | inr more ↦ elim (cases_eq (place_in window ids w) (place_in window ids r)) [
+      | inr more ↦ elim (cases_eq (schedule_place window ids w) (schedule_place window ids r)) [
         | inl same ↦
             let at_w = place_executed window ids w is_w in
             let at_r = place_executed window ids r is_r in
@@ -137,7 +137,7 @@ is_none (Some last) e = cc
 
 -- a write before a read is not after it in its own thread
 not_after : (window : WindowForm) (ids : List EventId) (r w : EventId) (variable : List ℕ) (value written : ℤ) → IsFeasible window ids
-    → Reads window r variable value → Writes window w variable written → place_in window ids w < place_in window ids r
+    → Reads window r variable value → Writes window w variable written → schedule_place window ids w < schedule_place window ids r
     → w.thread ≡ r.thread → w.index < r.index
 not_after window ids r w variable value written feasible reads writes less own =
     elim (cases_lt w.index r.index) [
@@ -171,7 +171,7 @@ reads_hold window ids told feasible r variable value reads is_r =
           let comes = precedes window ids w r is_r before in
           inl (
             w,
-            (written.4, not_after window ids r w variable value value feasible reads written.4 (less_back (place_in window ids w) (place_in window ids r) comes.1)),
+            (written.4, not_after window ids r w variable value value feasible reads written.4 (less_back (schedule_place window ids w) (schedule_place window ids r) comes.1)),
             both (is_in ids r) (sees_write window front (event_at window r) w) is_r chosen,
           )
     ]
@@ -199,7 +199,7 @@ choices_hold window ids feasible r w variable value reads choice chosen =
                 | inr late ↦ absurd (none_in window variable l.back other written l.none late writes)
               ]
             ]
-            | inr late ↦ inr (less_pos (place_in window ids r) (place_in window ids other) (comes_after window ids r other is_r is_other (read_apart window r other variable value written reads writes)
+            | inr late ↦ inr (less_pos (schedule_place window ids r) (schedule_place window ids other) (comes_after window ids r other is_r is_other (read_apart window r other variable value written reads writes)
                 (λ early. let bad : true ≡ false = sym early ∙ late in cc)))
           ],
     )
@@ -210,5 +210,5 @@ start_choices_hold window ids feasible r variable value reads begins chosen othe
     let parts = and_parts (is_in ids r) (sees_start window front (event_at window r)) chosen in
     let that : not (is_some (last_write window variable front)) ≡ true = sym (ap (λ event. sees_start window front event) reads) ∙ parts.1 in
     let none : NoneWrites window front variable = subst (λ o. Found window variable front o) (is_none (last_write window variable front) that) (last_found window variable front) in
-    less_pos (place_in window ids r) (place_in window ids other) (comes_after window ids r other parts.0 is_other (read_apart window r other variable value written reads writes)
+    less_pos (schedule_place window ids r) (schedule_place window ids other) (comes_after window ids r other parts.0 is_other (read_apart window r other variable value written reads writes)
     (λ early. none_in window variable front other written none early writes))

@@ -22,8 +22,8 @@ late window true e = 0
 late window false e = number_in window e
 
 -- an event of the schedule has its place in it; all others come after these, by thread and index
-abbrev pub place_in : WindowForm → List EventId → EventId → ℕ
-place_in window ids e = length (before_of ids e) + late window (is_in ids e) e
+abbrev pub schedule_place : WindowForm → List EventId → EventId → ℕ
+schedule_place window ids e = length (before_of ids e) + late window (is_in ids e) e
 
 -- whether it is a write to the variable
 abbrev pub writes_to : List ℕ → Option Event → Bool
@@ -60,8 +60,8 @@ sees_start window front _ = false
 abbrev pub schedule_truth : WindowForm → List EventId → Truth
 schedule_truth window ids = record {
   executed = λ e. is_in ids e;
-  place = λ e. pos (place_in window ids e);
+  place = λ e. pos (schedule_place window ids e);
   reads = λ r w. is_in ids r && sees_write window (before_of ids r) (event_at window r) w;
   reads_start = λ r. is_in ids r && sees_start window (before_of ids r) (event_at window r);
-  first = λ a c. nat_lt (place_in window ids a) (place_in window ids c);
+  first = λ a c. nat_lt (schedule_place window ids a) (schedule_place window ids c);
 }

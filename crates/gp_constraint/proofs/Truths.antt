@@ -1,6 +1,6 @@
 -- Clauses that are true over symbols are true by their numbers.
-use Rattle.std.proofs.Common.{ℕ, zero, suc, ◌≡◌, ◌<◌, ap, sym, ◌∙◌, refl, subst, inl, inr, List, [], ◌∷◌, ◌++◌, Bool, true, false, not, arith, length, map, All, eqb-true}
-use Rattle.std.specs.Prelude.{◌==◌, Any, Some, Option, slice_get, slice_index_or, nat_lt}
+use Rattle.std.proofs.Common.{ℕ, zero, suc, ◌≡◌, ◌<◌, ap, sym, ◌∙◌, refl, subst, inl, inr, List, [], ◌∷◌, ◌++◌, Bool, true, false, arith, length, map, All}
+use Rattle.std.specs.Prelude.{Any, Some, Option, slice_get, slice_index_or, nat_lt}
 use Rattle.std.specs.List.{AllByRecursion, list_any}
 use Rattle.std.proofs.lemmas.Bool.{cases_Bool}
 use Rattle.gp_clause.specs.declared.lit.Lit.{Lit}
@@ -18,7 +18,7 @@ use Rattle.gp_constraint.specs.HasLaws.{Has, has_left, has_map, parts_back, map_
 use Rattle.gp_constraint.specs.Numbering.{lits_onto, names_after, names_of, number_of, numbered, numbered_lit, with_lit, with_mention}
 use Rattle.gp_constraint.specs.PointLaws.{event_below, IsEventOf}
 use Rattle.gp_constraint.specs.Points.{number_in, points_of}
-use Rattle.gp_constraint.specs.Query.{executed_lits, holds, mentioned, pattern_lits, query_names, sides_of}
+use Rattle.gp_constraint.specs.Query.{executed_lits, holds, mentioned, pattern_lits, query_names}
 use Rattle.gp_constraint.specs.Truths.{AreTrue, AreTrueLits, lit_true, signed, TruthsAreNumbered, variable_true}
 use Rattle.gp_constraint.proofs.Names.{after_grows, all_kinds, Grows, grows_none, grows_on, has_kept, mention, mentions_grow, mentions_have, name_there, number_stays, of_grows, point_named, point_number, with_variable}
 

@@ -35,18 +35,19 @@ taker_holds window state middle id Shared lock e takes = taker_reads window stat
 -- a lock that is held stays so, or the event gives it back; as a reader, only the thread itself does
 pub stays_held : (window : WindowForm) (state middle : State) (id : EventId) (mode : LockMode) (lock : List ℕ) (thread : ℕ)
     → next window state id ≡ Ok middle → IsHeldBy state mode lock thread
-    → (GivesBack window mode id lock × (mode ≡ Shared → id.thread ≡ thread)) ⊎ IsHeldBy middle mode lock thread
+    → (GivesBack window mode id lock × (mode ≡ Shared → id.thread ≡ thread))
+    ⊎ ((id.thread ≡ thread → GivesBack window mode id lock → ⊥) × IsHeldBy middle mode lock thread)
 stays_held window state middle id Exclusive lock thread e held =
     elim (step_turns window state middle id lock e) [
       | inl took ↦ (let bad : ◌≡◌ {A = Option ℕ} None (Some thread) = sym took.1 ∙ held in cc)
       | inr (inl freed) ↦ inl (freed.0, λ shared. cc)
-      | inr (inr left) ↦ inr (left.2 ∙ held)
+      | inr (inr left) ↦ inr ((λ own gives. left.1 gives), left.2 ∙ held)
     ]
 stays_held window state middle id Shared lock thread e held =
     elim (step_shifts window state middle id lock thread e) [
-      | inl took ↦ inr took.2
+      | inl took ↦ inr ((λ own gives. take_apart window id lock Shared Shared took.1 gives), took.2)
       | inr (inl gave) ↦ inl (gave.1, λ shared. gave.0)
-      | inr (inr left) ↦ inr (left.2 ∙ held)
+      | inr (inr left) ↦ inr (left.1, left.2 ∙ held)
     ]
 
 -- who takes a lock that is held takes it as a reader beside readers

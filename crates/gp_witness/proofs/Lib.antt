@@ -23,3 +23,7 @@ pub mod PointActions
 pub mod Sought
 pub mod Standing
 pub mod Written
+pub mod Counting
+pub mod ByPlace
+pub mod Walking
+pub mod LastEvent

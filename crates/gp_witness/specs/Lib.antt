@@ -5,3 +5,5 @@ pub mod Witness
 pub mod AnswerTruth
 pub mod ScheduleTruth
 pub mod TruthOfSymbols
+pub mod Placed
+pub mod Answered

@@ -29,3 +29,7 @@ pub mod Assumed
 pub mod Matched
 pub mod Valued
 pub mod Completed
+pub mod Counting
+pub mod ByPlace
+pub mod Walking
+pub mod LastEvent

@@ -6,3 +6,5 @@ pub mod AnswerTruth
 pub mod ScheduleTruth
 pub mod TruthOfSymbols
 pub mod Complete
+pub mod Placed
+pub mod Answered

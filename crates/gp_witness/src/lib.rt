@@ -3,8 +3,13 @@
 // and the query true; and where they are true, the executed events in the order of their places are such a schedule.
 #![tactic(auto)]
 
+mod cutting;
+mod executed;
 mod laws;
+mod schedules;
 mod sound;
 
 pub use laws::schedules_are_complete;
+pub use laws::schedules_complete;
+pub use schedules::{executed_of, schedule_of};
 pub use sound::witnesses_are_sound;

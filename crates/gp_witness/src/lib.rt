@@ -10,6 +10,5 @@ mod schedules;
 mod sound;
 
 pub use laws::schedules_are_complete;
-pub use laws::schedules_complete;
 pub use schedules::{executed_of, schedule_of};
 pub use sound::witnesses_are_sound;

@@ -49,17 +49,12 @@ pub record Ground (window : WindowForm) (t : Truth) : Type 0 where
   pub there : (id : EventId) → Does t id → IsEventOf window id
 
 -- there is each event before one that is there
-got_before : (events : List Event) (index later : ℕ) (event : Event) → index < later → slice_get events later ≡ Some event
+got_earlier : (events : List Event) (index later : ℕ) (event : Event) → index < later → slice_get events later ≡ Some event
     → (other : Event) × (slice_get events index ≡ Some other)
-got_before [] index later event less e = cc
-got_before (first ∷ events) zero later event less e = (first, refl)
-got_before (first ∷ events) (suc index) zero event less e = absurd (omega (arith, less))
-got_before (first ∷ events) (suc index) (suc later) event less e = got_before events index later event (omega (arith, less)) e
-
-got_within : (events : List Event) (index : ℕ) (event : Event) → slice_get events index ≡ Some event → index < length events
-got_within [] index event e = cc
-got_within (first ∷ events) zero event e = omega arith
-got_within (first ∷ events) (suc index) event e = let rest = got_within events index event e in omega (arith, rest)
+got_earlier [] index later event less e = cc
+got_earlier (first ∷ events) zero later event less e = (first, refl)
+got_earlier (first ∷ events) (suc index) zero event less e = absurd (omega (arith, less))
+got_earlier (first ∷ events) (suc index) (suc later) event less e = got_earlier events index later event (omega (arith, less)) e
 
 got_at : (events : List Event) (index : ℕ) → index < length events → (event : Event) × (slice_get events index ≡ Some event)
 got_at [] index less = absurd (omega (arith, less))
@@ -73,7 +68,7 @@ same_id one other thread index = ap (λ t. event_id t one.index) thread ∙ ap (
 there_before : (window : WindowForm) (one other : EventId) → one.thread ≡ other.thread → one.index < other.index → IsEventOf window other → IsEventOf window one
 there_before window one other same less there =
     let own : event_at window (event_id one.thread other.index) ≡ Some there.0 = subst (λ n. event_at window (event_id n other.index) ≡ Some there.0) (sym same) there.1 in
-    got_before (segment_of window one.thread) one.index other.index there.0 less own
+    got_earlier (segment_of window one.thread) one.index other.index there.0 less own
 
 -- of two events of a thread, the one of the lesser index is executed where the other is, and stands before it
 pub ordered : (window : WindowForm) (t : Truth) → Ground window t → (one other : EventId) → one.thread ≡ other.thread → one.index < other.index

@@ -1,6 +1,6 @@
 -- When a step is made, and what it keeps.
-use Rattle.std.proofs.Common.{ℕ, ◌≡◌, ◌⊎◌, ap, sym, ◌∙◌, refl, subst, inl, inr, List, [], ◌∷◌, ◌++◌, true, append-nil, append_assoc}
-use Rattle.std.specs.Prelude.{Some, Option, Ok, Err, None, ◌==◌, Result}
+use Rattle.std.proofs.Common.{ℕ, zero, suc, ◌≡◌, ◌⊎◌, ap, sym, ◌∙◌, refl, subst, inl, inr, List, [], ◌∷◌, ◌++◌, true, append-nil, append_assoc}
+use Rattle.std.specs.Prelude.{Some, Option, Ok, ◌==◌}
 use Rattle.std.proofs.lemmas.Bool.{cases_Bool, eq-eqb}
 use Rattle.gp_trace.specs.declared.event.Event.{Event}
 use Rattle.gp_trace.specs.declared.event.Event.TheVariants.{Read, Write, Acquire, Release, RAcquire, RRelease, Start, Join, Op, Begin, End}
@@ -8,10 +8,9 @@ use Rattle.gp_window.specs.Events.{event_at}
 use Rattle.gp_window.specs.Starts.{is_among}
 use Rattle.gp_window.specs.declared.schedule.EventId.{EventId}
 use Rattle.gp_window.specs.WindowForm.{WindowForm}
-use Rattle.gp_replay.specs.declared.rule.Rule.{Rule}
-use Rattle.gp_replay.specs.declared.rule.Rule.TheVariants.{NotNext}
 use Rattle.gp_replay.specs.declared.state.State.{State}
-use Rattle.gp_replay.specs.Step.{after, allowed_in, count_of, next, next_with, start_state, started_after as started_with, turn_of}
+use Rattle.gp_replay.specs.Step.{after, allowed_in, count_of, counted, effect, next, start_state, started_after as started_with}
+use Rattle.gp_replay.specs.StepLaws.{stepped}
 use Rattle.gp_replay.specs.Feasible.{IsFeasible, Runs}
 use Rattle.gp_replay.specs.Order.{Starts}
 use Rattle.gp_constraint.specs.HasLaws.{Has}
@@ -79,34 +78,21 @@ more_started (Op name objects) started thread e = e
 more_started (Begin region) started thread e = e
 more_started (End region) started thread e = e
 
--- what a step does to the started threads
-record IsStep (window : WindowForm) (state middle : State) (id : EventId) : Type 0 where
-  event : Event
-  there : event_at window id ≡ Some event
-  started : middle.started ≡ started_with event state.started
-
-turn_left : (window : WindowForm) (state middle : State) (id : EventId) (event : Event) (turn allowed : Result (Unit {0}) Rule)
-    → turn_of state id ≡ turn → allowed_in window state event ≡ allowed → next_with window state id (Some event) ≡ Ok middle → after id.thread event state ≡ middle
-turn_left window state middle id event (Ok u) (Ok v) is done e = let told : ◌≡◌ {A = Result State Rule} (Ok (after id.thread event state)) (Ok middle) = rw (is, done) at e in cc
-turn_left window state middle id event (Ok u) (Err rule) is done e = let told : ◌≡◌ {A = Result State Rule} (Err rule) (Ok middle) = rw (is, done) at e in cc
-turn_left window state middle id event (Err rule) allowed is done e = let told : ◌≡◌ {A = Result State Rule} (Err rule) (Ok middle) = rw is at e in cc
-
-step_of : (window : WindowForm) (state middle : State) (id : EventId) (found : Option Event) → event_at window id ≡ found → next_with window state id found ≡ Ok middle
-    → IsStep window state middle id
-step_of window state middle id None there e = let bad : ◌≡◌ {A = Result State Rule} (Err NotNext) (Ok middle) = e in cc
-step_of window state middle id (Some event) there e =
-    let is = turn_left window state middle id event (turn_of state id) (allowed_in window state event) refl refl e in
-    record { event = event; there = there; started = sym (ap (λ (s : State). s.started) is) }
+counted_keeps_started : (thread : ℕ) (state : State) → (counted thread state).started ≡ state.started
+counted_keeps_started zero state = refl
+counted_keeps_started (suc place) state = refl
 
 step_is_started : (window : WindowForm) (state middle : State) (id : EventId) (thread : ℕ)
     → next window state id ≡ Ok middle → (is_among state.started thread ≡ true) ⊎ Starts window id thread → is_among middle.started thread ≡ true
 step_is_started window state middle id thread e why =
-    let s = step_of window state middle id (event_at window id) refl e in
+    let s = stepped window state middle id e in
+    let started : middle.started ≡ started_with s.event state.started =
+    ap (λ (m : State). m.started) s.gives ∙ counted_keeps_started id.thread (effect id.thread s.event state) in
     elim why [
-      | inl already ↦ subst (λ threads. is_among threads thread ≡ true) (sym s.started) (more_started s.event state.started thread already)
+      | inl already ↦ subst (λ threads. is_among threads thread ≡ true) (sym started) (more_started s.event state.started thread already)
       | inr starts ↦
           let is : s.event ≡ Start thread = (let found : ◌≡◌ {A = Option Event} (Some s.event) (Some (Start thread)) = sym s.there ∙ starts in cc) in
-          let now : middle.started ≡ state.started ++ thread ∷ [] = s.started ∙ ap (λ e. started_with e state.started) is in
+          let now : middle.started ≡ state.started ++ thread ∷ [] = started ∙ ap (λ e. started_with e state.started) is in
           subst (λ threads. is_among threads thread ≡ true) (sym now) (among_last state.started thread)
     ]
 

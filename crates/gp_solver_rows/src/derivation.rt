@@ -1,5 +1,5 @@
-use crate::fixture::{A, B, NOT_B, Rows, is_asked, is_valid, no, problem_of, query_of, yes};
-use gp_clause::{Clause, Kind, Lit, Row};
+use crate::fixture::{Rows, are_lits, is_asked, is_valid, lits_of, problem_of, query_of};
+use gp_clause::{Clause, Edge, Kind, Row};
 use gp_derivation::{
     Certificate, LogEntry, Origin, Step, can_be_numbered, check_certificate, check_shared, cone,
     tight,
@@ -9,37 +9,37 @@ use std::process::Abort;
 use std::sync::Arc;
 use std::test::Fail;
 
-// The variable of a step's clause, and its hints.
-type Line = (u32, [u32; 2]);
+// The literal of a step's clause, and its hints.
+type Line = (i32, [u32; 2]);
 
 // An entry, and the steps of its certificate where it is taken.
 type Entry = (Line, Option<[Line; 2]>);
 
-fn step(alloc: Global, lits: &[Lit], hints: &[u32]) -> Result<Step, Fail> {
+fn step(alloc: Global, words: &[i32], hints: &[u32]) -> Result<Step, Fail> {
     Ok(Step {
-        clause: Clause::of(Vec::from_slice(alloc, lits)?)?,
+        clause: Clause::of(lits_of(alloc, words)?)?,
         hints: Row::from_vec(Vec::from_slice(alloc, hints)?),
     })
 }
 
 fn steps(alloc: Global, lines: &[Line]) -> Result<Row<Step>, Fail> {
     let mut all = Row::new(alloc);
-    for (variable, hints) in lines {
-        let next = step(alloc, &[yes(*variable)], hints)?;
+    for (word, hints) in lines {
+        let next = step(alloc, &[*word], hints)?;
         all.push(next)?;
     }
     Ok(all)
 }
 
 fn entry(alloc: Global, entry: Entry) -> Result<LogEntry, Fail> {
-    let ((variable, hints), certificate) = entry;
+    let ((word, hints), certificate) = entry;
     match certificate {
         None => Ok(LogEntry {
-            step: step(alloc, &[yes(variable)], &hints)?,
+            step: step(alloc, &[word], &hints)?,
             origin: Origin::Learned,
         }),
         Some(lines) => Ok(LogEntry {
-            step: step(alloc, &[yes(variable)], &[])?,
+            step: step(alloc, &[word], &[])?,
             origin: Origin::Taken {
                 sender: 1,
                 certificate: Arc::new(
@@ -63,8 +63,8 @@ fn log_of(alloc: Global, entries: &[Entry]) -> Result<Row<LogEntry>, Fail> {
 }
 
 fn is_step(given: &Step, line: &Line) -> bool {
-    let (variable, hints) = line;
-    given.clause.lits() == [yes(*variable)].as_slice() && given.hints.as_slice() == hints.as_slice()
+    let (word, hints) = line;
+    are_lits(given.clause.lits(), &[*word]) && given.hints.as_slice() == hints.as_slice()
 }
 
 fn are_steps(given: &[Step], lines: &[Line]) -> bool {
@@ -84,7 +84,7 @@ fn has_cone(
     lines: &[Line],
 ) -> Result<bool, Fail> {
     let log = log_of(alloc, entries)?;
-    let last = step(alloc, &[yes(20)], &hints)?;
+    let last = step(alloc, &[20], &hints)?;
     assert!(rt; can_be_numbered(3, log.as_slice(), &last));
     let certificate = cone(alloc, 3, log.as_slice(), &last)?;
     Ok(are_steps(certificate.steps.as_slice(), lines))
@@ -131,14 +131,17 @@ fn cones_of_small_logs(rt: HostRuntime) -> Result<(), Fail> {
         ),
     ];
     for (name, entries, hints, lines) in rows {
-        assert!(rt; has_cone(&rt, rt.alloc(), &entries, hints, lines)?, "{name}");
+        assert!(rt;
+            has_cone(&rt, rt.alloc(), &entries, hints, lines)?,
+            "{name}"
+        );
     }
     Ok(())
 }
 
 fn is_numbered(alloc: Global, bases: u32, one: Entry, hints: [u32; 2]) -> Result<bool, Fail> {
     let log = log_of(alloc, &[one])?;
-    let last = step(alloc, &[yes(20)], &hints)?;
+    let last = step(alloc, &[20], &hints)?;
     Ok(can_be_numbered(bases, log.as_slice(), &last))
 }
 
@@ -157,7 +160,10 @@ fn logs_that_can_and_cannot_be_numbered(rt: HostRuntime) -> Result<(), Fail> {
         ("one too many", 4294967294, few, [0, 0], false),
     ];
     for (name, bases, one, hints, due) in rows {
-        assert!(rt; is_numbered(rt.alloc(), bases, one, hints)? == due, "{name}");
+        assert!(rt;
+            is_numbered(rt.alloc(), bases, one, hints)? == due,
+            "{name}"
+        );
     }
     Ok(())
 }
@@ -167,7 +173,7 @@ const TWO: Rows = Rows {
     points: 0,
     kinds: &[Kind::Free, Kind::Free],
     edges: &[],
-    clauses: &[&[A, B], &[A, NOT_B]],
+    clauses: &[&[1, 2], &[1, -2]],
 };
 
 // A window in which one thread starts a second, sets a flag, and the second reads it: five events, of which each is
@@ -185,19 +191,19 @@ const FLAG: Rows = Rows {
         Kind::Order { a: 2, b: 3 },
     ],
     edges: &[
-        gp_clause::Edge { a: 0, b: 1, c: -1 },
-        gp_clause::Edge { a: 1, b: 2, c: -1 },
-        gp_clause::Edge { a: 3, b: 4, c: -1 },
+        Edge { a: 0, b: 1, c: -1 },
+        Edge { a: 1, b: 2, c: -1 },
+        Edge { a: 3, b: 4, c: -1 },
     ],
     clauses: &[
-        &[yes(0), no(1)],
-        &[yes(1), no(2)],
-        &[yes(3), no(4)],
-        &[yes(0), no(3)],
-        &[no(3), yes(5)],
-        &[no(3), yes(6)],
-        &[yes(2), no(6)],
-        &[no(6), yes(7)],
+        &[1, -2],
+        &[2, -3],
+        &[4, -5],
+        &[1, -4],
+        &[-4, 6],
+        &[-4, 7],
+        &[3, -7],
+        &[-7, 8],
     ],
 };
 
@@ -205,12 +211,12 @@ const FLAG: Rows = Rows {
 const ORDER: [Kind; 1] = [Kind::Order { a: 1, b: 4 }];
 
 // Steps by their literals and hints.
-type Steps<'a> = &'a [(&'a [Lit], &'a [u32])];
+type Steps<'a> = &'a [(&'a [i32], &'a [u32])];
 
 fn all_steps(alloc: Global, rows: Steps) -> Result<Row<Step>, Fail> {
     let mut all = Row::new(alloc);
-    for (lits, hints) in rows {
-        let next = step(alloc, lits, hints)?;
+    for (words, hints) in rows {
+        let next = step(alloc, words, hints)?;
         all.push(next)?;
     }
     Ok(all)
@@ -238,19 +244,47 @@ fn passes(
 
 #[test]
 fn checks_each_own_step(rt: HostRuntime) -> Result<(), Fail> {
-    let last: (&[Lit], &[u32]) = (&[no(1), no(4), yes(8)], &[2, 5, 7]);
-    let over: (&[Lit], &[u32]) = (&[no(1), no(4), yes(8)], &[8, 5, 7]);
-    let moved: (&[Lit], &[u32]) = (&[yes(3), no(4)], &[2]);
+    let last: (&[i32], &[u32]) = (&[-2, -5, 9], &[2, 5, 7]);
+    let over: (&[i32], &[u32]) = (&[-2, -5, 9], &[8, 5, 7]);
+    let moved: (&[i32], &[u32]) = (&[4, -5], &[2]);
     let rows: [(&str, Rows, &[Kind], Steps, Steps, bool); 9] = [
-        ("{a} by all clauses", TWO, &[], &[], &[(&[A], &[])], true),
-        ("{b}", TWO, &[], &[], &[(&[B], &[])], false),
+        ("{a} by all clauses", TWO, &[], &[], &[(&[1], &[])], true),
+        ("{b}", TWO, &[], &[], &[(&[2], &[])], false),
         ("three hints", FLAG, &ORDER, &[], &[last], true),
-        ("turned", FLAG, &ORDER, &[], &[(&[no(1), no(4), no(8)], &[2, 5, 7])], false),
-        ("a hint to itself", FLAG, &ORDER, &[], &[(&[no(1), no(4), yes(8)], &[2, 5, 8])], false),
-        ("no such variable", FLAG, &ORDER, &[], &[(&[no(899)], &[2])], false),
+        (
+            "turned",
+            FLAG,
+            &ORDER,
+            &[],
+            &[(&[-2, -5, -9], &[2, 5, 7])],
+            false,
+        ),
+        (
+            "a hint to itself",
+            FLAG,
+            &ORDER,
+            &[],
+            &[(&[-2, -5, 9], &[2, 5, 8])],
+            false,
+        ),
+        (
+            "no such variable",
+            FLAG,
+            &ORDER,
+            &[],
+            &[(&[-900], &[2])],
+            false,
+        ),
         ("over a shared step", FLAG, &ORDER, &[moved], &[over], true),
         ("after an own step", FLAG, &ORDER, &[], &[moved, over], true),
-        ("the second fails", FLAG, &ORDER, &[], &[last, (&[no(3)], &[])], false),
+        (
+            "the second fails",
+            FLAG,
+            &ORDER,
+            &[],
+            &[last, (&[-4], &[])],
+            false,
+        ),
     ];
     for (name, problem, locals, shared, own, due) in rows {
         let given = passes(&rt, rt.alloc(), &problem, locals, shared, own)?;
@@ -269,9 +303,9 @@ fn first_failing(rt: &impl Abort, alloc: Global, shared: Steps) -> Result<Option
 
 #[test]
 fn tells_the_first_shared_step_that_fails(rt: HostRuntime) -> Result<(), Fail> {
-    let good: (&[Lit], &[u32]) = (&[yes(3), no(4)], &[2]);
-    let bad: (&[Lit], &[u32]) = (&[yes(2), no(4)], &[2]);
-    let local: (&[Lit], &[u32]) = (&[no(1), no(4), yes(8)], &[2, 5, 7]);
+    let good: (&[i32], &[u32]) = (&[4, -5], &[2]);
+    let bad: (&[i32], &[u32]) = (&[3, -5], &[2]);
+    let local: (&[i32], &[u32]) = (&[-2, -5, 9], &[2, 5, 7]);
     let rows: [(Steps, Option<u64>); 5] = [
         (&[], None),
         (&[good], None),
@@ -291,8 +325,8 @@ fn leaves_out_what_can_be_left_out(rt: HostRuntime) -> Result<(), Fail> {
     let query = query_of(rt.alloc(), &[], &[])?;
     assert!(rt; is_valid(&problem));
     assert!(rt; is_asked(&problem, &query));
-    let long = step(rt.alloc(), &[A, B], &[0, 1])?;
+    let long = step(rt.alloc(), &[1, 2], &[0, 1])?;
     let short = tight(rt.alloc(), &problem, &query, &[], long)?;
-    assert!(rt; short.clause.lits() == [A].as_slice() && short.hints.as_slice() == [0, 1].as_slice());
+    assert!(rt; are_lits(short.clause.lits(), &[1]) && short.hints.as_slice() == [0, 1].as_slice());
     Ok(())
 }

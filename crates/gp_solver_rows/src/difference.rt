@@ -111,6 +111,15 @@ fn keeps_a_long_chain(rt: HostRuntime) -> Result<(), Fail> {
     assert!(rt; chains(&rt, &mut graph, 2000)?);
     let closed = asserts(&rt, &mut graph, (1999, 0, 1998), 0, Asserted::Cycle)?;
     assert!(rt; closed && graph.cycle().len() == 2000);
-    assert!(rt; keep_all(graph.places(), &[Edge { a: 0, b: 1999, c: -1999 }]));
+    assert!(rt;
+        keep_all(
+            graph.places(),
+            &[Edge {
+                a: 0,
+                b: 1999,
+                c: -1999
+            }]
+        )
+    );
     Ok(())
 }

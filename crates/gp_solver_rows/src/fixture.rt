@@ -7,54 +7,43 @@ ghost use Rattle.gp_search.specs.Verdict.{IsSolvable};
 
 use gp_clause::{Clause, Edge, Kind, Lit, Problem, Query, Row};
 use gp_difference::keeps;
-use std::alloc::Global;
+use std::alloc::{AllocError, Global};
 use std::test::Fail;
 
-/// The literal of a variable, from 0.
-pub const fn yes(variable: u32) -> Lit {
+/// The literal that a number spells: its variable plus one, with a minus where it is negated.
+pub fn lit(word: i32) -> Lit {
     Lit {
-        variable,
-        positive: true,
+        variable: word.unsigned_abs().saturating_sub(1),
+        positive: word > 0,
     }
 }
 
-/// The negation of a variable.
-pub const fn no(variable: u32) -> Lit {
-    Lit {
-        variable,
-        positive: false,
+pub fn lits_of(alloc: Global, words: &[i32]) -> Result<Vec<Lit>, AllocError> {
+    let mut lits = Vec::new(alloc);
+    for word in words {
+        lits.push(lit(*word))?;
     }
+    Ok(lits)
 }
 
-pub const A: Lit = yes(0);
+/// Whether these are the literals that the numbers spell.
+pub fn are_lits(lits: &[Lit], words: &[i32]) -> bool {
+    lits.len() == words.len() && lits.iter().zip(words).all(|(one, word)| *one == lit(*word))
+}
 
-pub const NOT_A: Lit = no(0);
-
-pub const B: Lit = yes(1);
-
-pub const NOT_B: Lit = no(1);
-
-pub const C: Lit = yes(2);
-
-pub const NOT_C: Lit = no(2);
-
-pub const D: Lit = yes(3);
-
-pub const NOT_D: Lit = no(3);
-
-/// Points, kinds, edges and clauses, each clause as its literals.
+/// Points, kinds, edges and clauses, each clause as the numbers of its literals.
 #[derive(Drop, Clone, Copy)]
 pub struct Rows<'a> {
     pub points: u32,
     pub kinds: &'a [Kind],
     pub edges: &'a [Edge],
-    pub clauses: &'a [&'a [Lit]],
+    pub clauses: &'a [&'a [i32]],
 }
 
-pub fn clauses_of(alloc: Global, clauses: &[&[Lit]]) -> Result<Row<Clause>, Fail> {
+pub fn clauses_of(alloc: Global, clauses: &[&[i32]]) -> Result<Row<Clause>, Fail> {
     let mut all = Row::new(alloc);
-    for lits in clauses {
-        let clause = Clause::of(Vec::from_slice(alloc, lits)?)?;
+    for words in clauses {
+        let clause = Clause::of(lits_of(alloc, words)?)?;
         all.push(clause)?;
     }
     Ok(all)
@@ -69,10 +58,10 @@ pub fn problem_of(alloc: Global, rows: &Rows) -> Result<Problem, Fail> {
     })
 }
 
-pub fn query_of(alloc: Global, locals: &[Kind], assumed: &[Lit]) -> Result<Query, Fail> {
+pub fn query_of(alloc: Global, locals: &[Kind], assumed: &[i32]) -> Result<Query, Fail> {
     Ok(Query {
         locals: Row::from_vec(Vec::from_slice(alloc, locals)?),
-        assumed: Row::from_vec(Vec::from_slice(alloc, assumed)?),
+        assumed: Row::from_vec(lits_of(alloc, assumed)?),
     })
 }
 

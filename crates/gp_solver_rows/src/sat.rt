@@ -4,7 +4,7 @@ ghost use Rattle.gp_sat.specs.State.{assigned};
 ghost use Rattle.gp_sat.specs.Standing.{IsFalse, Each};
 ghost use Rattle.gp_sat.specs.Changes.{HasPresent, IsOfLevel};
 
-use crate::fixture::{A, B, C, D, NOT_A, NOT_B, NOT_C, NOT_D, no, yes};
+use crate::fixture::{are_lits, lit, lits_of};
 use gp_clause::{Clause, Lit};
 use gp_sat::{Learned, Propagated, Solver};
 use std::alloc::{AllocError, Global};
@@ -71,7 +71,8 @@ fn attach(rt: &impl Abort, solver: &mut Solver, clause: &Clause) -> Result<u32, 
     Ok(solver.attach(clause)?)
 }
 
-fn decide(rt: &impl Abort, solver: &mut Solver, lit: Lit) {
+fn decide(rt: &impl Abort, solver: &mut Solver, word: i32) {
+    let lit = lit(word);
     match solver.propagate() {
         Propagated::Quiet => {
             assert!(rt; lit.variable < solver.variables());
@@ -121,11 +122,11 @@ fn of_clauses(
     rt: &impl Abort,
     alloc: Global,
     variables: u32,
-    clauses: &[&[Lit]],
+    clauses: &[&[i32]],
 ) -> Result<Solver, Fail> {
     let mut solver = Solver::new(alloc, variables)?;
-    for lits in clauses {
-        let clause = Clause::of(Vec::from_slice(alloc, lits)?)?;
+    for words in clauses {
+        let clause = Clause::of(lits_of(alloc, words)?)?;
         attach(rt, &mut solver, &clause)?;
     }
     Ok(solver)
@@ -139,8 +140,8 @@ fn is_false_at(solver: &mut Solver, number: u32) -> bool {
     solver.propagate() == Propagated::False(number)
 }
 
-fn has_trail(solver: &Solver, lits: &[Lit]) -> bool {
-    solver.trail() == lits
+fn has_trail(solver: &Solver, words: &[i32]) -> bool {
+    are_lits(solver.trail(), words)
 }
 
 fn is_next(solver: &mut Solver, variable: Option<u32>) -> bool {
@@ -148,9 +149,9 @@ fn is_next(solver: &mut Solver, variable: Option<u32>) -> bool {
 }
 
 // Whether this was learned, with these hints in some order.
-fn is_learned(learned: &Learned, lits: &[Lit], level: u32, hints: &[u32]) -> bool {
+fn is_learned(learned: &Learned, words: &[i32], level: u32, hints: &[u32]) -> bool {
     let given = learned.hints.as_slice();
-    learned.clause.lits() == lits
+    are_lits(learned.clause.lits(), words)
         && learned.level == level
         && given.len() == hints.len()
         && hints.iter().all(|hint| given.contains(hint))
@@ -188,7 +189,7 @@ fn grow(rt: &impl Abort, solver: &mut Solver, variables: u32) -> Result<(), Fail
 // Decides the first variable false, learns from the conflict, and goes on with what was learned.
 fn goes_on(rt: &impl Abort, alloc: Global, solver: &mut Solver) -> Result<bool, Fail> {
     let quiet = is_quiet(solver);
-    decide(rt, solver, NOT_A);
+    decide(rt, solver, -1);
     let fails = is_false_at(solver, 0);
     let learned = analyse(rt, alloc, solver, 0)?;
     go_back(solver);
@@ -200,14 +201,14 @@ fn goes_on(rt: &impl Abort, alloc: Global, solver: &mut Solver) -> Result<bool, 
             && again
             && number == 2
             && learned.level == 0
-            && learned.clause.lits() == [A].as_slice()
-            && has_trail(solver, [A].as_slice()),
+            && are_lits(learned.clause.lits(), &[1])
+            && has_trail(solver, &[1]),
     )
 }
 
 #[test]
 fn learns_a_unit_and_goes_on(rt: HostRuntime) -> Result<(), Fail> {
-    let mut solver = of_clauses(&rt, rt.alloc(), 2, &[&[A, B], &[A, NOT_B]])?;
+    let mut solver = of_clauses(&rt, rt.alloc(), 2, &[&[1, 2], &[1, -2]])?;
     assert!(rt; goes_on(&rt, rt.alloc(), &mut solver)?);
     Ok(())
 }
@@ -215,19 +216,19 @@ fn learns_a_unit_and_goes_on(rt: HostRuntime) -> Result<(), Fail> {
 // Clauses and decisions, the clause that is false then, and what is learned from it, first and finally.
 #[derive(Drop)]
 struct Row<'a> {
-    clauses: &'a [&'a [Lit]],
-    decisions: &'a [Lit],
+    clauses: &'a [&'a [i32]],
+    decisions: &'a [i32],
     conflict: u32,
-    lits: &'a [Lit],
+    lits: &'a [i32],
     level: u32,
     hints: &'a [u32],
-    last: &'a [Lit],
+    last: &'a [i32],
 }
 
 fn learns(rt: &impl Abort, alloc: Global, row: &Row) -> Result<bool, Fail> {
     let mut solver = of_clauses(rt, alloc, 4, row.clauses)?;
-    for lit in row.decisions {
-        decide(rt, &mut solver, *lit);
+    for word in row.decisions {
+        decide(rt, &mut solver, *word);
     }
     let fails = is_false_at(&mut solver, row.conflict);
     let learned = analyse(rt, alloc, &mut solver, row.conflict)?;
@@ -235,7 +236,7 @@ fn learns(rt: &impl Abort, alloc: Global, row: &Row) -> Result<bool, Fail> {
     Ok(
         fails
             && is_learned(&learned, row.lits, row.level, row.hints)
-            && last.clause.lits() == row.last,
+            && are_lits(last.clause.lits(), row.last),
     )
 }
 
@@ -243,31 +244,31 @@ fn learns(rt: &impl Abort, alloc: Global, row: &Row) -> Result<bool, Fail> {
 fn learns_from_conflicts(rt: HostRuntime) -> Result<(), Fail> {
     let rows = [
         Row {
-            clauses: &[&[NOT_A, NOT_B, C], &[NOT_B, NOT_C]],
-            decisions: &[A, B],
+            clauses: &[&[-1, -2, 3], &[-2, -3]],
+            decisions: &[1, 2],
             conflict: 0,
-            lits: &[NOT_A, NOT_B],
+            lits: &[-1, -2],
             level: 1,
             hints: &[1],
-            last: &[NOT_A, NOT_B],
+            last: &[-1, -2],
         },
         Row {
-            clauses: &[&[NOT_A, B], &[NOT_B, C], &[NOT_B, D], &[NOT_C, NOT_D]],
-            decisions: &[A],
+            clauses: &[&[-1, 2], &[-2, 3], &[-2, 4], &[-3, -4]],
+            decisions: &[1],
             conflict: 3,
-            lits: &[NOT_B],
+            lits: &[-2],
             level: 0,
             hints: &[1, 2],
-            last: &[NOT_A],
+            last: &[-1],
         },
         Row {
-            clauses: &[&[A], &[NOT_A, NOT_B, C], &[NOT_B, NOT_C]],
-            decisions: &[B],
+            clauses: &[&[1], &[-1, -2, 3], &[-2, -3]],
+            decisions: &[2],
             conflict: 1,
-            lits: &[NOT_B],
+            lits: &[-2],
             level: 0,
             hints: &[2, 0],
-            last: &[NOT_B],
+            last: &[-2],
         },
     ];
     for row in &rows {
@@ -291,34 +292,34 @@ fn starts_again(rt: &impl Abort, alloc: Global, solver: &mut Solver) -> Result<b
             && quiet
             && last.clause.is_empty()
             && last.hints.as_slice() == [0].as_slice()
-            && has_trail(solver, [NOT_A].as_slice())
+            && has_trail(solver, &[-1])
             && is_next(solver, Some(1)),
     )
 }
 
 #[test]
 fn clears_retires_and_grows(rt: HostRuntime) -> Result<(), Fail> {
-    let mut solver = of_clauses(&rt, rt.alloc(), 1, &[&[A], &[NOT_A]])?;
+    let mut solver = of_clauses(&rt, rt.alloc(), 1, &[&[1], &[-1]])?;
     assert!(rt; starts_again(&rt, rt.alloc(), &mut solver)?);
     Ok(())
 }
 
-const PAIRS: u32 = 400_000;
+const PAIRS: i32 = 400_000;
 
 // The clause of the two variables of a pair.
-fn pair(alloc: Global, number: u32) -> Result<Vec<Lit>, AllocError> {
-    let variable = number.saturating_mul(2);
-    Vec::from_slice(alloc, &[yes(variable), yes(variable.saturating_add(1))])
+fn pair(alloc: Global, number: i32) -> Result<Vec<Lit>, AllocError> {
+    let first = number.saturating_mul(2).saturating_add(1);
+    lits_of(alloc, &[first, first.saturating_add(1)])
 }
 
 // Whether each pair's second literal is forced by its first one.
 fn forces_each(rt: &impl Abort, solver: &mut Solver) -> bool {
     let mut all = true;
     for number in 0..PAIRS {
-        let variable = number.saturating_mul(2);
-        let partner = variable.saturating_add(1);
-        decide(rt, solver, no(variable));
-        let quiet = solver.propagate() == Propagated::Quiet;
+        let first = number.saturating_mul(2).saturating_add(1);
+        decide(rt, solver, -first);
+        let quiet = is_quiet(solver);
+        let partner = lit(first.saturating_add(1)).variable;
         assert!(rt; partner < solver.variables());
         all = all && quiet && solver.value(partner) == Some(true);
     }
@@ -327,7 +328,7 @@ fn forces_each(rt: &impl Abort, solver: &mut Solver) -> bool {
 
 #[test]
 fn visits_only_what_watches(rt: HostRuntime) -> Result<(), Fail> {
-    let mut solver = Solver::new(rt.alloc(), 2 * PAIRS)?;
+    let mut solver = Solver::new(rt.alloc(), 800_000)?;
     for number in 0..PAIRS {
         let clause = Clause::of(pair(rt.alloc(), number)?)?;
         attach(&rt, &mut solver, &clause)?;
@@ -341,7 +342,7 @@ fn follows_the_order(rt: &impl Abort, solver: &mut Solver) -> bool {
     let first = is_next(solver, Some(0));
     raise(rt, solver, 2);
     let raised = is_next(solver, Some(2));
-    decide(rt, solver, NOT_C);
+    decide(rt, solver, -3);
     let behind = is_next(solver, Some(0));
     go_back(solver);
     let again = is_next(solver, Some(2));

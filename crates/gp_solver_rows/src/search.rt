@@ -1,29 +1,29 @@
 ghost use Rattle.std.specs.Prelude.{◌≡◌};
 
 use crate::fixture::{
-    A, B, C, NOT_A, NOT_B, NOT_C, Rows, are_kept, is_asked, is_solvable, is_valid, problem_of,
-    query_of,
+    Rows, are_kept, are_lits, is_asked, is_solvable, is_valid, lit, problem_of, query_of,
 };
-use gp_clause::{Edge, Kind, Lit, Problem, Query};
+use gp_clause::{Edge, Kind, Problem, Query};
 use gp_search::{Search, Verdict};
 use std::alloc::Global;
 use std::process::Abort;
 use std::test::Fail;
 
-// A verdict: the entries that were learned, the last clause of a certificate, or literals that are true.
+// 1 verdict: the entries that were learned, the last clause of a certificate, or literals that are true.
 #[derive(Drop, Clone, Copy)]
 enum Due<'a> {
     Spent(u32, u32),
-    Refuted(&'a [Lit]),
-    Model(&'a [Lit]),
+    Refuted(&'a [i32]),
+    Model(&'a [i32]),
 }
 
-fn is_true(truth: &[bool], lit: Lit) -> bool {
+fn is_true(truth: &[bool], word: i32) -> bool {
+    let lit = lit(word);
     truth.get(lit.variable as usize) == Some(&lit.positive)
 }
 
-fn all_true(truth: &[bool], lits: &[Lit]) -> bool {
-    lits.iter().all(|lit| is_true(truth, *lit))
+fn all_true(truth: &[bool], words: &[i32]) -> bool {
+    words.iter().all(|word| is_true(truth, *word))
 }
 
 // Whether a verdict is the one that is due. The places of a model keep these edges.
@@ -32,7 +32,7 @@ fn is_due(verdict: &Verdict, due: &Due, kept: &[Edge]) -> bool {
         (Verdict::Spent { from, to }, Due::Spent(first, end)) => from == first && to == end,
         (Verdict::Refuted(certificate), Due::Refuted(lits)) => {
             match certificate.steps.as_slice().last() {
-                Some(step) => step.clause.lits() == *lits,
+                Some(step) => are_lits(step.clause.lits(), lits),
                 None => false,
             }
         }
@@ -64,7 +64,7 @@ fn ask(
 
 // Queries that one search is asked one after another: how many free locals, what is assumed, the budget, the verdict and,
 // where that is due, how many entries the log then has.
-type Asked<'a> = (usize, &'a [Lit], u64, Due<'a>, Option<usize>);
+type Asked<'a> = (usize, &'a [i32], u64, Due<'a>, Option<usize>);
 
 const LOCALS: [Kind; 2] = [Kind::Free, Kind::Free];
 
@@ -100,30 +100,42 @@ fn answers(
 
 const FREE: [Kind; 3] = [Kind::Free, Kind::Free, Kind::Free];
 
-const EIGHT: [&[Lit]; 8] = [
-    &[A, B, C],
-    &[A, B, NOT_C],
-    &[A, NOT_B, C],
-    &[A, NOT_B, NOT_C],
-    &[NOT_A, B, C],
-    &[NOT_A, B, NOT_C],
-    &[NOT_A, NOT_B, C],
-    &[NOT_A, NOT_B, NOT_C],
+const EIGHT: [&[i32]; 8] = [
+    &[1, 2, 3],
+    &[1, 2, -3],
+    &[1, -2, 3],
+    &[1, -2, -3],
+    &[-1, 2, 3],
+    &[-1, 2, -3],
+    &[-1, -2, 3],
+    &[-1, -2, -3],
 ];
 
 #[test]
 fn counts_what_it_learns(rt: HostRuntime) -> Result<(), Fail> {
-    let rows: [(&[&[Lit]], &[Asked]); 9] = [
+    let rows: [(&[&[i32]], &[Asked]); 9] = [
         (&EIGHT, &[(0, &[], 1, Due::Spent(0, 1), Some(1))]),
         (&EIGHT, &[(0, &[], 2, Due::Spent(0, 2), Some(2))]),
         (&EIGHT, &[(0, &[], 3, Due::Refuted(&[]), Some(3))]),
         (&EIGHT, &[(0, &[], 27, Due::Refuted(&[]), Some(3))]),
-        (&EIGHT[1..], &[(0, &[], 27, Due::Model(&[NOT_A, NOT_B, NOT_C]), None)]),
-        (&EIGHT[..7], &[(0, &[], 27, Due::Model(&[A, B, C]), None)]),
-        // A conflict while every decision is an assumption is not learned.
-        (&[&[NOT_A, NOT_B]], &[(0, &[A, B], 1, Due::Refuted(&[NOT_A, NOT_B]), Some(0))]),
+        (
+            &EIGHT[1..],
+            &[(0, &[], 27, Due::Model(&[-1, -2, -3]), None)],
+        ),
+        (&EIGHT[..7], &[(0, &[], 27, Due::Model(&[1, 2, 3]), None)]),
+        // 1 conflict while every decision is an assumption is not learned.
+        (
+            &[&[-1, -2]],
+            &[(0, &[1, 2], 1, Due::Refuted(&[-1, -2]), Some(0))],
+        ),
         // One search goes on from what it learned.
-        (&EIGHT, &[(0, &[], 1, Due::Spent(0, 1), Some(1)), (0, &[], 2, Due::Refuted(&[]), None)]),
+        (
+            &EIGHT,
+            &[
+                (0, &[], 1, Due::Spent(0, 1), Some(1)),
+                (0, &[], 2, Due::Refuted(&[]), None),
+            ],
+        ),
         (
             &EIGHT,
             &[
@@ -164,12 +176,37 @@ const WIDE: [Kind; 1] = [Kind::Span { a: 1, b: 0, c: 7 }];
 #[test]
 fn asks_the_places(rt: HostRuntime) -> Result<(), Fail> {
     let rows: [(&[Kind], &[Edge], &[Edge], Asked); 5] = [
-        (&TURN, &[], &[], (0, &[A, B, C], 1, Due::Refuted(&[NOT_A, NOT_B, NOT_C]), Some(0))),
-        (&TURN, &[], &RISES, (0, &[A, B], 1, Due::Model(&[A, B, NOT_C]), Some(0))),
-        (&TIGHT, &APART, &[], (0, &[A], 1, Due::Refuted(&[NOT_A]), Some(0))),
-        (&WIDE, &APART, &NEAR, (0, &[A], 1, Due::Model(&[A]), Some(0))),
+        (
+            &TURN,
+            &[],
+            &[],
+            (0, &[1, 2, 3], 1, Due::Refuted(&[-1, -2, -3]), Some(0)),
+        ),
+        (
+            &TURN,
+            &[],
+            &RISES,
+            (0, &[1, 2], 1, Due::Model(&[1, 2, -3]), Some(0)),
+        ),
+        (
+            &TIGHT,
+            &APART,
+            &[],
+            (0, &[1], 1, Due::Refuted(&[-1]), Some(0)),
+        ),
+        (
+            &WIDE,
+            &APART,
+            &NEAR,
+            (0, &[1], 1, Due::Model(&[1]), Some(0)),
+        ),
         // The places that keep the edges decide the side of each order, so nothing is learned.
-        (&TURN, &RISES, &RISES, (0, &[], 1, Due::Model(&[A, B, NOT_C]), Some(0))),
+        (
+            &TURN,
+            &RISES,
+            &RISES,
+            (0, &[], 1, Due::Model(&[1, 2, -3]), Some(0)),
+        ),
     ];
     for (kinds, edges, kept, asked) in rows {
         let problem = Rows {
@@ -178,7 +215,11 @@ fn asks_the_places(rt: HostRuntime) -> Result<(), Fail> {
             edges,
             clauses: &[],
         };
-        let start = if edges.len() == 2 { [-2, -1, 0] } else { [-5, 0, 0] };
+        let start = if edges.len() == 2 {
+            [-2, -1, 0]
+        } else {
+            [-5, 0, 0]
+        };
         assert!(rt; answers(&rt, rt.alloc(), &problem, &start, kept, &[asked])?);
     }
     Ok(())

@@ -14,5 +14,6 @@ pub mod BoundsAt
 pub mod Bounding
 pub mod Trying
 pub mod Sharing
-pub mod Tightening
+pub mod LeavingOut
 pub mod Naming
+pub mod Owning

@@ -52,12 +52,15 @@ own_alone edges kinds base own (step ∷ steps) =
       λ h. (first.1 h.0, rest.1 (subst P same h.1)),
     )
 
+pub checks_alone : (edges : List Edge) (kinds : List Kind) (base : List (List Lit)) (steps : List Step) → OwnStepsPass edges kinds base [] [] steps ↔ StepsCheck edges kinds base steps
+checks_alone edges kinds base steps =
+    let alone = own_alone edges kinds base [] steps in
+    let P : List (List Lit) → Type 0 = λ cs. StepsCheck edges kinds cs steps in
+    (λ h. subst P (append-nil base) (alone.0 h), λ h. alone.1 (subst P (sym (append-nil base)) h))
+
 over_nothing : (problem : Problem) (query : Query) (steps : List Step)
     → OwnStepsPass problem.edges (problem.kinds ++ query.locals) problem.clauses [] [] steps ↔ StepsCheck problem.edges (problem.kinds ++ query.locals) problem.clauses steps
-over_nothing problem query steps =
-    let alone = own_alone problem.edges (problem.kinds ++ query.locals) problem.clauses [] steps in
-    let P : List (List Lit) → Type 0 = λ cs. StepsCheck problem.edges (problem.kinds ++ query.locals) cs steps in
-    (λ h. subst P (append-nil problem.clauses) (alone.0 h), λ h. alone.1 (subst P (sym (append-nil problem.clauses)) h))
+over_nothing problem query steps = checks_alone problem.edges (problem.kinds ++ query.locals) problem.clauses steps
 
 pub sharing_nothing : SharesNothing
 sharing_nothing = record {

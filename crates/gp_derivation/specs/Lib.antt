@@ -11,3 +11,4 @@ pub mod Numbering
 pub mod Cones
 pub mod ListLaws
 pub mod Tester
+pub mod SharedLaws

@@ -56,6 +56,12 @@ pub record FirstFails (problem : Problem) (shared : List Step) (place : ℕ) : T
   pub within : place < length shared
   pub fails : SharedPasses problem (take (place + 1) shared) → ⊥
 
+-- an own step is the first that fails
+pub record FirstOwnFails (edges : List Edge) (kinds : List Kind) (base shared : List (List Lit)) (steps : List Step) (place : ℕ) : Type 0 where
+  pub before : OwnStepsPass edges kinds base shared [] (take place steps)
+  pub within : place < length steps
+  pub fails : OwnStepsPass edges kinds base shared [] (take (place + 1) steps) → ⊥
+
 -- over the empty list, checking and refuting are what they are without a list
 pub record SharesNothing : Type 0 where
   pub checks : (problem : Problem) (query : Query) (certificate : Certificate) → ChecksOver problem [] query certificate ↔ Checks problem query certificate

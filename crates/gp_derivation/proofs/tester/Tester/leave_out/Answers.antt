@@ -1,7 +1,7 @@
 use Rattle.std.proofs.Common.{List, subst, sym, ◌∙◌}
 use Rattle.gp_clause.specs.declared.lit.Lit.{Lit}
 use Rattle.gp_clause.specs.Clause.{NamesOnce}
-use Rattle.gp_derivation.proofs.Tightening.{once_left}
+use Rattle.gp_derivation.proofs.LeavingOut.{once_left}
 use Rattle.gp_derivation.proofs.tester.Tester.leave_out.Goals as goal
 
 pub passes-requires-clause-once : goal.passes-requires-clause-once

@@ -4,7 +4,7 @@ use Rattle.gp_clause.specs.declared.lit.Lit.{Lit}
 use Rattle.gp_derivation.specs.Log.{logged}
 use Rattle.gp_derivation.specs.Step.{Passes, named}
 use Rattle.gp_derivation.specs.Tight.{IsTight}
-use Rattle.gp_derivation.proofs.Tightening.{passes_sorted, tight_sorted, not_twice}
+use Rattle.gp_derivation.proofs.LeavingOut.{passes_sorted, tight_sorted, not_twice}
 use Rattle.gp_derivation.proofs.tester.Tester.tighten.Goals as goal
 
 pub unreachable-requires : goal.unreachable-requires

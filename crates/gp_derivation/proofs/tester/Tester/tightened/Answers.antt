@@ -7,7 +7,7 @@ use Rattle.gp_clause.specs.OccurrenceLaws.{once_from_rising}
 use Rattle.gp_derivation.specs.Step.{Passes}
 use Rattle.gp_derivation.specs.Tester.{TesterForm}
 use Rattle.gp_derivation.specs.Tight.{IsTight}
-use Rattle.gp_derivation.proofs.Tightening.{IsTightTo, tight_none, tight_dropped, tight_kept, tight_all}
+use Rattle.gp_derivation.proofs.LeavingOut.{IsTightTo, tight_none, tight_dropped, tight_kept, tight_all}
 use Rattle.gp_derivation.proofs.tester.Tester.tightened.Goals as goal
 
 pub loop-index-init : goal.loop-index-init

@@ -1,5 +1,5 @@
 use Rattle.std.proofs.Common.{◌≡◌, ◌-◌, length}
-use Rattle.gp_derivation.proofs.Tightening.{IsTightTo}
+use Rattle.gp_derivation.proofs.LeavingOut.{IsTightTo}
 use Rattle.gp_derivation.proofs.tester.Tester.tightened.Given as goal
 
 abbrev pub invariant-loop-index : goal.invariant-loop-index

@@ -1,13 +1,14 @@
 pub mod Passing
 pub mod Checking
 pub mod Purity
-pub mod Marks
-pub mod Sweeping
+pub mod Descending
+pub mod Numbers
 pub mod Drafts
 pub mod Rehinting
 pub mod Coning
 pub mod Growing
 pub mod Staying
+pub mod ConeParts
 pub mod Standing
 pub mod Settling
 pub mod BoundsAt

@@ -1,5 +1,5 @@
 -- What stays as it is when a log grows.
-use Rattle.std.proofs.Common.{◌≡◌, ℕ, zero, suc, ◌+◌, ◌-◌, ◌<◌, ◌≤◌, ◌⊎◌, inl, inr, Bool, true, false, IsTrue, ◌↔◌, Option, Some, List, [], ◌∷◌, ◌++◌, length, map, take, drop, All, Contains, refl, sym, ◌∙◌, subst, ap, append_assoc, arith}
+use Rattle.std.proofs.Common.{◌≡◌, ℕ, zero, suc, ◌+◌, ◌-◌, ◌<◌, ◌≤◌, ◌⊎◌, inl, inr, Bool, true, false, IsTrue, Some, List, [], ◌∷◌, ◌++◌, length, map, take, drop, All, refl, sym, ◌∙◌, subst, ap, append_assoc, arith}
 use Rattle.std.specs.List.{slice_get, cons_option}
 use Rattle.std.proofs.lemmas.Bool.{cases_lt}
 use Rattle.std.proofs.lemmas.List.{append-nil, length-append, length-map, length-drop, map-append, take-append-le, drop-append-le}
@@ -7,9 +7,7 @@ use Rattle.std.proofs.lemmas.List.Elements.{All-head, All-tail, All-weaker, All-
 use Rattle.gp_clause.specs.declared.kind.Kind.{Kind}
 use Rattle.gp_clause.specs.declared.lit.Lit.{Lit}
 use Rattle.gp_clause.specs.declared.problem.Problem.{Problem}
-use Rattle.gp_clause.specs.declared.problem.Query.{Query}
 use Rattle.gp_derivation.specs.declared.step.Step.{Step}
-use Rattle.gp_derivation.specs.declared.certificate.Certificate.{Certificate}
 use Rattle.gp_derivation.specs.declared.log.LogEntry.{LogEntry}
 use Rattle.gp_derivation.specs.declared.log.Origin.{Origin}
 use Rattle.gp_derivation.specs.declared.log.Origin.TheVariants.{Learned, Taken}
@@ -17,14 +15,14 @@ use Rattle.gp_derivation.specs.declared.record.Turn.{Turn}
 use Rattle.gp_derivation.specs.Log.{IsLearned, OriginPasses, logged}
 use Rattle.gp_derivation.specs.Step.{named}
 use Rattle.gp_derivation.specs.Tight.{IsTight}
-use Rattle.gp_derivation.specs.Spent.{IsSpentOn, IsNewBy, SpentStays, turned}
+use Rattle.gp_derivation.specs.Spent.{IsNewBy, SpentStays, turned}
 use Rattle.gp_derivation.specs.Numbering.{NamesEarlier, counted, steps_before, number_of, renumbered, with_hints}
 use Rattle.gp_derivation.specs.Reach.{IsReached, rests_on}
 use Rattle.gp_derivation.specs.Reach.IsReached.{direct, through}
-use Rattle.gp_derivation.specs.Cones.{IsCone, ConeIsUnique, ConeStays, kept_steps, cone_steps}
+use Rattle.gp_derivation.specs.Cones.{ConeIsUnique, ConeStays, kept_steps, cone_steps}
 use Rattle.gp_derivation.specs.ListLaws.{slice_get_front, got_front}
 use Rattle.gp_derivation.proofs.Growing.{origin_longer}
-use Rattle.gp_derivation.proofs.Sweeping.{rests_earlier}
+use Rattle.gp_derivation.proofs.Descending.{rests_earlier}
 
 -- hints that name some clauses name the same ones when more come after them
 named_same : (clauses more : List (List Lit)) (hints : List ℕ) → All (λ hint. hint < length clauses) hints → named (clauses ++ more) hints ≡ named clauses hints
@@ -97,7 +95,7 @@ cone_is_unique bases log last certificate other one two = λ i. record { steps =
     steps = one.steps ∙ ap (λ (k : ℕ → Bool). cone_steps bases k log (length log) ++ with_hints (renumbered bases (number_of bases k log)) last ∷ []) kept ∙ sym two.steps
 
 -- what is reached from hints that name entries of a log stands in it
-reached_within : (bases : ℕ) (log : List LogEntry) (hints : List ℕ) → ((place : ℕ) (entry : LogEntry) → slice_get log place ≡ Some entry → NamesEarlier bases place entry.step entry.origin) → All (λ hint. hint < bases + length log) hints
+pub reached_within : (bases : ℕ) (log : List LogEntry) (hints : List ℕ) → ((place : ℕ) (entry : LogEntry) → slice_get log place ≡ Some entry → NamesEarlier bases place entry.step entry.origin) → All (λ hint. hint < bases + length log) hints
     → (place : ℕ) → IsReached bases log hints place → place < length log
 reached_within bases log hints names within place (direct p by) = let less : bases + p < bases + length log = All-contains (λ h. h < bases + length log) hints (bases + p) within by in omega (arith, less)
 reached_within bases log hints names within place (through p other entry reached got by) =

@@ -78,8 +78,8 @@ pub record IsLesson (problem : Problem) (query : Query) (log : List LogEntry) (b
   pub is_new : IsNewBy problem query (turned problem log (turn_from begins (length log) (length log)) (length log)) step.clause lit
   pub tight : IsTight problem.edges (all_kinds problem query) (named (logged problem log) step.hints) step.clause
 
--- a clause and hints that a conflict gave may be logged: the clause passes with what the hints name, which is attached, and
--- its literals are false, just one of them at the present level
+-- a step that a conflict gave passes at the end of the log, what its hints name is attached, and its literals are false,
+-- just one of them at the present level
 pub record IsStudied (problem : Problem) (query : Query) (engine : Engine) (step : Step) : Type 0 where
   pub passes : LearnedPasses problem query.locals engine.log.items engine.begins (length engine.log.items) step
   pub attached : (hint : ℕ) → Contains step.hints hint → IsAttached engine.solver.clauses hint

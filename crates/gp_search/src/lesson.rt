@@ -70,7 +70,8 @@ impl Engine {
         self.solver.analyse(conflict)
     }
 
-    // A tight part of a step. It keeps the one literal of the present level.
+    // A tight part of a step. It keeps the one literal of the present level: below that level the attached clauses and the
+    // places refute nothing.
     fn tighten(&mut self, problem: &Problem, query: &Query, step: Step) -> Result<Step, AllocError>
         requires turning { IsTurning problem.now query.now self.old }
         requires above { self.old.assumed < self.old.solver.level }

@@ -33,12 +33,7 @@ fn is_false(solver: &Solver, lit: Lit) -> bool
 fn are_false(solver: &Solver, lits: &[Lit]) -> bool
     ensures { IsTrue result → Each (IsFalse (assigned solver.now)) lits.now }
 {
-    for lit in lits {
-        if !is_false(solver, *lit) {
-            return false;
-        }
-    }
-    true
+    lits.iter().all(|lit| is_false(solver, *lit))
 }
 
 fn is_present(solver: &Solver, lit: Lit) -> bool

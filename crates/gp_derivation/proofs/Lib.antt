@@ -18,3 +18,7 @@ pub mod Sharing
 pub mod LeavingOut
 pub mod Naming
 pub mod Owning
+pub mod Counts
+pub mod Falling
+pub mod Listing
+pub mod Readying

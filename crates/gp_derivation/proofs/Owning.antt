@@ -1,7 +1,8 @@
 -- The loops that test the steps of a certificate and of a shared list.
-use Rattle.std.proofs.Common.{◌≡◌, ℕ, ◌+◌, ◌-◌, ◌<◌, ◌≤◌, List, [], ◌∷◌, ◌++◌, length, take, drop, get_or, All, Contains, ◌↔◌, ap, sym, ◌∙◌, subst, arith}
-use Rattle.std.proofs.lemmas.List.{append-nil, append_assoc, length-append, length-map, take_more, take_all, take-append-drop}
-use Rattle.std.proofs.lemmas.List.Elements.{All-nil, All-cons, All-append, All-weaker, All-contains, All-contains_itself, Contains-append_left, Contains-append_right}
+use Rattle.std.proofs.Common.{Bool, false, IsTrue, ◌==◌, ◌≡◌, ℕ, ◌+◌, ◌-◌, ◌<◌, ◌≤◌, List, [], ◌∷◌, ◌++◌, length, take, drop, get_or, All, ◌↔◌, refl, ap, sym, ◌∙◌, subst, arith}
+use Rattle.std.proofs.lemmas.Bool.{false≢true}
+use Rattle.std.proofs.lemmas.List.{append-nil, append_assoc, length-append, length-map, take_more, take_all, take-append-drop, map-append}
+use Rattle.std.proofs.lemmas.List.Elements.{All-nil, All-cons, All-append, All-weaker}
 use Rattle.std.specs.List.{slice_get}
 use Rattle.gp_clause.specs.declared.edge.Edge.{Edge}
 use Rattle.gp_clause.specs.declared.kind.Kind.{Kind}
@@ -11,7 +12,9 @@ use Rattle.gp_clause.specs.Clause.{NamesBelow}
 use Rattle.gp_derivation.specs.declared.step.Step.{Step}
 use Rattle.gp_derivation.specs.Certificate.{clauses_of}
 use Rattle.gp_derivation.specs.Shared.{StepPasses, OwnStepsPass, SharedPasses, FirstFails, FirstOwnFails, usable}
-use Rattle.gp_derivation.specs.ListLaws.{contains_got, named_all, slice_get_back}
+use Rattle.gp_derivation.specs.Bench.{BenchForm}
+use Rattle.gp_derivation.specs.Step.{Passes, named}
+use Rattle.gp_derivation.specs.ListLaws.{slice_get_back}
 use Rattle.gp_derivation.proofs.Sharing.{checks_alone}
 
 -- own steps, one part after the other
@@ -81,19 +84,6 @@ pub names_fewer : (n m : ℕ) (clauses : List (List Lit)) → n ≤ m → All (N
 names_fewer n m clauses more all =
     All-weaker (NamesBelow n) (NamesBelow m) (λ clause below k d within. let first : (get_or clause k d).variable < n = below k d within in omega (arith, first, more)) clauses all
 
--- what a step may use is among the numbered clauses and the unnamed ones
-pub usable_within : (P : List Lit → Type 0) (base shared own : List (List Lit)) (hints : List ℕ) → All P (base ++ shared ++ own) → All P (usable (base ++ shared ++ own) (base ++ own) hints)
-usable_within P base shared own [] all =
-    All-append P base own left right
-  where
-    left : All P base
-    left = All-weaker (Contains base) P (λ c is. All-contains P (base ++ shared ++ own) c all (Contains-append_left (base ++ shared) own c (Contains-append_left base shared c is))) base (All-contains_itself base)
-
-    right : All P own
-    right = All-weaker (Contains own) P (λ c is. All-contains P (base ++ shared ++ own) c all (Contains-append_right (base ++ shared) own c is)) own (All-contains_itself own)
-usable_within P base shared own (hint ∷ hints) all =
-    named_all P (base ++ shared ++ own) (hint ∷ hints) (λ h clause is got. All-contains P (base ++ shared ++ own) clause all (contains_got (base ++ shared ++ own) h clause got))
-
 -- the clause of an own step by its number
 pub own_number : (base : List (List Lit)) (shared own : List Step) (number : ℕ) → length base ≤ number → length shared ≤ number - length base
     → slice_get (base ++ clauses_of shared ++ clauses_of own) number ≡ slice_get (clauses_of own) (number - length base - length shared)
@@ -124,3 +114,36 @@ fails_over edges edges' kinds kinds' base base' shared steps steps' place edges_
 
 pub shared_passes : (problem : Problem) (steps : List Step) → OwnStepsPass problem.edges problem.kinds problem.clauses [] [] steps → SharedPasses problem steps
 shared_passes problem steps passed = (checks_alone problem.edges problem.kinds problem.clauses steps).0 passed
+
+-- how many clauses are numbered
+pub numbered_count : (base : List (List Lit)) (shared own : List Step) → length (base ++ clauses_of shared ++ clauses_of own) ≡ length base + length shared + length own
+numbered_count base shared own =
+    let first = length-append base (clauses_of shared) in
+    let whole = length-append (base ++ clauses_of shared) (clauses_of own) in
+    let one = length-map shared (λ (step : Step). step.clause) in
+    let two = length-map own (λ (step : Step). step.clause) in
+    omega (arith, first, whole, one, two)
+
+usable_named : (numbered unnamed : List (List Lit)) (hints : List ℕ) → (length hints == 0) ≡ false → usable numbered unnamed hints ≡ named numbered hints
+usable_named numbered unnamed [] none = absurd (false≢true (sym none))
+usable_named numbered unnamed (hint ∷ hints) some = refl
+
+-- a step with hints passes where its clause does with what they name
+pub step_by_hints : (edges : List Edge) (kinds : List Kind) (numbered unnamed : List (List Lit)) (step : Step) (told : Bool) → All (λ hint. hint < length numbered) step.hints → (length step.hints == 0) ≡ false
+    → IsTrue told ↔ Passes edges kinds (named numbered step.hints) step.clause → IsTrue told ↔ StepPasses edges kinds numbered unnamed step
+step_by_hints edges kinds numbered unnamed step told below some passes =
+    let P : List (List Lit) → Type 0 = λ cs. Passes edges kinds cs step.clause in
+    let same : usable numbered unnamed step.hints ≡ named numbered step.hints = usable_named numbered unnamed step.hints some in
+    (λ is. record { hints = below; passes = subst P (sym same) (passes.0 is) }, λ step_passes. passes.1 (subst P same step_passes.passes))
+
+-- one more own clause is loaded
+pub all_more : (start now new : BenchForm) (base : List (List Lit)) (own : List Step) (i : ℕ) (step : Step) (clause : List Lit) → i < length own → step ≡ get_or own i step → clause ≡ step.clause
+    → now ≡ record start { loaded = base ++ clauses_of (take i own) } → new ≡ record now { loaded = now.loaded ++ clause ∷ [] } → new ≡ record start { loaded = base ++ clauses_of (take (i + 1) own) }
+all_more start now new base own i step clause within is same before pushed =
+    let P : BenchForm → BenchForm = λ b. record b { loaded = b.loaded ++ clause ∷ [] } in
+    let Q : List (List Lit) → BenchForm = λ cs. record start { loaded = cs } in
+    let next : clauses_of (take (i + 1) own) ≡ clauses_of (take i own) ++ step.clause ∷ [] =
+    ap clauses_of (next_step own i step within is) ∙ map-append (λ (s : Step). s.clause) (take i own) (step ∷ []) in
+    let whole : base ++ clauses_of (take i own) ++ clause ∷ [] ≡ base ++ clauses_of (take (i + 1) own) =
+    append_assoc base (clauses_of (take i own)) (clause ∷ []) ∙ ap (λ c. base ++ (clauses_of (take i own) ++ c ∷ [])) same ∙ ap (λ cs. base ++ cs) (sym next) in
+    pushed ∙ ap P before ∙ ap Q whole

@@ -31,7 +31,7 @@ same_lits a b variables signs = λ i. record { variable = variables i; positive 
 pub some_clash : (o : Option Bool) (b : Bool) → o ≡ Some b → o ≡ None → ⊥
 some_clash o b some none = none-some b (sym none ∙ some)
 
-sign_clash : (o : Option Bool) (b : Bool) → o ≡ Some b → o ≡ Some (not b) → ⊥
+pub sign_clash : (o : Option Bool) (b : Bool) → o ≡ Some b → o ≡ Some (not b) → ⊥
 sign_clash o b some other = not_itself b (same_Some b (not b) (sym some ∙ other))
 
 -- what holds of a literal by its value
@@ -147,7 +147,7 @@ kept_more old new lit kept within none values trail capacity =
     at other (inr same) = let P : Lit → Type 0 = λ l. Contains (old.trail.items ++ lit ∷ []) l in subst P same (Contains-push old.trail.items lit)
 
 -- a literal that is due is derived, and a false clause is a conflict
-opposite_twice : (lit : Lit) → opposite (opposite lit) ≡ lit
+pub opposite_twice : (lit : Lit) → opposite (opposite lit) ≡ lit
 opposite_twice lit = λ i. record { variable = lit.variable; positive = not_not lit.positive i }
 
 pub false_derived : (start : List Lit) (clauses : List (List Lit)) (assignment : Assignment) (lit : Lit) → IsClosing start clauses assignment → IsFalseIn (value_of assignment.values.items) lit

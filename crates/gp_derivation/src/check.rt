@@ -1,15 +1,15 @@
 ghost use Rattle.std.specs.Prelude.{◌≡◌, ◌+◌, ◌<◌, ◌^◌, ◌↔◌, [], ◌++◌, length, slice_get, IsTrue, IfOk, OnOk, MatchOption, All};
 ghost use Rattle.std.specs.Option.{option_map};
 ghost use Rattle.gp_clause.specs.Clause.{NamesBelow};
-ghost use Rattle.gp_clause.specs.Problem.{IsValidProblem, IsValidQuery};
+ghost use Rattle.gp_clause.specs.Problem.{IsValidKind, IsValidProblem, IsValidQuery};
 ghost use Rattle.gp_derivation.specs.Certificate.{clauses_of};
-ghost use Rattle.gp_derivation.specs.Shared.{StepPasses, OwnStepsPass, SharedPasses, PassesOver, FirstFails, FirstOwnFails, usable};
+ghost use Rattle.gp_derivation.specs.Shared.{StepPasses, OwnStepsPass, SharedPasses, PassesOver, FirstFails, FirstOwnFails};
 ghost use Rattle.gp_derivation.specs.Step.{named};
 
+use crate::bench::Bench;
 use crate::certificate::Certificate;
 use crate::step::Step;
-use crate::tester::Tester;
-use gp_clause::{Clause, Problem, Query};
+use gp_clause::{Clause, Kind, Problem, Query};
 use std::alloc::{AllocError, Global};
 
 /// Whether each own step of a certificate passes over a shared list whose clauses have variables of the problem and the
@@ -26,10 +26,12 @@ pub fn check_certificate(
     requires shared { All (NamesBelow (length problem.now.kinds + length query.now.locals)) (clauses_of shared.now) }
     ensures { IfOk result (λ passes. IsTrue passes ↔ PassesOver problem.now shared.now query.now certificate.now) }
 {
-    let mut tester = Tester::new(alloc, problem, query.locals.as_slice())?;
+    let locals = query.locals.as_slice();
+    let mut hinted = Bench::new(alloc, problem, locals)?;
+    let mut all = all_loaded(alloc, problem, locals)?;
     let base = problem.clauses.as_slice();
     let steps = certificate.steps.as_slice();
-    match first_to_fail(alloc, &mut tester, base, shared, steps)? {
+    match first_to_fail(&mut hinted, &mut all, base, shared, steps)? {
         None => Ok(true),
         Some(_) => Ok(false),
     }
@@ -44,52 +46,80 @@ pub fn check_shared(
     requires { IsValidProblem problem.now }
     ensures { IfOk result (λ first. MatchOption first (SharedPasses problem.now shared.now) (FirstFails problem.now shared.now)) }
 {
-    let mut tester = Tester::new(alloc, problem, &[])?;
-    match first_to_fail(alloc, &mut tester, problem.clauses.as_slice(), &[], shared)? {
+    let mut hinted = Bench::new(alloc, problem, &[])?;
+    let mut all = all_loaded(alloc, problem, &[])?;
+    let base = problem.clauses.as_slice();
+    match first_to_fail(&mut hinted, &mut all, base, &[], shared)? {
         None => Ok(None),
         Some(place) => Ok(Some(place)),
     }
 }
 
-// The first of some own steps that fails.
+// A bench with all clauses of a problem loaded.
+fn all_loaded(alloc: Global, problem: &Problem, locals: &[Kind]) -> Result<Bench, AllocError>
+    requires valid { IsValidProblem problem.now }
+    requires few { length locals.now < 2 ^ 30 }
+    requires locals { All (IsValidKind problem.now.points) locals.now }
+    ensures { IfOk result (λ bench. bench ≡ record { points = problem.now.points; edges = problem.now.edges; lasting = problem.now.kinds; kinds = problem.now.kinds ++ locals.now; loaded = problem.now.clauses }) }
+{
+    let mut bench = Bench::new(alloc, problem, locals)?;
+    for clause in problem.clauses.as_slice() {
+        bench.load(clause.clone()?)?;
+    }
+    Ok(bench)
+}
+
+// The first of some own steps that fails, by a bench for the steps with hints and one with all base clauses loaded.
 fn first_to_fail(
-    alloc: Global,
-    tester: &mut Tester,
+    hinted: &mut Bench,
+    all: &mut Bench,
     base: &[Clause],
     shared: &[Step],
     own: &[Step],
 ) -> Result<Option<u64>, AllocError>
-    requires base { All (NamesBelow (length tester.old.kinds)) base.now }
-    requires shared { All (NamesBelow (length tester.old.kinds)) (clauses_of shared.now) }
-    ensures { IfOk result (λ first. MatchOption first (OwnStepsPass tester.old.edges tester.old.kinds base.now (clauses_of shared.now) [] own.now) (FirstOwnFails tester.old.edges tester.old.kinds base.now (clauses_of shared.now) own.now)) }
+    requires empty { hinted.old.loaded ≡ [] }
+    requires all { all.old ≡ record hinted.old { loaded = base.now } }
+    requires base { All (NamesBelow (length hinted.old.kinds)) base.now }
+    requires shared { All (NamesBelow (length hinted.old.kinds)) (clauses_of shared.now) }
+    ensures { IfOk result (λ first. MatchOption first (OwnStepsPass hinted.old.edges hinted.old.kinds base.now (clauses_of shared.now) [] own.now) (FirstOwnFails hinted.old.edges hinted.old.kinds base.now (clauses_of shared.now) own.now)) }
 {
     for (place, step) in own.iter().enumerate() {
-        if !step_passes(alloc, tester, base, shared, &own[..place], step)? {
+        if !step_passes(hinted, all, base, shared, &own[..place], step)? {
             return Ok(Some(place as u64));
         }
+        all.load(step.clause.clone()?)?;
     }
     Ok(None)
 }
 
-// Whether a step passes with the clauses that its hints number, or where it has none with all but the shared ones.
+// Whether a step passes with the clauses that its hints number, or where it has none with those of the other bench.
 fn step_passes(
-    alloc: Global,
-    tester: &mut Tester,
+    hinted: &mut Bench,
+    all: &mut Bench,
     base: &[Clause],
     shared: &[Step],
     own: &[Step],
     step: &Step,
 ) -> Result<bool, AllocError>
-    requires within { All (NamesBelow (length tester.old.kinds)) (base.now ++ clauses_of shared.now ++ clauses_of own.now) }
-    ensures passes { IfOk result (λ passes. IsTrue passes ↔ StepPasses tester.old.edges tester.old.kinds (base.now ++ clauses_of shared.now ++ clauses_of own.now) (base.now ++ clauses_of own.now) step.now) }
-    ensures same { tester.new ≡ tester.old }
+    requires empty { hinted.old.loaded ≡ [] }
+    requires all { all.old ≡ record hinted.old { loaded = base.now ++ clauses_of own.now } }
+    requires within { All (NamesBelow (length hinted.old.kinds)) (base.now ++ clauses_of shared.now ++ clauses_of own.now) }
+    ensures passes { IfOk result (λ passes. IsTrue passes ↔ StepPasses hinted.old.edges hinted.old.kinds (base.now ++ clauses_of shared.now ++ clauses_of own.now) (base.now ++ clauses_of own.now) step.now) }
+    ensures same { OnOk result (hinted.new ≡ hinted.old) }
+    ensures all { all.new ≡ all.old }
 {
     let hints = step.hints.as_slice();
     if !are_below(hints, base.len() + shared.len() + own.len()) {
         return Ok(false);
     }
-    let clauses = usable_clauses(alloc, base, shared, own, hints)?;
-    Ok(tester.passes(&clauses, step.clause.lits()))
+    let lits = step.clause.lits();
+    if hints.is_empty() {
+        return Ok(all.passes(lits));
+    }
+    load_hinted(hinted, base, shared, own, hints)?;
+    let passes = hinted.passes(lits);
+    hinted.clear();
+    Ok(passes)
 }
 
 // Whether all hints are below the count.
@@ -99,53 +129,24 @@ fn are_below(hints: &[u32], count: usize) -> bool
     hints.iter().all(|hint| (*hint as usize) < count)
 }
 
-// The clauses that a step with these hints may use.
-fn usable_clauses(
-    alloc: Global,
+// Loads the clauses that hints number.
+fn load_hinted(
+    bench: &mut Bench,
     base: &[Clause],
     shared: &[Step],
     own: &[Step],
     hints: &[u32],
-) -> Result<Vec<Clause>, AllocError>
-    ensures { IfOk result (λ clauses. clauses.items ≡ usable (base.now ++ clauses_of shared.now ++ clauses_of own.now) (base.now ++ clauses_of own.now) hints.now) }
+) -> Result<(), AllocError>
+    requires empty { bench.old.loaded ≡ [] }
+    requires within { All (NamesBelow (length bench.old.kinds)) (base.now ++ clauses_of shared.now ++ clauses_of own.now) }
+    ensures { OnOk result (bench.new ≡ record bench.old { loaded = named (base.now ++ clauses_of shared.now ++ clauses_of own.now) hints.now }) }
 {
-    if hints.is_empty() {
-        return joined(alloc, base, own);
-    }
-    hinted(alloc, base, shared, own, hints)
-}
-
-// Some clauses, and then those of steps.
-fn joined(alloc: Global, base: &[Clause], own: &[Step]) -> Result<Vec<Clause>, AllocError>
-    ensures { IfOk result (λ clauses. clauses.items ≡ base.now ++ clauses_of own.now) }
-{
-    let mut clauses = Vec::new(alloc);
-    for clause in base {
-        clauses.push(clause.clone()?)?;
-    }
-    for step in own {
-        clauses.push(step.clause.clone()?)?;
-    }
-    Ok(clauses)
-}
-
-// The clauses that hints number.
-fn hinted(
-    alloc: Global,
-    base: &[Clause],
-    shared: &[Step],
-    own: &[Step],
-    hints: &[u32],
-) -> Result<Vec<Clause>, AllocError>
-    ensures { IfOk result (λ clauses. clauses.items ≡ named (base.now ++ clauses_of shared.now ++ clauses_of own.now) hints.now) }
-{
-    let mut clauses = Vec::new(alloc);
     for hint in hints {
         if let Some(clause) = numbered(base, shared, own, *hint as usize) {
-            clauses.push(clause.clone()?)?;
+            bench.load(clause.clone()?)?;
         }
     }
-    Ok(clauses)
+    Ok(())
 }
 
 // The clause with a number.

@@ -6,6 +6,7 @@
 #![tactic(auto)]
 
 mod assignment;
+mod bench;
 mod certificate;
 mod check;
 mod cones;

@@ -1,7 +1,0 @@
-use Rattle.std.proofs.Common.{◌≡◌, take}
-use Rattle.gp_derivation.specs.Log.{logged}
-use Rattle.gp_derivation.specs.Step.{named}
-use Rattle.gp_derivation.proofs.tester.named_by.Given as goal
-
-abbrev pub invariant-loop-hint : goal.invariant-loop-hint
-invariant-loop-hint l = l.used.items ≡ named (logged l.problem l.log) (take l.hint-index l.hints)

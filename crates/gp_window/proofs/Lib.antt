@@ -2,9 +2,17 @@ pub mod Carried
 pub mod Contents
 pub mod Counts
 pub mod EventIds
+pub mod Formed
+pub mod Happening
 pub mod Heads
+pub mod HeldRising
+pub mod OwnLocks
 pub mod Parsed
 pub mod PassedMarks
 pub mod Places
+pub mod Rising
+pub mod StartCounts
 pub mod Suspects
 pub mod Threads
+pub mod Uncontested
+pub mod Walked

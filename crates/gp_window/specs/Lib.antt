@@ -3,8 +3,10 @@ pub mod Contested
 pub mod EventIds
 pub mod Events
 pub mod FileNames
+pub mod Formed
 pub mod Gives
 pub mod Holders
+pub mod HoldersLaws
 pub mod Manifest
 pub mod ManifestFaults
 pub mod ManifestForm

@@ -1,5 +1,5 @@
 -- The base constraints of a window: the families over symbols, then by numbers.
-use Rattle.std.specs.Prelude.{ℕ, List, [], ◌++◌, flat_map, length, map}
+use Rattle.std.specs.Prelude.{List, ◌++◌, flat_map, length, map}
 use Rattle.gp_clause.specs.declared.problem.Problem.{Problem}
 use Rattle.gp_window.specs.WindowForm.{WindowForm}
 use Rattle.gp_constraint.specs.declared.point.Point.{Point}

@@ -11,3 +11,9 @@ pub mod HeldLocks
 pub mod Numbering
 pub mod Base
 pub mod Query
+pub mod Truths
+pub mod HasLaws
+pub mod PointLaws
+pub mod InstanceLaws
+pub mod SymbolTruth
+pub mod Laws

@@ -1,5 +1,5 @@
 -- Program order: an event is executed only where the one before it in its thread is.
-use Rattle.std.specs.Prelude.{ℕ, negsuc, ◌-◌, ◌==◌, true, false, List, [], ◌∷◌, if◌then◌else◌, flat_map}
+use Rattle.std.specs.Prelude.{negsuc, ◌-◌, ◌==◌, true, false, List, [], ◌∷◌, if◌then◌else◌, flat_map}
 use Rattle.gp_clause.specs.declared.edge.Edge.{Edge}
 use Rattle.gp_constraint.specs.declared.point.Point.{Point}
 use Rattle.gp_constraint.specs.declared.symbol.Symbol.TheVariants.{Executed}

@@ -1,5 +1,5 @@
 -- Symbols, and what the variable of each is.
-use Rattle.std.specs.Prelude.{ℕ, Bool, false, ◌==◌, ◌&&◌}
+use Rattle.std.specs.Prelude.{Bool, false, ◌==◌, ◌&&◌}
 use Rattle.gp_clause.specs.declared.kind.Kind.{Kind}
 use Rattle.gp_clause.specs.declared.kind.Kind.TheVariants as kind
 use Rattle.gp_constraint.specs.declared.symbol.Symbol.{Symbol}

@@ -6,11 +6,13 @@
 #![tactic(auto)]
 
 mod action;
+mod laws;
 mod point;
 mod symbol;
 mod term;
 
 pub use action::Action;
+pub use laws::{answers_mean, problems_are_valid};
 pub use point::Point;
 pub use symbol::{Symbol, SymbolicLit};
 pub use term::Term;

@@ -1,4 +1,4 @@
--- How the counts of a state go up, so that no event happens twice.
+-- Laws: how the counts of a state go up, so that no event happens twice.
 use Rattle.std.proofs.Common.{ℕ, zero, suc, ◌≡◌, ◌≢◌, ◌+◌, ◌<◌, ◌≤◌, ap, sym, ◌∙◌, refl, subst, inl, inr, List, [], ◌∷◌, length, get_or, set, arith, length-set}
 use Rattle.std.specs.Prelude.{Option, None, Some, Ok, slice_get, unwrap_or}
 use Rattle.std.specs.List.{AllPairs}
@@ -12,8 +12,8 @@ use Rattle.gp_replay.specs.declared.state.State.{State}
 use Rattle.gp_replay.specs.Step.{count_of, next}
 use Rattle.gp_replay.specs.Feasible.{Runs}
 use Rattle.gp_window.specs.Events.{size_of}
-use Rattle.gp_replay.proofs.Sizes.{event_inside}
-use Rattle.gp_replay.proofs.Steps.{Stepped, stepped}
+use Rattle.gp_replay.specs.SizeLaws.{event_inside}
+use Rattle.gp_replay.specs.StepLaws.{Stepped, stepped}
 
 -- the state counts so many threads as the window has
 abbrev pub CountsThreads : WindowForm → State → Type 0

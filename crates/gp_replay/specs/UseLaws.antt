@@ -1,4 +1,4 @@
--- What a step does with its use of a lock.
+-- Laws: what a step does with its use of a lock.
 use Rattle.std.proofs.Common.{ℕ, ◌≡◌, ap, refl, Bool, true, false, List}
 use Rattle.std.specs.Prelude.{Option, Some, Result, Ok, Err, if◌then◌else◌}
 use Rattle.gp_trace.specs.LockUse.{lock_use_of}
@@ -14,7 +14,7 @@ use Rattle.gp_replay.specs.Step.{allowed_in, allowed_use, holders_after, is_held
 use Rattle.gp_replay.specs.declared.rule.Rule.{Rule}
 use Rattle.gp_replay.specs.declared.rule.Rule.TheVariants.{LockHeld}
 use Rattle.gp_replay.specs.declared.state.State.{State}
-use Rattle.gp_replay.proofs.Steps.{stepped}
+use Rattle.gp_replay.specs.StepLaws.{stepped}
 
 -- the step's event uses a lock so, or none, which was allowed, and it changed holders and readers accordingly
 pub record Used (window : WindowForm) (state middle : State) (id : EventId) : Type 0 where

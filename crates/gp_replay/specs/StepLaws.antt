@@ -1,4 +1,4 @@
--- What a step that was made says.
+-- Laws: what a step that was made says.
 use Rattle.std.proofs.Common.{◌≡◌, Bool, true, false, refl, eqb-true}
 use Rattle.std.specs.Prelude.{Option, Some, None, Result, Ok, Err, if◌then◌else◌}
 use Rattle.gp_trace.specs.declared.event.Event.{Event}

@@ -1,4 +1,4 @@
--- Which thread holds a lock after events that happen.
+-- Laws: which thread holds a lock after events that happen.
 use Rattle.std.proofs.Common.{ℕ, ◌≡◌, ◌⊎◌, ap, sym, ◌∙◌, refl, subst, inl, inr, Bool, false, List, [], ◌∷◌, ◌++◌}
 use Rattle.std.specs.Prelude.{Some, None, Option, Ok, ◌||◌, is_some}
 use Rattle.std.specs.Cmp.Lexicographic.{slice_cmp}
@@ -16,7 +16,7 @@ use Rattle.gp_replay.specs.LockUses.{GivesBack, Takes}
 use Rattle.gp_replay.specs.Step.{allowed_use, holder_of, holders_after, next}
 use Rattle.gp_replay.specs.declared.state.State.{State}
 use Rattle.gp_replay.specs.RunLaws.{runs_split}
-use Rattle.gp_replay.proofs.Uses.{take_finds_free, used}
+use Rattle.gp_replay.specs.UseLaws.{take_finds_free, used}
 
 -- the holder of a lock among these
 abbrev holder_in : List (List ℕ × ℕ) → List ℕ → Option ℕ
@@ -108,7 +108,7 @@ kept_holder window before last (id ∷ ids) lock thread r held none =
     ]
 
 -- a thread that acquires a lock holds it after its step
-acquirer_holds : (window : WindowForm) (state middle : State) (id : EventId) (lock : List ℕ)
+pub acquirer_holds : (window : WindowForm) (state middle : State) (id : EventId) (lock : List ℕ)
     → next window state id ≡ Ok middle → Takes window Exclusive id lock → holder_of middle lock ≡ Some id.thread
 acquirer_holds window state middle id lock e acquires =
     elim (step_turns window state middle id lock e) [

@@ -1,4 +1,4 @@
--- A lock that has a holder has no reader.
+-- Laws: a lock that has a holder has no reader.
 use Rattle.std.proofs.Common.{ℕ, ◌≡◌, ap, sym, ◌∙◌, subst, inl, inr, Bool, true, false, List, [], ◌∷◌}
 use Rattle.std.specs.Prelude.{Some, None, Option, Ok, ◌||◌, is_some}
 use Rattle.std.proofs.lemmas.Bool.{true≢false}
@@ -10,13 +10,16 @@ use Rattle.gp_window.specs.declared.schedule.EventId.{EventId}
 use Rattle.gp_replay.specs.Feasible.{Runs}
 use Rattle.gp_replay.specs.LockUses.{Takes}
 use Rattle.gp_replay.specs.Readers.{has_reader, is_reader}
-use Rattle.gp_replay.specs.Sharing.{HoldersAreAlone}
 use Rattle.gp_replay.specs.Step.{allowed_use, holder_of, is_held_against, next}
 use Rattle.gp_replay.specs.declared.state.State.{State}
-use Rattle.gp_replay.proofs.Holders.{step_turns}
-use Rattle.gp_replay.proofs.ReaderSets.{no_reader}
-use Rattle.gp_replay.proofs.Sharing.{step_shifts}
-use Rattle.gp_replay.proofs.Uses.{take_finds_free, used}
+use Rattle.gp_replay.specs.HolderLaws.{step_turns}
+use Rattle.gp_replay.specs.ReaderLaws.{no_reader}
+use Rattle.gp_replay.specs.SharingLaws.{step_shifts}
+use Rattle.gp_replay.specs.UseLaws.{take_finds_free, used}
+
+-- a lock that has a holder in this state has no reader
+abbrev pub HoldersAreAlone : State → Type 0
+HoldersAreAlone state = (lock : List ℕ) (one other : ℕ) → holder_of state lock ≡ Some one → ¬ (is_reader state.readers lock other ≡ true)
 
 -- a step that takes a lock finds that nobody holds it against that
 taker_finds_free : (window : WindowForm) (state middle : State) (id : EventId) (lock : List ℕ)
@@ -35,14 +38,14 @@ second_fails true b e = absurd (true≢false e)
 second_fails false b e = e
 
 -- an acquire leaves no reader beside it
-acquired_alone : (window : WindowForm) (state middle : State) (id : EventId) (lock : List ℕ) (other : ℕ)
+pub acquired_alone : (window : WindowForm) (state middle : State) (id : EventId) (lock : List ℕ) (other : ℕ)
     → next window state id ≡ Ok middle → Takes window Exclusive id lock → is_reader state.readers lock other ≡ false
 acquired_alone window state middle id lock other e takes =
     no_reader state.readers lock other
     (second_fails (is_some (holder_of state lock)) (has_reader state.readers lock) ((taker_finds_free window state middle id lock e).0 takes))
 
 -- a racquire finds no holder
-shared_unheld : (window : WindowForm) (state middle : State) (id : EventId) (lock : List ℕ)
+pub shared_unheld : (window : WindowForm) (state middle : State) (id : EventId) (lock : List ℕ)
     → next window state id ≡ Ok middle → Takes window Shared id lock → is_some (holder_of state lock) ≡ false
 shared_unheld window state middle id lock e takes = (taker_finds_free window state middle id lock e).1 takes
 

@@ -1,4 +1,4 @@
--- A segment of a window is not too large.
+-- Laws: a segment of a window is not too large.
 use Rattle.std.proofs.Common.{ℕ, zero, suc, ◌≡◌, ◌-◌, ◌<◌, ◌≤◌, ◌^◌, ap, sym, subst, List, [], ◌∷◌, length, length-append, map, arith, Bor}
 use Rattle.std.specs.Prelude.{All, Option, Some, None, OnSome, option_copied, slice_get, unwrap_or}
 use Rattle.std.proofs.lemmas.Option.{slice_get_within}

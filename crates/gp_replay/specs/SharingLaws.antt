@@ -1,4 +1,4 @@
--- Which threads are readers of a lock after events that happen.
+-- Laws: which threads are readers of a lock after events that happen.
 use Rattle.std.proofs.Common.{ℕ, ◌≡◌, ◌⊎◌, ap, sym, ◌∙◌, refl, subst, inl, inr, Bool, true, false, List, [], ◌∷◌}
 use Rattle.std.specs.Prelude.{Some, None, Option, Ok}
 use Rattle.std.proofs.lemmas.Bool.{cases_eq, true≢false}
@@ -14,9 +14,9 @@ use Rattle.gp_replay.specs.Readers.{is_reader, with_reader, without_reader}
 use Rattle.gp_replay.specs.Sharing.{NoneGivesBack, Shares}
 use Rattle.gp_replay.specs.Step.{next, readers_after}
 use Rattle.gp_replay.specs.declared.state.State.{State}
-use Rattle.gp_replay.proofs.ReaderSets.{added_apart, added_here, dropped_apart, dropped_here}
+use Rattle.gp_replay.specs.ReaderLaws.{added_apart, added_here, dropped_apart, dropped_here}
 use Rattle.gp_replay.specs.RunLaws.{runs_split}
-use Rattle.gp_replay.proofs.Uses.{used}
+use Rattle.gp_replay.specs.UseLaws.{used}
 
 -- two threads at two locks are the same, or not
 same_reader : (lock name : List ℕ) (thread other : ℕ) → ((lock ≡ name) × (thread ≡ other)) ⊎ (lock ≡ name → thread ≡ other → ⊥)
@@ -114,7 +114,7 @@ kept_reader window before last (id ∷ ids) lock thread r was none =
     ]
 
 -- a thread that racquires a lock is a reader after its step
-taker_reads : (window : WindowForm) (state middle : State) (id : EventId) (lock : List ℕ) (thread : ℕ)
+pub taker_reads : (window : WindowForm) (state middle : State) (id : EventId) (lock : List ℕ) (thread : ℕ)
     → next window state id ≡ Ok middle → id.thread ≡ thread → Takes window Shared id lock → is_reader middle.readers lock thread ≡ true
 taker_reads window state middle id lock thread e own takes =
     elim (step_shifts window state middle id lock thread e) [

@@ -1,4 +1,4 @@
--- What comes before an event of a started thread, and before a join.
+-- Laws: what comes before an event of a started thread, and before a join.
 use Rattle.std.proofs.Common.{ℕ, ◌≡◌, ◌⊎◌, ap, sym, ◌∙◌, refl, subst, inl, inr, List, [], ◌∷◌, ◌++◌, Bool, true, false, eqb-true}
 use Rattle.std.specs.Prelude.{Some, Option, Result, Ok, Err, if◌then◌else◌, ◌==◌, ◌&&◌}
 use Rattle.std.proofs.lemmas.Bool.{and_parts, cases_Bool}
@@ -16,9 +16,9 @@ use Rattle.gp_replay.specs.Feasible.{Runs}
 use Rattle.gp_replay.specs.Order.{IsStartedBy, Joins, Starts}
 use Rattle.gp_window.specs.Events.{size_of}
 use Rattle.gp_replay.specs.Part.{events_from, part_of}
-use Rattle.gp_replay.proofs.Parts.{prefix_from_start}
+use Rattle.gp_replay.specs.PartLaws.{prefix_from_start}
 use Rattle.gp_replay.specs.RunLaws.{runs_split}
-use Rattle.gp_replay.proofs.Steps.{stepped}
+use Rattle.gp_replay.specs.StepLaws.{stepped}
 
 -- a thread that is among some with one more is among them, or that one
 among_added : (threads : List ℕ) (other thread : ℕ) → is_among (threads ++ other ∷ []) thread ≡ true → (is_among threads thread ≡ true) ⊎ (other ≡ thread)
@@ -60,7 +60,7 @@ step_starts window state middle id thread e among =
     ]
 
 -- a thread that is started after events that happen was started before them, or by one of them
-started_by_run : (window : WindowForm) (before last : State) (ids : List EventId) (thread : ℕ)
+pub started_by_run : (window : WindowForm) (before last : State) (ids : List EventId) (thread : ℕ)
     → Runs window before ids last → is_among last.started thread ≡ true
     → (is_among before.started thread ≡ true) ⊎ IsStartedBy window ids thread
 started_by_run window before last [] thread r among = inl (subst (λ (t : State). is_among t.started thread ≡ true) r among)
@@ -88,7 +88,7 @@ passed true rule e = refl
 passed false rule e = cc
 
 -- a thread that is joined has ended
-join_finds_ended : (window : WindowForm) (state : State) (event : Event) (thread : ℕ)
+pub join_finds_ended : (window : WindowForm) (state : State) (event : Event) (thread : ℕ)
     → event ≡ Join thread → allowed_in window state event ≡ Ok tt → has_ended window state thread ≡ true
 join_finds_ended window state event thread is allowed =
     passed (has_ended window state thread) NotExited (subst (λ e. allowed_in window state e ≡ Ok tt) is allowed)

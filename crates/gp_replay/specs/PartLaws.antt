@@ -1,4 +1,4 @@
--- Each thread's part of what happens is a prefix of its segment.
+-- Laws: each thread's part of what happens is a prefix of its segment.
 use Rattle.std.proofs.Common.{ℕ, zero, suc, ◌≡◌, ◌+◌, ◌<◌, ◌≤◌, ap, sym, ◌∙◌, refl, subst, inl, inr, List, [], ◌∷◌, length, replicate, arith}
 use Rattle.std.specs.Prelude.{◌==◌, Ok, true, false}
 use Rattle.std.proofs.lemmas.Bool.{cases_eq, cases_lt, eq-eqb, ne_eqb}
@@ -10,8 +10,8 @@ use Rattle.gp_replay.specs.Step.{count_of, next, start_state}
 use Rattle.gp_replay.specs.Feasible.{Runs}
 use Rattle.gp_window.specs.Events.{size_of}
 use Rattle.gp_replay.specs.Part.{events_from, part_of}
-use Rattle.gp_replay.proofs.Counts.{CountsThreads, step_counts, step_is_counted, step_keeps_others, step_keeps_threads}
-use Rattle.gp_replay.proofs.Steps.{stepped}
+use Rattle.gp_replay.specs.CountLaws.{CountsThreads, step_counts, step_is_counted, step_keeps_others, step_keeps_threads}
+use Rattle.gp_replay.specs.StepLaws.{stepped}
 
 -- the events of a thread that happen between two states are so many, from the first state's count on
 record IsPrefix (window : WindowForm) (before after : State) (ids : List EventId) (thread : ℕ) : Type 0 where
@@ -80,7 +80,7 @@ prefix_of_run window state last (id ∷ ids) thread size r =
     ]
 
 -- nothing is done when a window begins
-nothing_done : (window : WindowForm) (thread : ℕ) → count_of (start_state window) thread ≡ 0
+pub nothing_done : (window : WindowForm) (thread : ℕ) → count_of (start_state window) thread ≡ 0
 nothing_done window zero = refl
 nothing_done window (suc place) =
     let threads = length window.segments in

@@ -1,4 +1,4 @@
--- Which threads are readers after one is added or taken away.
+-- Laws: which threads are readers after one is added or taken away.
 use Rattle.std.proofs.Common.{ℕ, ◌≡◌, ◌<◌, arith, ap, sym, ◌∙◌, refl, subst, inl, inr, Bool, true, false, cond, not, List, [], ◌∷◌, filter}
 use Rattle.std.specs.Prelude.{◌||◌, IfSome, slice_get}
 use Rattle.std.specs.declared.cmp.Ordering.{Ordering}
@@ -14,17 +14,13 @@ use Rattle.std.specs.Set.{remove_key}
 use Rattle.std.specs.declared.ops.Bound.TheVariants.{Included, Unbounded}
 use Rattle.std.specs.Str.{bytes_eq}
 use Rattle.std.proofs.lemmas.Bool.{cases_Bool, false_from_ne_true, true≢false, false≢true}
-use Rattle.std.proofs.lemmas.Cmp.{alike_right, nat_cmp_total, nat_list_cmp_total, on_total, ranked, then_total, tied_itself}
+use Rattle.std.proofs.lemmas.Cmp.{alike_right, nat_list_cmp_total, ranked, tied_itself}
 use Rattle.std.proofs.lemmas.Map.Lookups.{exact_bytes}
 use Rattle.std.proofs.lemmas.Map.Views.{any-filter_same}
 use Rattle.std.proofs.lemmas.Slice.Eq.{bytes_eq-Decides}
 use Rattle.gp_window.specs.Holders.{holder_cmp}
+use Rattle.gp_window.specs.HoldersLaws.{found_is_same, found_itself, holder_total, not_found}
 use Rattle.gp_replay.specs.Readers.{has_reader, is_reader, with_reader, without_reader}
-
--- the order of readers is total
-pub holder_total : IsTotalOrder holder_cmp
-holder_total =
-    then_total (on_total (λ (reader : List ℕ × ℕ). reader.0) nat_list_cmp_total) (on_total (λ (reader : List ℕ × ℕ). reader.1) nat_cmp_total)
 
 or_swapped : (a b c : Bool) → (a || (b || c)) ≡ (b || (a || c))
 or_swapped true true c = refl
@@ -55,34 +51,6 @@ member_after_insert : {K : Type 0} {R : K → K → Ordering} (o : IsTotalOrder 
 member_after_insert o [] key place = refl
 member_after_insert {R = R} o (first ∷ rest) key place =
     added_head o (R key first) first rest key place refl (member_after_insert o rest key place)
-
--- two orders, one after the other, tie where both do
-both_tie : (first second : Ordering) → is_eq (ordering_then first second) ≡ true → (first ≡ Equal) × (second ≡ Equal)
-both_tie Less second e = absurd (false≢true e)
-both_tie Equal Less e = absurd (false≢true e)
-both_tie Equal Equal e = (refl, refl)
-both_tie Equal Greater e = absurd (false≢true e)
-both_tie Greater second e = absurd (false≢true e)
-
--- numbers that tie are the same
-same_number : (a b : ℕ) → nat_cmp a b ≡ Equal → a ≡ b
-same_number a b e = ranked a b Equal (sym e)
-
--- a reader that is found is that thread at that lock
-pub found_is_same : (lock : List ℕ) (thread : ℕ) (reader : List ℕ × ℕ) → is_at (holder_cmp (lock, thread)) reader ≡ true
-    → (lock ≡ reader.0) × (thread ≡ reader.1)
-found_is_same lock thread reader e =
-    let ties = both_tie (slice_cmp nat_cmp lock reader.0) (nat_cmp thread reader.1) e in
-    (exact_bytes lock reader.0 ties.0, same_number thread reader.1 ties.1)
-
-pub found_itself : (reader : List ℕ × ℕ) → is_at (holder_cmp reader) reader ≡ true
-found_itself reader = ap is_eq (tied_itself holder_total reader)
-
--- another thread, or another lock, is not found
-not_found : (lock : List ℕ) (thread : ℕ) (reader : List ℕ × ℕ) → (lock ≡ reader.0 → thread ≡ reader.1 → ⊥)
-    → is_at (holder_cmp (lock, thread)) reader ≡ false
-not_found lock thread reader apart =
-    false_from_ne_true _ (λ e. let same = found_is_same lock thread reader e in apart same.0 same.1)
 
 -- a thread that was added is a reader
 pub added_here : (readers : List (List ℕ × ℕ)) (lock : List ℕ) (thread : ℕ) → is_reader (with_reader readers (lock, thread)) lock thread ≡ true

@@ -1,4 +1,4 @@
--- Where the value of a variable comes from.
+-- Laws: where the value of a variable comes from.
 use Rattle.std.proofs.Common.{ℕ, ◌≡◌, ◌⊎◌, ap, sym, ◌∙◌, refl, subst, inl, inr, List, [], ◌∷◌, ◌++◌, Bool, true, false}
 use Rattle.std.specs.Prelude.{ℤ, pos, Some, Option, Result, Ok, Err, if◌then◌else◌, unwrap_or}
 use Rattle.std.specs.Ordering.{int_eq}
@@ -15,7 +15,7 @@ use Rattle.gp_replay.specs.Step.{allowed_in, effect, next, value_of}
 use Rattle.gp_replay.specs.Feasible.{Runs}
 use Rattle.gp_replay.specs.Value.{IsLastValue, Reads, Writes}
 use Rattle.gp_replay.specs.RunLaws.{runs_split}
-use Rattle.gp_replay.proofs.Steps.{stepped}
+use Rattle.gp_replay.specs.StepLaws.{stepped}
 use Rattle.gp_text.specs.TableLaws.{put_apart, put_here, same_or_apart}
 
 -- an event writes the variable, which then has the value; or it does not, and the value stays

@@ -1,0 +1,11 @@
+ghost use Rattle.gp_constraint.specs.Laws.{AnswersMean, ProblemsAreValid};
+
+/// The problem of a window and the query of an instance are valid, and the edges can be kept.
+pub fn problems_are_valid()
+    ensures { ProblemsAreValid }
+{}
+
+/// What an answer to the problem of a window and to a query says of symbols.
+pub fn answers_mean()
+    ensures { AnswersMean }
+{}

@@ -17,3 +17,13 @@ pub mod PointLaws
 pub mod InstanceLaws
 pub mod SymbolTruth
 pub mod Laws
+pub mod Adding
+pub mod Tables
+pub mod Lasts
+pub mod Listed
+pub mod SectionTables
+pub mod HeldUses
+pub mod Placed
+pub mod Signed
+pub mod Encoded
+pub mod QueryNames

@@ -6,13 +6,36 @@
 #![tactic(auto)]
 
 mod action;
+mod adding;
+mod encoded;
+mod families;
+mod fault;
+mod groups;
+mod held_locks;
+mod instance_query;
+mod joins;
 mod laws;
+mod naming;
+mod numbering;
+mod numbers;
 mod point;
+mod points;
+mod program_order;
+mod query_names;
+mod reads;
+mod section;
+mod sections;
+mod starts;
 mod symbol;
 mod term;
+mod window_base;
 
 pub use action::Action;
+pub use encoded::Encoded;
+pub use fault::{BaseFault, MOST_CLAUSES, MOST_POINTS};
+pub use instance_query::query;
 pub use laws::{answers_mean, problems_are_valid, truths_are_numbered};
 pub use point::Point;
 pub use symbol::{Symbol, SymbolicLit};
 pub use term::Term;
+pub use window_base::base;

@@ -4,11 +4,13 @@
 #![tactic(auto)]
 
 mod cutting;
+mod encoded_laws;
 mod executed;
 mod laws;
 mod schedules;
 mod sound;
 
+pub use encoded_laws::{law_base, law_complete, law_sound};
 pub use laws::schedules_are_complete;
 pub use schedules::{executed_of, schedule_of};
 pub use sound::witnesses_are_sound;

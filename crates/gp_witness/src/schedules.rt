@@ -1,4 +1,5 @@
 ghost use Rattle.std.specs.Prelude.{◌≡◌, true, IfOk};
+ghost use Rattle.gp_constraint.specs.Encoded.{encoded_of};
 ghost use Rattle.gp_instance.specs.Instance.{is_instance};
 ghost use Rattle.gp_instance.specs.Matches.{matches_events};
 ghost use Rattle.gp_replay.specs.Feasible.{IsFeasible};
@@ -9,6 +10,7 @@ use crate::cutting::up_to_last;
 use crate::executed::executed_events;
 use crate::sound::witnesses_are_sound;
 use gp_clause::Valuation;
+use gp_constraint::Encoded;
 use gp_instance::Instance;
 use gp_property::Property;
 use gp_window::{Schedule, Window};
@@ -19,9 +21,11 @@ use std::alloc::{AllocError, Global};
 pub fn executed_of(
     alloc: Global,
     window: &Window,
+    encoded: &Encoded,
     valuation: &Valuation,
 ) -> Result<Schedule, AllocError>
-    requires { AnswersWindow window.now valuation.now }
+    requires encoded { encoded.now ≡ encoded_of window.now }
+    requires answer { AnswersWindow window.now valuation.now }
     ensures order { IfOk result (λ schedule. IsByPlace window.now valuation.now schedule.events) }
     ensures feasible { IfOk result (λ schedule. IsFeasible window.now schedule.events) }
 {
@@ -36,10 +40,12 @@ pub fn executed_of(
 pub fn schedule_of(
     alloc: Global,
     window: &Window,
+    encoded: &Encoded,
     property: &Property,
     instance: &Instance,
     valuation: &Valuation,
 ) -> Result<Schedule, AllocError>
+    requires encoded { encoded.now ≡ encoded_of window.now }
     requires instance { is_instance window.now property.now instance.now.events ≡ true }
     requires answer { AnswersInstance window.now property.now instance.now.events valuation.now }
     ensures order { IfOk result (λ schedule. IsWitness window.now valuation.now instance.now.events schedule.events) }

@@ -8,4 +8,4 @@ each_from_all : (P : Lit → Type 0) (lits : List Lit) → All P lits → Each P
 each_from_all P lits all lit (k, within, is) = rw is at (all k lit within)
 
 pub returns : goal.returns
-returns c = λ holds. each_from_all _ _ (c.all.ensures holds)
+returns c = λ holds. each_from_all _ _ (c.all_false.ensures holds)

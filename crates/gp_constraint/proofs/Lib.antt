@@ -21,3 +21,5 @@ pub mod QueryWalk
 pub mod QueryNamed
 pub mod Entries
 pub mod EncodedIs
+pub mod Backward
+pub mod PointsFirst

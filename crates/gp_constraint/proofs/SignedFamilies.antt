@@ -179,7 +179,7 @@ start_event thread (event.Release lock) h = absurd cc
 start_event thread (event.RAcquire lock) h = absurd cc
 start_event thread (event.RRelease lock) h = absurd cc
 start_event thread (event.Join other) h = absurd cc
-start_event thread (event.Op name objects) h = absurd cc
+start_event thread (event.Op operation) h = absurd cc
 start_event thread (event.Begin region) h = absurd cc
 start_event thread (event.End region) h = absurd cc
 
@@ -192,7 +192,7 @@ join_event thread (event.Release lock) h = absurd cc
 join_event thread (event.RAcquire lock) h = absurd cc
 join_event thread (event.RRelease lock) h = absurd cc
 join_event thread (event.Start other) h = absurd cc
-join_event thread (event.Op name objects) h = absurd cc
+join_event thread (event.Op operation) h = absurd cc
 join_event thread (event.Begin region) h = absurd cc
 join_event thread (event.End region) h = absurd cc
 

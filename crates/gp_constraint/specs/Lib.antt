@@ -27,3 +27,5 @@ pub mod Placed
 pub mod Signed
 pub mod Encoded
 pub mod QueryNames
+pub mod StartTables
+pub mod NumberingLaws

@@ -10,6 +10,7 @@ use crate::points::Points;
 use crate::program_order::program_order;
 use crate::reads::{choices, reads, start_choices};
 use crate::sections::sections;
+use crate::start_values::StartValues;
 use crate::starts::starts;
 use gp_clause::Row;
 use gp_window::Window;
@@ -28,9 +29,10 @@ pub fn all_families(
     program_order(alloc, &mut clauses, points.as_slice())?;
     starts(alloc, &mut clauses, window, points)?;
     joins(alloc, &mut clauses, window, points)?;
-    reads(alloc, &mut clauses, window, points)?;
+    let values = StartValues::new(alloc, window)?;
+    reads(alloc, &mut clauses, &values, points)?;
     choices(alloc, &mut clauses, points)?;
-    start_choices(alloc, &mut clauses, window, points)?;
+    start_choices(alloc, &mut clauses, &values, points)?;
     sections(alloc, &mut clauses, points)?;
     held_locks(alloc, &mut clauses, window, points)?;
     Ok(clauses)

@@ -1,6 +1,6 @@
 ghost use Rattle.std.specs.Prelude.{◌≡◌, ◌≤◌, ◌++◌, ◌∷◌, [], ℤ, IfOk, OnOk, false, filter, flat_map, length};
 ghost use Rattle.gp_constraint.specs.Adding.{Adds};
-ghost use Rattle.gp_constraint.specs.Reads.{choice, choices, choices_of, finds_at_start, is_choice, is_read, is_rival, kept_apart, kept_later, reads, seen_from, sees, start_choice, start_choices, start_value};
+ghost use Rattle.gp_constraint.specs.Reads.{choice, choices, choices_of, finds_at_start, is_choice, is_read, is_rival, kept_apart, kept_later, reads, seen_from, sees, start_choice, start_choices};
 ghost use Rattle.gp_constraint.specs.Listed.{choices_in, kept_from, rivals_in, seen};
 ghost use Rattle.gp_constraint.specs.Terms.{chosen, executed, simplified};
 
@@ -9,24 +9,10 @@ use crate::adding::{SymbolicClauses, add, preceded};
 use crate::fault::{Full, MOST_CLAUSES};
 use crate::point::Point;
 use crate::points::Points;
+use crate::start_values::StartValues;
 use crate::term::{Term, before, chosen, executed, start_chosen};
 use gp_clause::Row;
-use gp_text::Name;
-use gp_window::Window;
 use std::alloc::{AllocError, Global};
-use std::cmp::Ordering;
-
-/// The value of a variable when the window begins.
-fn start_value(window: &Window, variable: &Name) -> i64
-    ensures { result ≡ start_value window.now variable.now }
-{
-    for (name, value) in window.start_values() {
-        if variable.cmp(name) == Ordering::Equal {
-            return *value;
-        }
-    }
-    0
-}
 
 fn is_read(action: &Action) -> bool
     ensures { result ≡ is_read action.now }
@@ -56,11 +42,11 @@ fn is_rival(read: &Action, write: &Action) -> bool
     }
 }
 
-fn finds_at_start(window: &Window, action: &Action) -> bool
+fn finds_at_start(window: &StartValues<'_>, action: &Action) -> bool
     ensures { result ≡ finds_at_start window.now action.now }
 {
     match action {
-        Action::Read(variable, value) => start_value(window, variable) == *value,
+        Action::Read(variable, value) => window.at(variable) == *value,
         _ => false,
     }
 }
@@ -75,7 +61,7 @@ fn is_choice(r: &Point, w: &Point) -> bool
 pub fn reads(
     alloc: Global,
     clauses: &mut SymbolicClauses,
-    window: &Window,
+    window: &StartValues<'_>,
     points: &Points,
 ) -> Result<(), Full>
     requires { length clauses.old ≤ MOST_CLAUSES }
@@ -91,7 +77,7 @@ pub fn reads(
 fn choices_of(
     alloc: Global,
     clauses: &mut SymbolicClauses,
-    window: &Window,
+    window: &StartValues<'_>,
     points: &Points,
     r: &Point,
 ) -> Result<(), Full>
@@ -109,7 +95,7 @@ fn choices_of(
 fn choice_clause(
     alloc: Global,
     clauses: &mut SymbolicClauses,
-    window: &Window,
+    window: &StartValues<'_>,
     points: &Points,
     r: &Point,
 ) -> Result<(), Full>
@@ -123,7 +109,7 @@ fn choice_clause(
 
 fn choice_terms(
     alloc: Global,
-    window: &Window,
+    window: &StartValues<'_>,
     writes: &[Point],
     r: &Point,
 ) -> Result<Row<Term>, AllocError>
@@ -147,7 +133,11 @@ fn push_choice(terms: &mut Row<Term>, r: &Point, w: &Point) -> Result<(), AllocE
     terms.push(chosen(r, w, true))
 }
 
-fn push_start_choice(terms: &mut Row<Term>, window: &Window, r: &Point) -> Result<(), AllocError>
+fn push_start_choice(
+    terms: &mut Row<Term>,
+    window: &StartValues<'_>,
+    r: &Point,
+) -> Result<(), AllocError>
     ensures { OnOk result (terms.new ≡ terms.old ++ start_choice window.now r.now) }
 {
     if !finds_at_start(window, &r.action) {
@@ -285,7 +275,7 @@ fn keep_apart(
 pub fn start_choices(
     alloc: Global,
     clauses: &mut SymbolicClauses,
-    window: &Window,
+    window: &StartValues<'_>,
     points: &Points,
 ) -> Result<(), Full>
     requires { length clauses.old ≤ MOST_CLAUSES }
@@ -301,7 +291,7 @@ pub fn start_choices(
 fn seen_at_start(
     alloc: Global,
     clauses: &mut SymbolicClauses,
-    window: &Window,
+    window: &StartValues<'_>,
     points: &Points,
     r: &Point,
 ) -> Result<(), Full>

@@ -22,3 +22,4 @@ pub mod Entries
 pub mod EncodedIs
 pub mod Backward
 pub mod PointsFirst
+pub mod Sided

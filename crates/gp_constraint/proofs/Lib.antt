@@ -23,3 +23,4 @@ pub mod Entries
 pub mod EncodedIs
 pub mod Backward
 pub mod PointsFirst
+pub mod Sided

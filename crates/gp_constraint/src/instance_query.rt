@@ -1,5 +1,6 @@
-ghost use Rattle.std.specs.Prelude.{◌≡◌, ◌≤◌, ◌++◌, [], take, drop, IfOk, OnOk, flat_map, length, map};
+ghost use Rattle.std.specs.Prelude.{◌≡◌, ◌≤◌, ◌++◌, [], take, drop, IfOk, OnOk, flat_map, if◌then◌else◌, length, map, nat_lt};
 ghost use Rattle.gp_instance.specs.Matches.{groups_of};
+ghost use Rattle.gp_constraint.specs.declared.symbol.Symbol.TheVariants.{Order};
 ghost use Rattle.gp_constraint.specs.Encoded.{encoded_of};
 ghost use Rattle.gp_constraint.specs.Numbering.{numbered_lit};
 ghost use Rattle.gp_constraint.specs.Points.{number_in, points_of};
@@ -273,10 +274,12 @@ fn mention_sides_at(
     id: EventId,
     points: &[Point],
 ) -> Result<(), AllocError>
+    requires { points.now ≡ points_of window.now }
     ensures { OnOk result (AreMentioned names.old names.new (flat_map (side window.now id) points.now)) }
 {
+    let number = number_in(window, id)?;
     for p in points {
-        mention_side(names, window, id, p)?;
+        mention_side(names, window, id, number, p)?;
     }
     Ok(())
 }
@@ -285,15 +288,28 @@ fn mention_side(
     names: &mut QueryNames<'_>,
     window: &Window,
     id: EventId,
+    number: u32,
     p: &Point,
 ) -> Result<(), AllocError>
+    requires own { number ≡ number_in window.now id }
+    requires other { p.now.number ≡ number_in window.now p.now.id }
     ensures { OnOk result (AreMentioned names.old names.new (side window.now id p.now)) }
 {
     if id.thread == p.id.thread {
         return Ok(());
     }
-    let lit = ordered(window, id, p.id)?;
-    names.mention(lit.symbol)
+    names.mention(order_of(number, p.number))
+}
+
+/// The order of two points, the lesser first.
+fn order_of(one: u32, other: u32) -> Symbol
+    ensures { result ≡ (if nat_lt one other then Order one other else Order other one) }
+{
+    if one < other {
+        Symbol::Order(one, other)
+    } else {
+        Symbol::Order(other, one)
+    }
 }
 
 /// The literals that the events are executed, and then these.

@@ -25,8 +25,6 @@ mod search;
 mod segments;
 mod shape;
 mod span;
-#[cfg(test)]
-mod tests;
 mod thinning;
 mod threads;
 

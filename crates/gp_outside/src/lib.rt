@@ -22,6 +22,3 @@ pub use memory_sinks::MemorySink;
 pub use outputs::Output;
 pub use sinks::{PutFault, Sink};
 pub use std_sinks::StdSink;
-
-#[cfg(test)]
-mod tests;

@@ -18,8 +18,6 @@ mod property;
 mod reading;
 mod shape;
 mod term;
-#[cfg(test)]
-mod tests;
 
 pub use atoms::{PatternAtom, atoms_of};
 pub use fault::PropertyFault;

@@ -12,8 +12,6 @@ mod rule;
 mod running;
 mod schedule;
 mod state;
-#[cfg(test)]
-mod tests;
 
 pub use laws::{
     begins_as_told, events_happen_once, holders_acquired, holders_stay_alone, joins_come_last,

@@ -16,8 +16,6 @@ mod parts;
 mod row;
 mod spelling;
 mod table;
-#[cfg(test)]
-mod tests;
 
 pub use cursor::{Lines, TextLine, Words};
 pub use line::{Line, Word};

@@ -13,8 +13,6 @@ mod lock_use;
 mod operation;
 mod printing;
 mod rules;
-#[cfg(test)]
-mod tests;
 mod trace;
 mod walk;
 

@@ -19,8 +19,6 @@ mod reading;
 mod recording;
 mod schedule;
 mod starts;
-#[cfg(test)]
-mod tests;
 mod users;
 mod walk;
 mod window;

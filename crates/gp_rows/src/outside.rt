@@ -1,4 +1,5 @@
-use crate::{
+// What folders and sinks answer, over memory and at the edges.
+use gp_outside::{
     DirFolder, Folder, FreeGate, Gate, MemoryFolder, MemorySink, PutFault, ReadFault, Sink, StdSink,
 };
 use std::alloc::{AllocError, Global};
@@ -12,7 +13,7 @@ fn passes<G: Gate + Sync>(gate: &G) {
     gate.pass(1, 0);
 }
 
-// Whether the read has that answer, and puts those bytes and no others behind what the buffer had.
+/// Whether the read has that answer, and puts those bytes and no others behind what the buffer had.
 fn reads<F: Folder>(
     alloc: Global,
     folder: &mut F,
@@ -26,19 +27,24 @@ fn reads<F: Folder>(
     Ok(folder.read(name, limit, &mut out) == answer && out == due)
 }
 
-#[test]
-fn memory_folder_answers_by_name_limit_and_script(rt: HostRuntime) -> Result<(), Fail> {
-    let mut files = Vec::new(rt.alloc());
+/// Four files, of which two have one name, and a fault at the fourth call.
+fn scripted(alloc: Global) -> Result<MemoryFolder, AllocError> {
+    let mut files = Vec::new(alloc);
     for (name, text) in [
         ("one", "first"),
         ("two", "xyz"),
         ("one", "second"),
         ("none", ""),
     ] {
-        let bytes = Vec::from_slice(rt.alloc(), text.as_bytes())?;
-        files.push((String::from_str(rt.alloc(), name)?, bytes))?;
+        let bytes = Vec::from_slice(alloc, text.as_bytes())?;
+        files.push((String::from_str(alloc, name)?, bytes))?;
     }
-    let mut folder = MemoryFolder::new(files, vec![in rt.alloc(); 4u64]?);
+    Ok(MemoryFolder::new(files, vec![in alloc; 4u64]?))
+}
+
+fn scripted_reads_hold(alloc: Global) -> Result<bool, AllocError> {
+    let mut folder = scripted(alloc)?;
+    let mut hold = true;
     for (name, limit, answer, text) in [
         ("one", 5, Ok(()), "first"),
         ("two", 2, Err(ReadFault::TooLong), "xyz"),
@@ -49,54 +55,64 @@ fn memory_folder_answers_by_name_limit_and_script(rt: HostRuntime) -> Result<(),
         ("two", 0, Err(ReadFault::TooLong), "x"),
         ("two", u64::MAX, Ok(()), "xyz"),
     ] {
-        let is_due = reads(
-            rt.alloc(),
-            &mut folder,
-            (name, limit),
-            answer,
-            text.as_bytes(),
-        )?;
-        assert!(rt; is_due, "{name} {limit}");
+        hold &= reads(alloc, &mut folder, (name, limit), answer, text.as_bytes())?;
     }
-    Ok(())
+    Ok(hold)
 }
 
 #[test]
-fn dir_folder_reads_files_of_the_system(rt: HostRuntime) -> Result<(), Fail> {
-    let _ = fs::remove_dir_all(&rt, "outside_test");
-    fs::create_dir(&rt, "outside_test")?;
-    fs::write(&rt, "outside_test/text", "some text\n")?;
-    let mut long = [7u8; 5000];
-    long[4096] = 8;
-    fs::write(&rt, "outside_test/long", &long)?;
+fn memory_folder_answers_by_name_limit_and_script(rt: HostRuntime) -> Result<(), Fail> {
+    assert!(rt; scripted_reads_hold(rt.alloc())?);
+    Ok(())
+}
+
+/// Whether a file of the system is read so.
+fn file_reads(
+    rt: &HostRuntime,
+    name: &str,
+    limit: u64,
+    answer: Result<(), ReadFault>,
+    bytes: &[u8],
+) -> Result<bool, Fail> {
+    let alloc = rt.alloc();
     let mut folder = DirFolder::new(rt.clone()?);
+    let path = format!(in alloc; "outside_test/{name}")?;
+    Ok(reads(alloc, &mut folder, (path.as_str(), limit), answer, bytes)?)
+}
+
+fn files_are_read(rt: &HostRuntime, long: &[u8; 5000]) -> Result<bool, Fail> {
+    let mut hold = true;
     for (name, limit, answer, bytes) in [
         ("text", 10, Ok(()), b"some text\n".as_slice()),
         ("text", 3, Err(ReadFault::TooLong), b"some"),
-        ("long", 5000, Ok(()), &long),
-        ("long", 4999, Err(ReadFault::TooLong), &long),
+        ("long", 5000, Ok(()), long),
+        ("long", 4999, Err(ReadFault::TooLong), long),
         ("long", 4095, Err(ReadFault::TooLong), &long[..4096]),
         ("other", 99, Err(ReadFault::Absent), b""),
         ("text/other", 99, Err(ReadFault::Failed), b""),
     ] {
-        let path = format!(in rt.alloc(); "outside_test/{name}")?;
-        let is_due = reads(
-            rt.alloc(),
-            &mut folder,
-            (path.as_str(), limit),
-            answer,
-            bytes,
-        )?;
-        assert!(rt; is_due, "{name} {limit}");
+        hold &= file_reads(rt, name, limit, answer, bytes)?;
     }
+    Ok(hold)
+}
+
+#[test]
+fn dir_folder_reads_files_of_the_system(rt: HostRuntime) -> Result<(), Fail> {
+    let mut long = [7u8; 5000];
+    long[4096] = 8;
+    let _ = fs::remove_dir_all(&rt, "outside_test");
+    fs::create_dir(&rt, "outside_test")?;
+    fs::write(&rt, "outside_test/text", "some text\n")?;
+    fs::write(&rt, "outside_test/long", &long)?;
+    assert!(rt; files_are_read(&rt, &long)?);
     fs::remove_dir_all(&rt, "outside_test")?;
     Ok(())
 }
 
-#[test]
-fn memory_sink_writes_what_its_script_lets_it(rt: HostRuntime) -> Result<(), Fail> {
-    let failing = vec![in rt.alloc(); (1u64, 3u64), (3, 0), (4, 99)]?;
-    let mut sink = MemorySink::new(rt.alloc(), failing);
+fn scripted_puts_hold(alloc: Global) -> Result<bool, AllocError> {
+    let failing = vec![in alloc; (1u64, 3u64), (3, 0), (4, 99)]?;
+    let mut sink = MemorySink::new(alloc, failing);
+    let mut hold = true;
     for (piece, answer, text) in [
         ("hello", Err(PutFault::Failed), "hel"),
         ("ab", Ok(()), "helab"),
@@ -104,13 +120,18 @@ fn memory_sink_writes_what_its_script_lets_it(rt: HostRuntime) -> Result<(), Fai
         ("ef", Err(PutFault::Failed), "helabef"),
         ("", Ok(()), "helabef"),
     ] {
-        let is_due = sink.put(piece.as_bytes()) == answer && sink.bytes() == text.as_bytes();
-        assert!(rt; is_due, "{piece}");
+        hold &= sink.put(piece.as_bytes()) == answer && sink.bytes() == text.as_bytes();
     }
+    Ok(hold)
+}
+
+#[test]
+fn memory_sink_writes_what_its_script_lets_it(rt: HostRuntime) -> Result<(), Fail> {
+    assert!(rt; scripted_puts_hold(rt.alloc())?);
     Ok(())
 }
 
-// An output that keeps two bytes of a write at most, fails at its second and takes nothing at its fifth.
+/// An output that keeps two bytes of a write at most, fails at its second and takes nothing at its fifth.
 #[derive(Drop)]
 struct Narrow {
     written: RefCell<Vec<u8>>,
@@ -160,13 +181,13 @@ impl Print for Narrow {
     }
 }
 
-#[test]
-fn std_sink_writes_each_byte_of_a_piece(rt: HostRuntime) {
+fn narrow_puts_hold(alloc: Global) -> bool {
     let narrow = Narrow {
-        written: RefCell::new(Vec::new(rt.alloc())),
+        written: RefCell::new(Vec::new(alloc)),
         writes: Cell::new(0),
     };
     let mut sink = StdSink::new(&narrow);
+    let mut hold = true;
     for (piece, answer, text) in [
         ("three", Err(PutFault::Failed), "th"),
         ("seven", Err(PutFault::Failed), "thseve"),
@@ -174,9 +195,18 @@ fn std_sink_writes_each_byte_of_a_piece(rt: HostRuntime) {
         ("odd", Ok(()), "thsevefiveodd"),
         ("", Ok(()), "thsevefiveodd"),
     ] {
-        let is_due = sink.put(piece.as_bytes()) == answer && narrow.has(text);
-        assert!(rt; is_due, "{piece}");
+        hold &= sink.put(piece.as_bytes()) == answer && narrow.has(text);
     }
+    hold
+}
+
+#[test]
+fn std_sink_writes_each_byte_of_a_piece(rt: HostRuntime) {
+    assert!(rt; narrow_puts_hold(rt.alloc()));
+}
+
+#[test]
+fn a_free_gate_holds_nobody(_rt: HostRuntime) {
     passes(&FreeGate);
 }
 

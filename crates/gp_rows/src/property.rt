@@ -1,15 +1,33 @@
-use crate::{Property, PropertyFault, print_property, read_properties};
+// How properties are read and printed.
+use gp_property::{Property, PropertyFault, print_property, read_properties};
 use gp_text::TextFault;
 use std::alloc::{AllocError, Global};
 use std::test::Fail;
 
-// The properties printed one after another.
+/// The properties printed one after another.
 fn printed(alloc: Global, properties: &[Property]) -> Result<Vec<u8>, AllocError> {
     let mut text = Vec::new(alloc);
     for property in properties {
         text.extend_from_slice(print_property(alloc, property)?.as_slice())?;
     }
     Ok(text)
+}
+
+/// Whether a text is read as properties that are printed as told.
+fn is_printed(alloc: Global, text: &[u8], told: &[u8]) -> Result<bool, Fail> {
+    if text.len() > 1000 {
+        return Ok(false);
+    }
+    let properties = read_properties(alloc, text)?;
+    Ok(printed(alloc, properties.as_slice())?.as_slice() == told)
+}
+
+fn texts_are_printed(alloc: Global, texts: &[&[u8]]) -> Result<bool, Fail> {
+    let mut hold = true;
+    for text in texts {
+        hold &= is_printed(alloc, text, text)?;
+    }
+    Ok(hold)
 }
 
 #[test]
@@ -25,31 +43,25 @@ fn properties_are_printed_as_they_are_read(rt: HostRuntime) -> Result<(), Fail> 
         b"property all\nevent a read * -9223372036854775808\nevent b write $v 7\nevent c acquire $l\nevent d release l\nevent e start 4294967295\nevent f start *\nevent g join 0\nevent h join *\nevent i op o a $b * d\nevent j begin $r\nevent k end *\npattern a@t || b@u || c@v || d@w j@t<9 k@t>9\n",
         b"property two\nevent b begin *\nevent e end *\npattern b@s<2 b@t<1 e@s>2 e@t>1\n",
     ];
-    for text in texts {
-        assert!(rt; text.len() < 1000);
-        let properties = read_properties(rt.alloc(), text)?;
-        assert_eq!(rt;
-            printed(rt.alloc(), properties.as_slice())?.as_slice(),
-            text
-        );
-    }
+    assert!(rt; texts_are_printed(rt.alloc(), &texts)?);
     Ok(())
 }
 
 #[test]
 fn spaces_and_comments_are_passed_over(rt: HostRuntime) -> Result<(), Fail> {
     let text = b"# of two\n\n  property  done \n\nevent d op done\n # the pattern\npattern   d@t\n";
-    let properties = read_properties(rt.alloc(), text)?;
     let told = b"property done\nevent d op done\npattern d@t\n";
-    assert_eq!(rt;
-        printed(rt.alloc(), properties.as_slice())?.as_slice(),
-        told.as_slice()
-    );
+    assert!(rt; is_printed(rt.alloc(), text, told)?);
     Ok(())
 }
 
+/// Whether a text is refused so, or read.
+fn is_told(alloc: Global, text: &[u8], fault: Option<PropertyFault>) -> bool {
+    text.len() < 10_000 && read_properties(alloc, text).err() == fault
+}
+
 #[test]
-fn the_first_broken_rule_is_told(rt: HostRuntime) -> Result<(), Fail> {
+fn the_first_broken_rule_is_told(rt: HostRuntime) {
     let rows: [(&[u8], PropertyFault); 43] = [
         (b"", PropertyFault::Empty(1)),
         (b"# none\n\n", PropertyFault::Empty(3)),
@@ -185,14 +197,13 @@ fn the_first_broken_rule_is_told(rt: HostRuntime) -> Result<(), Fail> {
             PropertyFault::RegionUse(4),
         ),
     ];
-    for (text, fault) in rows {
-        assert!(rt; text.len() < 1000);
-        assert_eq!(rt; read_properties(rt.alloc(), text).err(), Some(fault));
-    }
-    Ok(())
+    assert!(rt;
+        rows.iter()
+            .all(|(text, fault)| is_told(rt.alloc(), text, Some(*fault)))
+    );
 }
 
-// A property of so many events, named by a letter each.
+/// A property of so many events, named by a letter each.
 fn with_events(alloc: Global, events: u8) -> Result<Vec<u8>, AllocError> {
     let mut text = Vec::from_slice(alloc, b"property p\n")?;
     for letter in b"abcdefghijklmnopqrstuvwxyz"
@@ -207,7 +218,7 @@ fn with_events(alloc: Global, events: u8) -> Result<Vec<u8>, AllocError> {
     Ok(text)
 }
 
-// So many properties, each named by two letters.
+/// So many properties, each named by two letters.
 fn with_properties(alloc: Global, rows: &[u8], columns: &[u8]) -> Result<Vec<u8>, AllocError> {
     let mut text = Vec::new(alloc);
     for row in rows {
@@ -221,22 +232,30 @@ fn with_properties(alloc: Global, rows: &[u8], columns: &[u8]) -> Result<Vec<u8>
     Ok(text)
 }
 
+fn limits_hold(alloc: Global) -> Result<bool, AllocError> {
+    let sixteen = with_events(alloc, 16)?;
+    let seventeen = with_events(alloc, 17)?;
+    let all = with_properties(alloc, b"abcdefgh", b"abcdefgh")?;
+    let mut one_more = with_properties(alloc, b"abcdefgh", b"abcdefgh")?;
+    one_more.extend_from_slice(b"property aa\n")?;
+    Ok(
+        is_told(alloc, sixteen.as_slice(), None)
+            && is_told(
+                alloc,
+                seventeen.as_slice(),
+                Some(PropertyFault::BadWord(18)),
+            )
+            && is_told(alloc, all.as_slice(), None)
+            && is_told(
+                alloc,
+                one_more.as_slice(),
+                Some(PropertyFault::BadWord(193)),
+            ),
+    )
+}
+
 #[test]
 fn limits_are_kept(rt: HostRuntime) -> Result<(), Fail> {
-    let sixteen = with_events(rt.alloc(), 16)?;
-    let seventeen = with_events(rt.alloc(), 17)?;
-    let all = with_properties(rt.alloc(), b"abcdefgh", b"abcdefgh")?;
-    let mut one_more = with_properties(rt.alloc(), b"abcdefgh", b"abcdefgh")?;
-    one_more.extend_from_slice(b"property aa\n")?;
-    let rows: [(&[u8], Option<PropertyFault>); 4] = [
-        (sixteen.as_slice(), None),
-        (seventeen.as_slice(), Some(PropertyFault::BadWord(18))),
-        (all.as_slice(), None),
-        (one_more.as_slice(), Some(PropertyFault::BadWord(193))),
-    ];
-    for (text, fault) in rows {
-        assert!(rt; text.len() < 10_000);
-        assert_eq!(rt; read_properties(rt.alloc(), text).err(), fault);
-    }
+    assert!(rt; limits_hold(rt.alloc())?);
     Ok(())
 }

@@ -1,21 +1,20 @@
-use crate::{
+// What texts, numbers and names are read as.
+use gp_text::{
     Line, Lines, Name, TextFault, Words, check_text, end_line, print_i64, print_u64, read_i64,
     read_lines, read_u32, read_u64,
 };
 use std::alloc::{AllocError, Global};
 use std::test::Fail;
 
-// A text of one line of this many letters, with its newline.
+/// A text of one line of this many letters, with its newline.
 fn line_of(alloc: Global, letters: usize) -> Result<Vec<u8>, AllocError> {
     let mut text = Vec::new(alloc);
-    for _ in 0..letters {
-        text.push(b'a')?;
-    }
+    text.resize(letters, b'a')?;
     text.push(b'\n')?;
     Ok(text)
 }
 
-// Each line as its number and its words, one space before each word.
+/// Each line as its number and its words, one space before each word.
 fn shown(alloc: Global, lines: &[Line]) -> Result<Vec<u8>, AllocError> {
     let mut text = Vec::new(alloc);
     for line in lines {
@@ -29,7 +28,7 @@ fn shown(alloc: Global, lines: &[Line]) -> Result<Vec<u8>, AllocError> {
     Ok(text)
 }
 
-// Whether a text is read as these lines.
+/// Whether a text is read as these lines.
 fn is_read(alloc: Global, text: &[u8], told: &[u8]) -> Result<bool, Fail> {
     if text.len() >= 100 {
         return Ok(false);
@@ -38,7 +37,7 @@ fn is_read(alloc: Global, text: &[u8], told: &[u8]) -> Result<bool, Fail> {
     Ok(shown(alloc, lines.as_slice())?.as_slice() == told)
 }
 
-// Whether a walk over a text gives `read x -1` in line 3, one word in line 6, and nothing more.
+/// Whether a walk over a text gives `read x -1` in line 3, one word in line 6, and nothing more.
 fn is_walked(text: &[u8]) -> bool {
     if text.len() >= 100 {
         return false;
@@ -58,7 +57,7 @@ fn is_walked(text: &[u8]) -> bool {
         && end_line(text) == 7
 }
 
-// Whether the words are `read x -1`.
+/// Whether the words are `read x -1`.
 fn are_read_x(words: Words) -> bool {
     let mut words = words;
     words.next() == Some(b"read".as_slice())
@@ -67,25 +66,30 @@ fn are_read_x(words: Words) -> bool {
         && words.is_empty()
 }
 
-// Whether this fault is told of a text.
+/// Whether this fault is told of a text.
 fn is_told(text: &[u8], fault: Option<TextFault>) -> bool {
     text.len() < 10_000 && check_text(text).err() == fault
 }
 
-#[test]
-fn texts_are_read(rt: HostRuntime) -> Result<(), Fail> {
-    let rows: [(&[u8], &[u8]); 4] = [
-        (b"", b""),
+fn rows_are_read(alloc: Global) -> Result<bool, Fail> {
+    let mut hold = true;
+    for (text, told) in [
+        (b"".as_slice(), b"".as_slice()),
         (b"\n", b""),
         (
             b"# a b\n\n  read  x   -1 \n   \n #\nexit\n",
             b"3 read x -1\n6 exit\n",
         ),
         (b"!~ #\n", b"1 !~ #\n"),
-    ];
-    for (text, told) in rows {
-        assert!(rt; is_read(rt.alloc(), text, told)?);
+    ] {
+        hold &= is_read(alloc, text, told)?;
     }
+    Ok(hold)
+}
+
+#[test]
+fn texts_are_read(rt: HostRuntime) -> Result<(), Fail> {
+    assert!(rt; rows_are_read(rt.alloc())?);
     Ok(())
 }
 
@@ -94,11 +98,10 @@ fn texts_are_walked(rt: HostRuntime) {
     assert!(rt; is_walked(b"# a b\n\n  read  x   -1 \n   \n #\nexit\n"));
 }
 
-#[test]
-fn faults_are_told(rt: HostRuntime) -> Result<(), Fail> {
-    let mut long = line_of(rt.alloc(), 4097)?;
-    let whole = line_of(rt.alloc(), 4096)?;
+fn faults_hold(alloc: Global) -> Result<bool, AllocError> {
+    let mut long = line_of(alloc, 4097)?;
     long.extend_from_slice(b"\x7f\n")?;
+    let whole = line_of(alloc, 4096)?;
     let rows: [(&[u8], Option<TextFault>); 8] = [
         (b"a\n\x1f\n", Some(TextFault::NotAscii(2))),
         (b"\x7f\n", Some(TextFault::NotAscii(1))),
@@ -109,32 +112,26 @@ fn faults_are_told(rt: HostRuntime) -> Result<(), Fail> {
         (long.as_slice(), Some(TextFault::LongLine(1))),
         (whole.as_slice(), None),
     ];
-    for (text, fault) in rows {
-        assert!(rt; is_told(text, fault));
-    }
+    Ok(rows.iter().all(|(text, fault)| is_told(text, *fault)))
+}
+
+#[test]
+fn faults_are_told(rt: HostRuntime) -> Result<(), Fail> {
+    assert!(rt; faults_hold(rt.alloc())?);
     Ok(())
 }
 
-// Whether a text is these numbers.
-fn are_numbers(
-    text: &[u8],
-    unsigned: Option<u64>,
-    signed: Option<i64>,
-    small: Option<u32>,
-) -> bool {
-    read_u64(text) == unsigned && read_i64(text) == signed && read_u32(text) == small
-}
+/// A text, and what it is as an unsigned number, as a signed one, and as one of 32 bits.
+type Spelled<'a> = (&'a [u8], Option<u64>, Option<i64>, Option<u32>);
 
-// Whether names are ordered by their bytes, the shorter first.
-fn are_in_order() -> bool {
-    Name::of(b"ab") < Name::of(b"abc")
-        && Name::of(b"ab_") < Name::of(b"aba")
-        && Name::of(b"a9") < Name::of(b"aa")
+fn is_spelled(row: &Spelled) -> bool {
+    let (text, unsigned, signed, small) = *row;
+    read_u64(text) == unsigned && read_i64(text) == signed && read_u32(text) == small
 }
 
 #[test]
 fn numbers_are_read(rt: HostRuntime) {
-    let rows: [(&[u8], Option<u64>, Option<i64>, Option<u32>); 20] = [
+    let rows: [Spelled; 20] = [
         (b"0", Some(0), Some(0), Some(0)),
         (b"00", None, None, None),
         (b"01", None, None, None),
@@ -181,21 +178,30 @@ fn numbers_are_read(rt: HostRuntime) {
         ),
         (b"18446744073709551616", None, None, None),
     ];
-    for (text, unsigned, signed, small) in rows {
-        assert!(rt; are_numbers(text, unsigned, signed, small));
-    }
+    assert!(rt; rows.iter().all(|row| is_spelled(row)));
 }
 
-#[test]
-fn numbers_are_printed(rt: HostRuntime) -> Result<(), Fail> {
-    let mut printed = Vec::new(rt.alloc());
+fn numbers(alloc: Global) -> Result<Vec<u8>, AllocError> {
+    let mut printed = Vec::new(alloc);
     print_u64(&mut printed, 0)?;
     print_u64(&mut printed, 18446744073709551615)?;
     print_i64(&mut printed, -9223372036854775808)?;
     print_i64(&mut printed, 70)?;
+    Ok(printed)
+}
+
+#[test]
+fn numbers_are_printed(rt: HostRuntime) -> Result<(), Fail> {
     let told = b"018446744073709551615-922337203685477580870";
-    assert_eq!(rt; printed.as_slice(), told.as_slice());
+    assert!(rt; numbers(rt.alloc())?.as_slice() == told.as_slice());
     Ok(())
+}
+
+/// Whether names are ordered by their bytes, the shorter first.
+fn are_in_order() -> bool {
+    Name::of(b"ab") < Name::of(b"abc")
+        && Name::of(b"ab_") < Name::of(b"aba")
+        && Name::of(b"a9") < Name::of(b"aa")
 }
 
 #[test]
@@ -211,8 +217,10 @@ fn names_are_told(rt: HostRuntime) {
         (b"aaaaaaaabbbbbbbbccccccccdddddddd", true),
         (b"aaaaaaaabbbbbbbbccccccccdddddddde", false),
     ];
-    for (bytes, is_name) in rows {
-        assert_eq!(rt; Name::of(bytes).is_some(), is_name);
-    }
-    assert!(rt; are_in_order());
+    assert!(rt;
+        are_in_order()
+            && rows
+                .iter()
+                .all(|(bytes, is_name)| Name::of(bytes).is_some() == *is_name)
+    );
 }

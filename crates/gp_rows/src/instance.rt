@@ -1,10 +1,11 @@
-use crate::{Instance, InstancesFault, instances, is_one_for_each, matches};
-use gp_outside::MemoryFolder;
+// Which instances a property has in a window, and which schedules match one.
+use crate::numbered::window_numbered;
+use crate::recorded::pair_of;
+use gp_instance::{Instance, InstancesFault, instances, is_one_for_each, matches};
 use gp_property::{Property, read_properties};
 use gp_text::Row;
-use gp_window::{EventId, Schedule, Window, cut, read_recording};
+use gp_window::{EventId, Schedule, put_event_id};
 use std::alloc::{AllocError, Global};
-use std::process::Abort;
 use std::test::Fail;
 use std::thread::Threads;
 
@@ -29,69 +30,67 @@ const DONE: &str = "property done\nevent d op done\npattern d@t\n";
 
 const TWO_A: &str = "property two\nevent a op a\npattern a@t a@u\n";
 
-/// The last window of a recording with these files.
-fn window_of<R: Threads + Sync + Abort>(
+/// The manifest and the two traces of a recording.
+type Recorded<'a> = (&'a str, &'a str, &'a str);
+
+/// The instances, each as property 7, of the one property of a text in the last window.
+fn found<R: AllocGlobal + Threads + Sync>(
     rt: &R,
-    alloc: Global,
-    manifest: &str,
-    first: &str,
-    second: &str,
-) -> Result<Window, Fail> {
-    let mut files = Vec::new(alloc);
-    for (name, text) in [
-        ("d/manifest", manifest),
-        ("d/t1.trace", first),
-        ("d/t2.trace", second),
-    ] {
-        let bytes = Vec::from_slice(alloc, text.as_bytes())?;
-        files.push((String::from_str(alloc, name)?, bytes))?;
+    recorded: Recorded,
+    property: &str,
+) -> Result<Result<Row<Instance>, InstancesFault>, Fail> {
+    let alloc = rt.alloc();
+    let (manifest, first, second) = recorded;
+    let recording = pair_of(rt, manifest, first, second)?;
+    let window = window_numbered(alloc, &recording, recording.manifest().epochs())?;
+    let properties = properties_of(alloc, property)?;
+    match (&window, properties.as_slice()) {
+        (Some(window), [property]) => Ok(instances(alloc, window, property, 7)),
+        _ => Err(Fail::new("there is no window, or not one property")),
     }
-    let mut folder = MemoryFolder::new(files, Vec::new(alloc));
-    let recording = read_recording(rt, alloc, &mut folder, "d")?;
-    let epochs = recording.manifest().epochs();
-    assert!(rt; epochs >= 1);
-    Ok(cut(alloc, &recording, epochs)?)
 }
 
 /// The properties of a text.
-fn properties_of(rt: &impl Abort, alloc: Global, text: &str) -> Result<Row<Property>, Fail> {
-    assert!(rt; text.len() < 1000);
+fn properties_of(alloc: Global, text: &str) -> Result<Row<Property>, Fail> {
+    if text.len() > 1000 {
+        return Ok(Row::new(alloc));
+    }
     Ok(read_properties(alloc, text.as_bytes())?)
 }
 
-/// The events of instances, each followed by a space, and a line for each instance.
-fn told(alloc: Global, instances: &[Instance]) -> Result<String, Fail> {
-    let mut text = String::new(alloc);
+/// The events of instances of property 7, each followed by a space, and a line for each instance.
+fn told(alloc: Global, instances: &[Instance]) -> Result<Vec<u8>, AllocError> {
+    let mut text = Vec::new(alloc);
     for instance in instances {
-        for id in instance.events.as_slice() {
-            let (thread, index) = (id.thread, id.index);
-            text.push_str(format!(in alloc; "{thread}.{index} ")?.as_str())?;
+        if instance.property == 7 {
+            put_ids(&mut text, instance.events.as_slice())?;
         }
-        text.push_str("\n")?;
+        text.push(b'\n')?;
     }
     Ok(text)
 }
 
-/// The instances of the one property of a text in a window.
-fn listed<R: Threads + Sync + Abort>(
-    rt: &R,
-    alloc: Global,
-    files: (&str, &str, &str),
-    property: &str,
-) -> Result<String, Fail> {
-    let window = window_of(rt, alloc, files.0, files.1, files.2)?;
-    let properties = properties_of(rt, alloc, property)?;
-    assert_eq!(rt; properties.len(), 1);
-    let found = instances(alloc, &window, &properties.as_slice()[0], 7)?;
-    for instance in found.as_slice() {
-        assert_eq!(rt; instance.property, 7);
+fn put_ids(text: &mut Vec<u8>, ids: &[EventId]) -> Result<(), AllocError> {
+    for id in ids {
+        put_event_id(text, *id)?;
+        text.push(b' ')?;
     }
-    told(alloc, found.as_slice())
+    Ok(())
 }
 
-#[test]
-fn instances_are_listed(rt: HostRuntime) -> Result<(), Fail> {
-    let rows: [((&str, &str, &str), &str, &str); 18] = [
+/// Whether the instances are these.
+fn lists<R: AllocGlobal + Threads + Sync>(
+    rt: &R,
+    recorded: Recorded,
+    property: &str,
+    due: &str,
+) -> Result<bool, Fail> {
+    let found = found(rt, recorded, property)??;
+    Ok(told(rt.alloc(), found.as_slice())?.as_slice() == due.as_bytes())
+}
+
+fn instances_hold<R: AllocGlobal + Threads + Sync>(rt: &R) -> Result<bool, Fail> {
+    let rows: [(Recorded, &str, &str); 18] = [
         (
             (ONE_ROOT, "start 2\nop auth r\n", "op use r\n"),
             AUTH,
@@ -199,9 +198,16 @@ fn instances_are_listed(rt: HostRuntime) -> Result<(), Fail> {
             "1.0 \n",
         ),
     ];
-    for (files, property, text) in rows {
-        assert_eq!(rt; listed(&rt, rt.alloc(), files, property)?.as_str(), text);
+    let mut hold = true;
+    for (recorded, property, text) in rows {
+        hold &= lists(rt, recorded, property, text)?;
     }
+    Ok(hold)
+}
+
+#[test]
+fn instances_are_listed(rt: HostRuntime) -> Result<(), Fail> {
+    assert!(rt; instances_hold(&rt)?);
     Ok(())
 }
 
@@ -214,51 +220,45 @@ fn repeated(alloc: Global, count: u32, line: &str) -> Result<String, AllocError>
     Ok(text)
 }
 
-/// How many instances of a property there are, where the threads have so many lines of these kinds.
-fn count_of<R: Threads + Sync + Abort>(
+/// Whether there are so many instances, where the threads have so many lines of these kinds.
+fn counts<R: AllocGlobal + Threads + Sync>(
     rt: &R,
-    alloc: Global,
     first: (u32, &str),
     second: (u32, &str),
     property: &str,
-) -> Result<Result<usize, InstancesFault>, Fail> {
-    let first = repeated(alloc, first.0, first.1)?;
-    let second = repeated(alloc, second.0, second.1)?;
-    let window = window_of(rt, alloc, TWO_ROOTS, first.as_str(), second.as_str())?;
-    let properties = properties_of(rt, alloc, property)?;
-    assert_eq!(rt; properties.len(), 1);
-    Ok(instances(alloc, &window, &properties.as_slice()[0], 0).map(|found| found.len()))
+    due: Result<usize, InstancesFault>,
+) -> Result<bool, Fail> {
+    let first = repeated(rt.alloc(), first.0, first.1)?;
+    let second = repeated(rt.alloc(), second.0, second.1)?;
+    let found = found(rt, (TWO_ROOTS, first.as_str(), second.as_str()), property)?;
+    Ok(found.map(|found| found.len()) == due)
+}
+
+fn counts_hold<R: AllocGlobal + Threads + Sync>(rt: &R) -> Result<bool, Fail> {
+    let pairs = "property p\nevent a op a\nevent b op b\npattern a@t b@u\n";
+    let too_many = Err(InstancesFault::TooMany);
+    Ok(
+        counts(rt, (100, "op a\n"), (100, "op b\n"), pairs, Ok(10_000))?
+            && counts(rt, (101, "op a\n"), (100, "op b\n"), pairs, too_many)?,
+    )
 }
 
 #[test]
 fn too_many_instances_are_not_listed(rt: HostRuntime) -> Result<(), Fail> {
-    let pairs = "property p\nevent a op a\nevent b op b\npattern a@t b@u\n";
-    for (ones, due) in [
-        (100u32, Ok(10_000usize)),
-        (101, Err(InstancesFault::TooMany)),
-    ] {
-        let found = count_of(&rt, rt.alloc(), (ones, "op a\n"), (100, "op b\n"), pairs)?;
-        assert_eq!(rt; found, due);
-    }
+    assert!(rt; counts_hold(&rt)?);
     Ok(())
+}
+
+fn dead_ends_hold<R: AllocGlobal + Threads + Sync>(rt: &R) -> Result<bool, Fail> {
+    let none = "property none\nevent a op a *\nevent c op c\npattern a@t a@t a@t a@u a@u c@u\n";
+    let three = "property three\nevent a op a *\npattern a@t a@t a@u a@u a@u a@v\n";
+    let lines = (400, "op a x\n");
+    Ok(counts(rt, lines, lines, none, Ok(0))? && counts(rt, lines, lines, three, Ok(0))?)
 }
 
 #[test]
 fn dead_ends_are_cut(rt: HostRuntime) -> Result<(), Fail> {
-    for property in [
-        "property none\nevent a op a *\nevent c op c\npattern a@t a@t a@t a@u a@u c@u\n",
-        "property three\nevent a op a *\npattern a@t a@t a@u a@u a@u a@v\n",
-    ] {
-        assert!(rt; property.len() < 1000);
-        let found = count_of(
-            &rt,
-            rt.alloc(),
-            (400, "op a x\n"),
-            (400, "op a x\n"),
-            property,
-        )?;
-        assert_eq!(rt; found, Ok(0));
-    }
+    assert!(rt; dead_ends_hold(&rt)?);
     Ok(())
 }
 
@@ -274,16 +274,13 @@ fn ids_of(alloc: Global, events: &[(u32, u32)]) -> Result<Row<EventId>, AllocErr
     Ok(ids)
 }
 
-/// Whether a schedule matches the events of an instance of `pattern a@t a@u || a@v a@w`.
+/// Whether a schedule matches the events of an instance of a property, where there is one for each atom.
 fn matched(
-    rt: &impl Abort,
     alloc: Global,
+    property: &Property,
     events: &[(u32, u32)],
     schedule: &[(u32, u32)],
-) -> Result<bool, Fail> {
-    let text = "property p\nevent a op a\npattern a@t a@u || a@v a@w\n";
-    let properties = properties_of(rt, alloc, text)?;
-    assert_eq!(rt; properties.len(), 1);
+) -> Result<Option<bool>, AllocError> {
     let instance = Instance {
         property: 0,
         events: ids_of(alloc, events)?,
@@ -291,13 +288,13 @@ fn matched(
     let schedule = Schedule {
         events: ids_of(alloc, schedule)?,
     };
-    let property = &properties.as_slice()[0];
-    assert!(rt; is_one_for_each(property, &instance));
-    Ok(matches(property, &instance, &schedule))
+    if !is_one_for_each(property, &instance) {
+        return Ok(None);
+    }
+    Ok(Some(matches(property, &instance, &schedule)))
 }
 
-#[test]
-fn schedules_match_or_not(rt: HostRuntime) -> Result<(), Fail> {
+fn matches_hold(alloc: Global, property: &Property) -> Result<bool, AllocError> {
     let events = [(1u32, 0u32), (2, 0), (3, 0), (4, 0)];
     let rows: [(&[(u32, u32)], bool); 8] = [
         (&[(1, 0), (2, 0), (3, 0), (4, 0)], true),
@@ -309,8 +306,24 @@ fn schedules_match_or_not(rt: HostRuntime) -> Result<(), Fail> {
         (&[(1, 0), (2, 0), (4, 0), (3, 0)], false),
         (&[(1, 0), (2, 0), (3, 0)], false),
     ];
+    let mut hold = true;
     for (schedule, due) in rows {
-        assert_eq!(rt; matched(&rt, rt.alloc(), &events, schedule)?, due);
+        hold &= matched(alloc, property, &events, schedule)? == Some(due);
     }
+    Ok(hold)
+}
+
+fn pattern_matches(alloc: Global) -> Result<bool, Fail> {
+    let text = "property p\nevent a op a\npattern a@t a@u || a@v a@w\n";
+    let properties = properties_of(alloc, text)?;
+    match properties.as_slice() {
+        [property] => Ok(matches_hold(alloc, property)?),
+        _ => Ok(false),
+    }
+}
+
+#[test]
+fn schedules_match_or_not(rt: HostRuntime) -> Result<(), Fail> {
+    assert!(rt; pattern_matches(rt.alloc())?);
     Ok(())
 }

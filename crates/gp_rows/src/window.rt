@@ -1,0 +1,139 @@
+// Windows of recordings: what they begin with, which recordings have none, and a walk over them.
+use crate::numbered::window_numbered;
+use crate::recorded::{pair_of, recording_of};
+use gp_text::Name;
+use gp_window::{Recording, RecordingFault, Window, WindowWalk};
+use std::alloc::{AllocError, Global};
+use std::test::Fail;
+use std::thread::Threads;
+
+/// A recording of four threads in three windows.
+const FOUR: [(&str, &str); 5] = [
+    (
+        "manifest",
+        "gptrace 1\nthreads 4\nepochs 3\nroots 1 3\nvalue 3 z 0\nvalue 2 y -7\nvalue 1 z 5\nvalue 3 a 2\n",
+    ),
+    (
+        "t1.trace",
+        "start 4\nacquire m\nmark\nread y -7\nmark\nstart 2\n",
+    ),
+    ("t2.trace", "mark\nmark\nop f a\n"),
+    ("t3.trace", "acquire b\nmark\nexit\nmark\n"),
+    ("t4.trace", "exit\nmark\nmark\n"),
+];
+
+/// Whether the entry at a place has this name and this value.
+fn has<V: PartialEq>(entries: &[(Name, V)], place: usize, name: &str, value: &V) -> bool {
+    match entries.get(place) {
+        Some((found, kept)) => found.as_bytes() == name.as_bytes() && kept == value,
+        None => false,
+    }
+}
+
+/// Whether this is the first window of that recording.
+fn is_first(window: &Window) -> bool {
+    window.number() == 1
+        && window.start_values().len() == 1
+        && has(window.start_values(), 0, "z", &5)
+        && window.holders().is_empty()
+        && window.started() == [1u32, 3].as_slice()
+        && window.exited() == [4u32].as_slice()
+}
+
+/// Whether this is the third window of that recording.
+fn is_third(window: &Window) -> bool {
+    window.number() == 3
+        && window.segments().len() == 4
+        && window.start_values().len() == 2
+        && has(window.start_values(), 0, "a", &2)
+        && has(window.start_values(), 1, "y", &-7)
+        && window.holders().len() == 2
+        && has(window.holders(), 0, "b", &3)
+        && has(window.holders(), 1, "m", &1)
+        && window.started() == [1u32, 3, 4].as_slice()
+        && window.exited() == [3u32, 4].as_slice()
+}
+
+fn windows_hold<R: AllocGlobal + Threads + Sync>(rt: &R) -> Result<bool, Fail> {
+    let recording = recording_of(rt, &FOUR)?;
+    let first = window_numbered(rt.alloc(), &recording, 1)?;
+    let third = window_numbered(rt.alloc(), &recording, 3)?;
+    let fourth = window_numbered(rt.alloc(), &recording, 4)?;
+    Ok(match (&first, &third) {
+        (Some(first), Some(third)) => is_first(first) && is_third(third) && fourth.is_none(),
+        _ => false,
+    })
+}
+
+#[test]
+fn windows_are_cut(rt: HostRuntime) -> Result<(), Fail> {
+    assert!(rt; windows_hold(&rt)?);
+    Ok(())
+}
+
+/// Whether a recording was read, or refused for this lock over the mark before this window.
+fn is_due(found: &Result<Recording, RecordingFault>, due: Option<(&str, u32)>) -> bool {
+    match found {
+        Ok(_) => due.is_none(),
+        Err(RecordingFault::TwoHolders(lock, window)) => match due {
+            Some((name, k)) => lock.as_bytes() == name.as_bytes() && *window == k,
+            None => false,
+        },
+        Err(_) => false,
+    }
+}
+
+fn marks_hold<R: AllocGlobal + Threads + Sync>(rt: &R) -> bool {
+    let manifest = "gptrace 2\nthreads 2\nepochs 3\nroots 1 2\n";
+    let rows = [
+        (
+            "racquire m\nmark\nmark\n",
+            "racquire m\nmark\nmark\nrrelease m\n",
+            None,
+        ),
+        (
+            "mark\nacquire b\nacquire a\nmark\n",
+            "racquire c\nmark\nracquire b\nracquire a\nmark\n",
+            Some(("a", 3)),
+        ),
+    ];
+    rows.iter().all(|(first, second, due)| is_due(&pair_of(rt, manifest, first, second), *due))
+}
+
+#[test]
+fn contested_locks_are_refused(rt: HostRuntime) {
+    assert!(rt; marks_hold(&rt));
+}
+
+/// Whether two windows are the same, apart from their events.
+fn are_alike(one: &Window, other: &Window) -> bool {
+    one.number() == other.number()
+        && one.start_values() == other.start_values()
+        && one.holders() == other.holders()
+        && one.readers() == other.readers()
+        && one.started() == other.started()
+        && one.exited() == other.exited()
+}
+
+/// Whether a walk gives the third window as `cut` does.
+fn agrees_with_cut(alloc: Global, recording: &Recording) -> Result<bool, AllocError> {
+    let first = WindowWalk::new(alloc, recording)?;
+    let Some(second) = first.advance()? else {
+        return Ok(false);
+    };
+    let Some(third) = second.advance()? else {
+        return Ok(false);
+    };
+    let walked = third.window(alloc)?;
+    Ok(match window_numbered(alloc, recording, 3)? {
+        Some(alone) => walked.number() == 3 && are_alike(&walked, &alone),
+        None => false,
+    })
+}
+
+#[test]
+fn a_walk_gives_what_is_cut(rt: HostRuntime) -> Result<(), Fail> {
+    let recording = recording_of(&rt, &FOUR)?;
+    assert!(rt; agrees_with_cut(rt.alloc(), &recording)?);
+    Ok(())
+}

@@ -1,4 +1,10 @@
-use crate::fixture::{Rows, are_lits, is_asked, is_valid, lits_of, problem_of, query_of};
+ghost use Rattle.std.specs.Prelude.{All, IsTrue};
+ghost use Rattle.gp_clause.specs.Clause.{NamesBelow};
+ghost use Rattle.gp_derivation.specs.Certificate.{clauses_of};
+
+use crate::fixture::{
+    Rows, are_lits, are_named, is_asked, is_valid, lits_of, problem_of, query_of,
+};
 use gp_clause::{Clause, Edge, Kind, Row};
 use gp_derivation::{
     Certificate, LogEntry, Origin, Step, can_be_numbered, check_certificate, check_shared, cone,
@@ -222,6 +228,17 @@ fn all_steps(alloc: Global, rows: Steps) -> Result<Row<Step>, Fail> {
     Ok(all)
 }
 
+fn are_within(variables: usize, steps: &[Step]) -> bool
+    ensures { IsTrue result → All (NamesBelow variables) (clauses_of steps.now) }
+{
+    for step in steps {
+        if !are_named(variables, step.clause.lits()) {
+            return false;
+        }
+    }
+    true
+}
+
 // Whether each own step passes over the shared ones, with these locals.
 fn passes(
     rt: &impl Abort,
@@ -236,6 +253,7 @@ fn passes(
     assert!(rt; is_valid(&problem));
     assert!(rt; is_asked(&problem, &query));
     let shared = all_steps(alloc, shared)?;
+    assert!(rt; are_within(problem.kinds.len() + query.locals.len(), shared.as_slice()));
     let certificate = Certificate {
         steps: all_steps(alloc, own)?,
     };

@@ -343,7 +343,7 @@ is_allowed window t done id state (Write variable value) h there = refl
 is_allowed window t done id state (Release lock) h there = refl
 is_allowed window t done id state (RRelease lock) h there = refl
 is_allowed window t done id state (Start thread) h there = refl
-is_allowed window t done id state (Op name objects) h there = refl
+is_allowed window t done id state (Op operation) h there = refl
 is_allowed window t done id state (Begin region) h there = refl
 is_allowed window t done id state (End region) h there = refl
 

@@ -74,7 +74,7 @@ more_started (Release lock) started thread e = e
 more_started (RAcquire lock) started thread e = e
 more_started (RRelease lock) started thread e = e
 more_started (Join other) started thread e = e
-more_started (Op name objects) started thread e = e
+more_started (Op operation) started thread e = e
 more_started (Begin region) started thread e = e
 more_started (End region) started thread e = e
 

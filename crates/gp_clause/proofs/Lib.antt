@@ -5,3 +5,4 @@ pub mod Written
 pub mod Truth
 pub mod Deriving
 pub mod Least
+pub mod Counting

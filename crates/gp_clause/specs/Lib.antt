@@ -1,6 +1,7 @@
 pub mod Lit
 pub mod LitLaws
 pub mod Clause
+pub mod Counting
 pub mod Edge
 pub mod Kind
 pub mod Problem

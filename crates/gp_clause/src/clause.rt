@@ -3,6 +3,7 @@ ghost use Rattle.std.specs.List.{IsAllAdjacentAnswer};
 ghost use Rattle.std.specs.Cmp.Lexicographic.{pointwise};
 ghost use Rattle.gp_clause.specs.Lit.{lit_eq};
 ghost use Rattle.gp_clause.specs.Clause.{IsRising, NamesTwice, TrueOrFalse};
+ghost use Rattle.gp_clause.specs.Counting.{ClausesAreFew};
 
 use crate::lit::Lit;
 use std::alloc::AllocError;
@@ -112,6 +113,12 @@ impl Eq for Clause {
 /// A law: either a clause is true, or the negation of each of its literals is.
 pub fn true_or_false()
     ensures { TrueOrFalse }
+{}
+
+/// A law: clauses over some variables, none of them empty and no two the same, are fewer than three to the power of the
+/// number of variables.
+pub fn clauses_are_few()
+    ensures { ClausesAreFew }
 {}
 
 // Whether each variable is less than the next.

@@ -1,8 +1,7 @@
 -- Bounds of literals beside fixed edges, and negative cycles among more edges.
-use Rattle.std.proofs.Common.{◌≡◌, ℕ, ℤ, pos, negsuc, ◌+◌, ◌+ℤ◌, ◌≤ℤ◌, ◌<◌, ◌≤◌, zero, suc, Bool, true, false, Option, None, Some, List, [], ◌∷◌, ◌++◌, length, map, take, get_or, All, Contains, refl, ap, sym, ◌∙◌, subst, arith}
-use Rattle.std.specs.List.{slice_get, filter_map}
+use Rattle.std.proofs.Common.{◌≡◌, ℕ, zero, suc, Bool, true, false, Option, None, Some, List, [], ◌∷◌, ◌++◌, map, All, Contains, refl, ap, ◌∙◌, subst, arith}
 use Rattle.std.proofs.lemmas.Int.{ints}
-use Rattle.std.proofs.lemmas.List.{map-append, take_more, append_assoc, append-nil}
+use Rattle.std.proofs.lemmas.List.{map-append, append-nil}
 use Rattle.std.proofs.lemmas.List.Elements.{All-contains, All-cons, All-append, All-weaker, Contains-append_left, Contains-append_right, All-contains_itself, filter_map-append}
 use Rattle.std.proofs.lemmas.Option.{same_Some, none-some}
 use Rattle.gp_clause.specs.declared.edge.Edge.{Edge}
@@ -11,11 +10,11 @@ use Rattle.gp_clause.specs.declared.kind.Kind.TheVariants.{Free, Order, Span}
 use Rattle.gp_clause.specs.declared.lit.Lit.{Lit}
 use Rattle.gp_clause.specs.Kind.{bound_of}
 use Rattle.gp_clause.specs.Problem.{IsValidKind, IsValidEdge}
-use Rattle.gp_clause.specs.Walk.{IsAmong, IsWalk, HasNegativeCycle}
+use Rattle.gp_clause.specs.Walk.{IsAmong, HasNegativeCycle}
 use Rattle.gp_difference.specs.declared.bound.Bound.{Bound}
-use Rattle.gp_difference.specs.Bounds.{edges_of, untagged, tagged}
+use Rattle.gp_difference.specs.Bounds.{edges_of, untagged}
 use Rattle.gp_difference.specs.Places.{IsEdgeOf}
-use Rattle.gp_derivation.specs.Places.{bound_in, bound_at, bounds_at}
+use Rattle.gp_derivation.specs.Places.{bound_at, bounds_at}
 use Rattle.gp_derivation.specs.ListLaws.{here, there}
 
 among_more : (edges more : List Edge) → All (Contains more) edges → (walk : List Edge) → IsAmong edges walk → IsAmong more walk

@@ -34,7 +34,7 @@ named_longer problem log more hints =
     at : (hint : ℕ) (clause : List Lit) → slice_get (logged problem log) hint ≡ Some clause → slice_get (logged problem (log ++ more)) hint ≡ Some clause
     at hint clause got = ap (λ xs. slice_get xs hint) (sym longer) ∙ got_front (logged problem log) (map (λ (entry : LogEntry). entry.step.clause) more) hint clause got
 
-origin_longer : (problem : Problem) (own : List Kind) (log more : List LogEntry) (began place : ℕ) (step : Step) (origin : Origin) → OriginPasses problem own log began place step origin → OriginPasses problem own (log ++ more) began place step origin
+pub origin_longer : (problem : Problem) (own : List Kind) (log more : List LogEntry) (began place : ℕ) (step : Step) (origin : Origin) → OriginPasses problem own log began place step origin → OriginPasses problem own (log ++ more) began place step origin
 origin_longer problem own log more began place step Learned passes = record {
   hints = passes.hints;
   usable = λ other by. at other (passes.usable other by);

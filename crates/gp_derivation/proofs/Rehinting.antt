@@ -3,7 +3,7 @@ use Rattle.std.proofs.Common.{◌≡◌, ℕ, ◌+◌, ◌-◌, ◌<◌, ◌≤�
 use Rattle.std.specs.List.{slice_get}
 use Rattle.std.proofs.lemmas.Bool.Decides.{nat_tests}
 use Rattle.std.proofs.lemmas.List.{append-nil, length-append}
-use Rattle.std.proofs.lemmas.List.Elements.{All-nil, All-map, All-push, All-weaker, All-contains, All-contains_itself, Contains-append_left, Contains-append_right, Contains-append_cases}
+use Rattle.std.proofs.lemmas.List.Elements.{All-nil, All-head, All-tail, All-map, All-push, All-weaker, All-contains, All-contains_itself, Contains-append_left, Contains-append_right, Contains-append_cases}
 use Rattle.std.proofs.lemmas.Option.{slice_get-get_or, slice_get_within}
 use Rattle.gp_clause.specs.declared.edge.Edge.{Edge}
 use Rattle.gp_clause.specs.declared.kind.Kind.{Kind}
@@ -76,6 +76,17 @@ check_wide problem locals earlier (step ∷ steps) below checks =
     let used : All (NamesBelow (length problem.kinds)) (hinted earlier step.hints) = All-weaker (Contains earlier) (NamesBelow (length problem.kinds)) (λ clause is. All-contains (NamesBelow (length problem.kinds)) earlier clause below is) (hinted earlier step.hints) (hinted_among earlier step.hints) in (
       record { hints = checks.0.hints; passes = passes_bare problem [] locals (hinted earlier step.hints) step.clause used names checks.0.passes },
       check_wide problem locals (earlier ++ step.clause ∷ []) steps (All-push (NamesBelow (length problem.kinds)) earlier step.clause below names) checks.1,
+    )
+
+-- steps that have problem variables only check whatever the other variables are
+pub check_bare : (problem : Problem) (own other : List Kind) (earlier : List (List Lit)) (steps : List Step) → All (NamesBelow (length problem.kinds)) earlier → All (NamesBelow (length problem.kinds)) (clauses_of steps)
+    → StepsCheck problem.edges (problem.kinds ++ own) earlier steps → StepsCheck problem.edges (problem.kinds ++ other) earlier steps
+check_bare problem own other earlier [] below named checks = tt
+check_bare problem own other earlier (step ∷ steps) below named checks =
+    let names : NamesBelow (length problem.kinds) step.clause = All-head (NamesBelow (length problem.kinds)) step.clause (clauses_of steps) named in
+    let used : All (NamesBelow (length problem.kinds)) (hinted earlier step.hints) = All-weaker (Contains earlier) (NamesBelow (length problem.kinds)) (λ clause is. All-contains (NamesBelow (length problem.kinds)) earlier clause below is) (hinted earlier step.hints) (hinted_among earlier step.hints) in (
+      record { hints = checks.0.hints; passes = passes_bare problem own other (hinted earlier step.hints) step.clause used names checks.0.passes },
+      check_bare problem own other (earlier ++ step.clause ∷ []) steps (All-push (NamesBelow (length problem.kinds)) earlier step.clause below names) (All-tail (NamesBelow (length problem.kinds)) step.clause (clauses_of steps) named) checks.1,
     )
 
 -- a hint to a base clause names it still, and one to a step names the step that comes so many later

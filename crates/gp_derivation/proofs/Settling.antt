@@ -1,20 +1,18 @@
 -- The loops over an assignment: taking a start, going over clauses, and taking all back.
-use Rattle.std.proofs.Common.{◌≡◌, ◌≢◌, ℕ, ◌+◌, ◌<◌, ◌≤◌, zero, suc, Bool, Option, None, Some, List, [], ◌∷◌, ◌++◌, length, map, take, get_or, set, replicate, vec_capacity, All, Contains, ◌⊎◌, inl, inr, refl, ap, sym, ◌∙◌, subst, arith}
+use Rattle.std.proofs.Common.{Vec, Global, ◌≡◌, ℕ, ◌+◌, ◌<◌, ◌≤◌, suc, Bool, Option, None, Some, List, [], ◌∷◌, ◌++◌, length, take, get_or, set, replicate, vec_capacity, All, Contains, ◌⊎◌, inl, inr, refl, ap, sym, ◌∙◌, subst, arith}
 use Rattle.std.proofs.lemmas.Bool.{cases_eq, cases_lt}
-use Rattle.std.proofs.lemmas.List.{length-set, length-map, length-take, get_or-take, get_or-map, get_or-set_same, get_or-set_other, get_or_past, get_or_default, get_or-replicate, length-replicate, take_more, take_all}
-use Rattle.std.proofs.lemmas.List.Elements.{All-nil, All-push}
+use Rattle.std.proofs.lemmas.List.{length-set, length-map, length-take, get_or-take, get_or-map, get_or-set_same, get_or-set_other, get_or_past, get_or_default}
+use Rattle.std.proofs.lemmas.List.Elements.{All-nil, All-append, All-take, All-replicate}
 use Rattle.std.proofs.lemmas.List.Sums.{sum_by-cons}
 use Rattle.gp_clause.specs.declared.lit.Lit.{Lit}
 use Rattle.gp_clause.specs.Clause.{NamesOnce, occurrences}
-use Rattle.gp_clause.specs.Closure.{Conflicts, IsTrueIn, IsFalseIn}
+use Rattle.gp_clause.specs.Closure.{IsTrueIn}
 use Rattle.gp_clause.specs.Lit.{opposite}
 use Rattle.gp_clause.specs.OccurrenceLaws.{twice_from_places}
 use Rattle.gp_derivation.specs.declared.assignment.Assignment.{Assignment}
-use Rattle.gp_derivation.specs.declared.assignment.Progress.{Progress}
-use Rattle.gp_derivation.specs.declared.assignment.Progress.TheVariants.{Refuted, Moved, Still}
-use Rattle.gp_derivation.specs.Assignment.{value_of, IsDue, IsOpen, spare, unassigned, IsKept, IsClosing, SweepGives}
+use Rattle.gp_derivation.specs.Assignment.{value_of, spare, unassigned, IsKept}
 use Rattle.gp_derivation.specs.Step.{negations}
-use Rattle.gp_derivation.proofs.Standing.{some_clash, true_within, unassigned_less, closing_more, conflicts}
+use Rattle.gp_derivation.proofs.Standing.{some_clash, true_within}
 
 -- while a start is taken, the variables to come have no value
 pub not_yet : (assignment : Assignment) (lits : List Lit) (i : ℕ) (d : Lit) → IsKept assignment → assignment.trail.items ≡ negations (take i lits) → NamesOnce lits → i < length lits
@@ -42,64 +40,6 @@ not_yet assignment lits i d kept trail once within = at (value_of assignment.val
         let P : List Lit → Type 0 = λ ls. Contains ls other in
         absurd (from other refl (subst P trail (kept.trailed other has)))
 
--- what going over the first of the clauses gives
-pub SoFar : Assignment → Assignment → List (List Lit) → Progress → Type 0
-SoFar old now seen Refuted = ⊥
-SoFar old now seen Moved = unassigned now.values.items < unassigned old.values.items
-SoFar old now seen Still = All (IsOpen now.values.items) seen
-
-pub record IsSwept (old now : Assignment) (clauses : List (List Lit)) (i : ℕ) (progress : Progress) : Type 0 where
-  pub kept : IsKept now
-  pub size : length now.values.items ≡ length old.values.items
-  pub fewer : unassigned now.values.items ≤ unassigned old.values.items
-  pub closing : (start : List Lit) → IsClosing start clauses old → IsClosing start clauses now
-  pub gives : SoFar old now (take i clauses) progress
-
-pub swept_none : (old : Assignment) (clauses : List (List Lit)) → IsKept old → IsSwept old old clauses 0 Still
-unfolding SoFar
-swept_none old clauses kept = record { kept = kept; size = refl; fewer = omega arith; closing = λ start closing. closing; gives = All-nil (IsOpen old.values.items) }
-
-pub swept_open : (old now : Assignment) (clauses : List (List Lit)) (i : ℕ) (clause : List Lit) (progress : Progress) → i < length clauses → clause ≡ get_or clauses i clause
-    → IsOpen now.values.items clause → IsSwept old now clauses i progress → IsSwept old now clauses (i + 1) progress
-unfolding SoFar
-swept_open old now clauses i clause progress within is stands swept =
-    record { kept = swept.kept; size = swept.size; fewer = swept.fewer; closing = swept.closing; gives = at progress swept.gives }
-  where
-    seen : take (i + 1) clauses ≡ take i clauses ++ clause ∷ []
-    seen = take_more clauses i clause within ∙ ap (λ c. take i clauses ++ c ∷ []) (sym is)
-
-    at : (progress : Progress) → SoFar old now (take i clauses) progress → SoFar old now (take (i + 1) clauses) progress
-    at Refuted gives = gives
-    at Moved gives = gives
-    at Still gives = let P : List (List Lit) → Type 0 = λ cs. All (IsOpen now.values.items) cs in subst P (sym seen) (All-push (IsOpen now.values.items) (take i clauses) clause gives stands)
-
-pub swept_due : (old now new : Assignment) (clauses : List (List Lit)) (i : ℕ) (clause : List Lit) (lit : Lit) (progress : Progress) → i < length clauses → clause ≡ get_or clauses i clause
-    → lit.variable < length now.values.items → IsDue now.values.items clause lit → IsKept new → new.values.items ≡ set now.values.items lit.variable (Some lit.positive)
-    → new.trail.items ≡ now.trail.items ++ lit ∷ [] → IsSwept old now clauses i progress → IsSwept old new clauses (i + 1) Moved
-unfolding SoFar
-swept_due old now new clauses i clause lit progress within is inside due kept values trail swept =
-    let less : unassigned new.values.items + 1 ≡ unassigned now.values.items =
-    ap (λ vs. unassigned vs + 1) values ∙ unassigned_less now.values.items lit.variable lit.positive inside due.unassigned in
-    let contains : Contains clauses clause = (i, within, sym is) in
-    record {
-      kept = kept;
-      size = ap (λ (vs : List (Option Bool)). length vs) values ∙ length-set now.values.items lit.variable (Some lit.positive) ∙ swept.size;
-      fewer = omega (arith, less, swept.fewer);
-      closing = λ start closing. closing_more start clauses now new clause lit (swept.closing start closing) kept contains due trail;
-      gives = omega (arith, less, swept.fewer);
-    }
-
-pub swept_false : (old now : Assignment) (clauses : List (List Lit)) (i : ℕ) (clause : List Lit) (progress : Progress) → i < length clauses → clause ≡ get_or clauses i clause
-    → All (IsFalseIn (value_of now.values.items)) clause → IsSwept old now clauses i progress → (start : List Lit) → IsClosing start clauses old → Conflicts start clauses
-swept_false old now clauses i clause progress within is all swept start closing =
-    conflicts start clauses now clause (swept.closing start closing) (i, within, sym is) all
-
-pub swept_all : (old now : Assignment) (clauses : List (List Lit)) (i : ℕ) (progress : Progress) → length clauses ≤ i → IsSwept old now clauses i progress → SweepGives old now clauses progress
-unfolding SoFar
-swept_all old now clauses i Refuted end swept = absurd swept.gives
-swept_all old now clauses i Moved end swept = swept.gives
-swept_all old now clauses i Still end swept = let P : List (List Lit) → Type 0 = λ cs. All (IsOpen now.values.items) cs in subst P (take_all i clauses end) swept.gives
-
 -- where no variable has a value, all are unassigned
 all_unassigned : (values : List (Option Bool)) → ((variable : ℕ) (sign : Bool) → value_of values variable ≡ Some sign → ⊥) → unassigned values ≡ length values
 all_unassigned [] none = refl
@@ -115,6 +55,38 @@ none_kept assignment none trail room = record {
   trailed = λ lit holds. absurd (none lit.variable lit.positive holds);
   noted = let P : List Lit → Type 0 = λ ls. All (IsTrueIn (value_of assignment.values.items)) ls in subst P (sym trail) (All-nil (IsTrueIn (value_of assignment.values.items)));
 }
+
+-- no variable has a value when none is true
+all_none : (assignment : Assignment) → IsKept assignment → assignment.trail.items ≡ [] → All (λ (o : Option Bool). o ≡ None) assignment.values.items
+all_none assignment kept none k d within = at (get_or assignment.values.items k d) refl
+  where
+    at : (o : Option Bool) → get_or assignment.values.items k d ≡ o → get_or assignment.values.items k d ≡ None
+    at None is = is
+    at (Some sign) is =
+        let lit : Lit = record { variable = k; positive = sign } in
+        let holds : IsTrueIn (value_of assignment.values.items) lit = get_or_default assignment.values.items k None d within ∙ is in
+        let Q : List Lit → Type 0 = λ lits. Contains lits lit in
+        let nowhere : Contains [] lit = subst Q none (kept.trailed lit holds) in
+        let length_nil : nowhere.0 < 0 = nowhere.1 in
+        absurd (omega arith)
+
+-- an assignment without a value that is cut or filled up
+pub resized : (old new : Assignment) (n m : ℕ) → IsKept old → old.trail.items ≡ [] → new.values.items ≡ take n old.values.items ++ replicate m None → length new.values.items ≡ n
+    → new.trail ≡ old.trail → n ≤ vec_capacity old.trail → IsKept new
+resized old new n m kept none values size trail room =
+    let P : List (Option Bool) → Type 0 = λ vs. All (λ (o : Option Bool). o ≡ None) vs in
+    let all : All (λ (o : Option Bool). o ≡ None) new.values.items =
+    subst P (sym values) (All-append (λ (o : Option Bool). o ≡ None) (take n old.values.items) (replicate m None) (All-take (λ (o : Option Bool). o ≡ None) n old.values.items (all_none old kept none))
+    (All-replicate (λ (o : Option Bool). o ≡ None) m None refl)) in
+    let same : vec_capacity new.trail ≡ vec_capacity old.trail = ap (λ (v : Vec Lit Global). vec_capacity v) trail in
+    none_kept new (no_value new.values.items all) (ap (λ (v : Vec Lit Global). v.items) trail ∙ none) (omega (arith, room, size, same))
+  where
+    no_value : (values : List (Option Bool)) → All (λ (o : Option Bool). o ≡ None) values → (variable : ℕ) (sign : Bool) → value_of values variable ≡ Some sign → ⊥
+    no_value values all variable sign has = at (cases_lt variable (length values))
+      where
+        at : (variable < length values) ⊎ (length values ≤ variable) → ⊥
+        at (inl within) = some_clash _ sign has (all variable None within)
+        at (inr past) = some_clash _ sign has (get_or_past values variable None past)
 
 -- on the way of taking all back, what still has a value stands further on in the trail
 pub record IsClearing (old now : Assignment) (i : ℕ) : Type 0 where

@@ -1,6 +1,5 @@
 -- What certificates over a shared list show.
-use Rattle.std.proofs.Common.{◌≡◌, ℕ, ◌+◌, ◌<◌, ℤ, Bool, Option, Some, List, [], ◌∷◌, ◌++◌, length, map, All, Contains, ◌↔◌, sym, ap, ◌∙◌, subst}
-use Rattle.std.specs.List.{slice_get}
+use Rattle.std.proofs.Common.{◌≡◌, ℕ, ℤ, Bool, List, [], ◌∷◌, ◌++◌, All, ◌↔◌, sym, ap, subst}
 use Rattle.std.proofs.lemmas.List.{append-nil, append_assoc}
 use Rattle.std.proofs.lemmas.List.Elements.{All-append, All-nil, All-cons, All-push, All-map, All-contains}
 use Rattle.gp_clause.specs.declared.edge.Edge.{Edge}
@@ -9,14 +8,14 @@ use Rattle.gp_clause.specs.declared.lit.Lit.{Lit}
 use Rattle.gp_clause.specs.declared.problem.Problem.{Problem}
 use Rattle.gp_clause.specs.declared.problem.Query.{Query}
 use Rattle.gp_clause.specs.Clause.{HoldsClause, HoldsAll}
-use Rattle.gp_clause.specs.Lit.{HoldsLit, opposite}
+use Rattle.gp_clause.specs.Lit.{HoldsLit}
 use Rattle.gp_clause.specs.Problem.{IsValidKind}
 use Rattle.gp_clause.specs.Valuation.{truth_of, place_of}
 use Rattle.gp_derivation.specs.declared.step.Step.{Step}
 use Rattle.gp_derivation.specs.declared.certificate.Certificate.{Certificate}
-use Rattle.gp_derivation.specs.Certificate.{clauses_of, hinted, StepChecks, StepsCheck, IsLast}
+use Rattle.gp_derivation.specs.Certificate.{clauses_of, hinted, StepChecks, StepsCheck}
 use Rattle.gp_derivation.specs.ListLaws.{named_all, contains_got, got_front}
-use Rattle.gp_derivation.specs.Shared.{usable, StepPasses, OwnStepsPass, SharedPasses, ChecksOver, RefutesOver, SharesNothing, SharedFollows, RefutedOverMeans}
+use Rattle.gp_derivation.specs.Shared.{usable, StepPasses, OwnStepsPass, ChecksOver, RefutesOver, SharesNothing, SharedFollows, RefutedOverMeans}
 use Rattle.gp_derivation.specs.Step.{Passes}
 use Rattle.gp_derivation.proofs.Checking.{steps_true, last_contained, negations_false}
 use Rattle.gp_derivation.proofs.Passing.{Laws, IsModel, model_from_valuation, passing_true}
@@ -53,12 +52,15 @@ own_alone edges kinds base own (step ∷ steps) =
       λ h. (first.1 h.0, rest.1 (subst P same h.1)),
     )
 
+pub checks_alone : (edges : List Edge) (kinds : List Kind) (base : List (List Lit)) (steps : List Step) → OwnStepsPass edges kinds base [] [] steps ↔ StepsCheck edges kinds base steps
+checks_alone edges kinds base steps =
+    let alone = own_alone edges kinds base [] steps in
+    let P : List (List Lit) → Type 0 = λ cs. StepsCheck edges kinds cs steps in
+    (λ h. subst P (append-nil base) (alone.0 h), λ h. alone.1 (subst P (sym (append-nil base)) h))
+
 over_nothing : (problem : Problem) (query : Query) (steps : List Step)
     → OwnStepsPass problem.edges (problem.kinds ++ query.locals) problem.clauses [] [] steps ↔ StepsCheck problem.edges (problem.kinds ++ query.locals) problem.clauses steps
-over_nothing problem query steps =
-    let alone = own_alone problem.edges (problem.kinds ++ query.locals) problem.clauses [] steps in
-    let P : List (List Lit) → Type 0 = λ cs. StepsCheck problem.edges (problem.kinds ++ query.locals) cs steps in
-    (λ h. subst P (append-nil problem.clauses) (alone.0 h), λ h. alone.1 (subst P (sym (append-nil problem.clauses)) h))
+over_nothing problem query steps = checks_alone problem.edges (problem.kinds ++ query.locals) problem.clauses steps
 
 pub sharing_nothing : SharesNothing
 sharing_nothing = record {

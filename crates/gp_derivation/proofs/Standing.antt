@@ -1,14 +1,13 @@
 -- How clauses stand under an assignment, and what making a literal true changes.
 use Rattle.std.proofs.Common.{◌≡◌, ◌≢◌, ℕ, ◌+◌, ◌<◌, ◌≤◌, Bool, true, false, not, Option, None, Some, List, [], ◌∷◌, ◌++◌, length, get_or, set, vec_capacity, All, Any, Contains, ◌⊎◌, inl, inr, refl, ap, sym, ◌∙◌, subst, arith}
-use Rattle.std.specs.List.{sum_by}
 use Rattle.std.proofs.lemmas.Bool.{cases_eq, cases_lt, false≢true}
 use Rattle.std.proofs.lemmas.List.{length-set, length_push, get_or-set_same, get_or-set_other, get_or_past}
-use Rattle.std.proofs.lemmas.List.Elements.{All-contains, All-weaker, All-push, Contains-push, Contains-push_cases, Contains-append_left}
+use Rattle.std.proofs.lemmas.List.Elements.{All-contains, All-weaker, All-push, Contains-push, Contains-append_left}
 use Rattle.std.proofs.lemmas.List.Sums.{sum_by-set}
 use Rattle.std.proofs.lemmas.Option.{same_Some, none-some}
 use Rattle.gp_clause.specs.declared.lit.Lit.{Lit}
 use Rattle.gp_clause.specs.Closure.{Derived, Conflicts, IsTrueIn, IsFalseIn, LeavesNone}
-use Rattle.gp_clause.specs.Closure.Derived.{given, forced}
+use Rattle.gp_clause.specs.Closure.Derived.{forced}
 use Rattle.gp_clause.specs.Lit.{lit_eq, opposite}
 use Rattle.gp_clause.specs.LitLaws.{lit_eq_decides}
 use Rattle.gp_derivation.specs.declared.assignment.Assignment.{Assignment}
@@ -32,7 +31,7 @@ same_lits a b variables signs = λ i. record { variable = variables i; positive 
 pub some_clash : (o : Option Bool) (b : Bool) → o ≡ Some b → o ≡ None → ⊥
 some_clash o b some none = none-some b (sym none ∙ some)
 
-sign_clash : (o : Option Bool) (b : Bool) → o ≡ Some b → o ≡ Some (not b) → ⊥
+pub sign_clash : (o : Option Bool) (b : Bool) → o ≡ Some b → o ≡ Some (not b) → ⊥
 sign_clash o b some other = not_itself b (same_Some b (not b) (sym some ∙ other))
 
 -- what holds of a literal by its value
@@ -148,7 +147,7 @@ kept_more old new lit kept within none values trail capacity =
     at other (inr same) = let P : Lit → Type 0 = λ l. Contains (old.trail.items ++ lit ∷ []) l in subst P same (Contains-push old.trail.items lit)
 
 -- a literal that is due is derived, and a false clause is a conflict
-opposite_twice : (lit : Lit) → opposite (opposite lit) ≡ lit
+pub opposite_twice : (lit : Lit) → opposite (opposite lit) ≡ lit
 opposite_twice lit = λ i. record { variable = lit.variable; positive = not_not lit.positive i }
 
 pub false_derived : (start : List Lit) (clauses : List (List Lit)) (assignment : Assignment) (lit : Lit) → IsClosing start clauses assignment → IsFalseIn (value_of assignment.values.items) lit

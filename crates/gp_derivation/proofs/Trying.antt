@@ -1,5 +1,5 @@
 -- Where what is derived was made true, a negative cycle with its bounds is all that refutes.
-use Rattle.std.proofs.Common.{◌≡◌, ℕ, ◌+◌, ◌<◌, ◌≤◌, Bool, true, false, Option, None, Some, List, [], ◌∷◌, ◌++◌, length, All, Contains, IsTrue, ◌↔◌, ◌⊎◌, inl, inr, refl, ap, sym, ◌∙◌, subst, arith}
+use Rattle.std.proofs.Common.{◌≡◌, ℕ, ◌<◌, ◌≤◌, Bool, Option, None, Some, List, ◌++◌, length, All, Contains, ◌↔◌, inl, inr, refl, ap, sym, ◌∙◌, subst, arith}
 use Rattle.std.specs.Prelude.{MatchBool}
 use Rattle.std.specs.List.{slice_get}
 use Rattle.gp_difference.specs.Graph.{GraphForm}
@@ -15,7 +15,7 @@ use Rattle.gp_clause.specs.Kind.{bound_of}
 use Rattle.gp_clause.specs.Walk.{HasNegativeCycle}
 use Rattle.gp_derivation.specs.declared.assignment.Assignment.{Assignment}
 use Rattle.gp_derivation.specs.declared.places.Places.{Places}
-use Rattle.gp_derivation.specs.Assignment.{value_of, unassigned, IsOpen, IsKept, IsClosing}
+use Rattle.gp_derivation.specs.Assignment.{value_of, IsOpen, IsKept, IsClosing}
 use Rattle.gp_derivation.specs.Places.{AreBare, bound_in, bound_at, bounds_at}
 use Rattle.gp_derivation.specs.Step.{IsDerivedBound, IsRefuted}
 use Rattle.gp_derivation.proofs.BoundsAt.{cycle_beside, bound_among, bounds_from}

@@ -1,13 +1,11 @@
 -- A partial assignment that is written down by variable, and how clauses stand under it.
-use Rattle.std.specs.Prelude.{ℕ, ◌≡◌, ◌≢◌, ◌+◌, ◌<◌, ◌≤◌, Bool, List, Option, None, Some, length, slice_index_or, vec_capacity, All, Contains}
+use Rattle.std.specs.Prelude.{ℕ, ◌≡◌, ◌≢◌, ◌+◌, ◌≤◌, ◌⊎◌, Bool, List, Option, None, Some, length, slice_index_or, vec_capacity, All, Any, Contains}
 use Rattle.std.specs.List.{sum_by}
 use Rattle.gp_clause.specs.declared.lit.Lit.{Lit}
-use Rattle.gp_clause.specs.Closure.{Derived, Conflicts, IsTrueIn, IsFalseIn}
+use Rattle.gp_clause.specs.Closure.{Derived, IsTrueIn, IsFalseIn}
 use Rattle.gp_derivation.specs.declared.assignment.Assignment.{Assignment}
 use Rattle.gp_derivation.specs.declared.assignment.Standing.{Standing}
 use Rattle.gp_derivation.specs.declared.assignment.Standing.TheVariants.{Open, False, Due}
-use Rattle.gp_derivation.specs.declared.assignment.Progress.{Progress}
-use Rattle.gp_derivation.specs.declared.assignment.Progress.TheVariants.{Refuted, Moved, Still}
 
 -- the value of a variable, where it has one
 abbrev pub value_of : List (Option Bool) → ℕ → Option Bool
@@ -24,9 +22,13 @@ pub record IsOpen (values : List (Option Bool)) (clause : List Lit) : Type 0 whe
   pub no_false : All (IsFalseIn (value_of values)) clause → ⊥
   pub no_due : (lit : Lit) → IsDue values clause lit → ⊥
 
+-- two literals of a clause are unassigned
+abbrev pub HasTwo : List (Option Bool) → List Lit → Type 0
+HasTwo values clause = (first : Lit) × Contains clause first × (value_of values first.variable ≡ None) × Any (λ lit. (lit ≢ first) × (value_of values lit.variable ≡ None)) clause
+
 -- how a clause stands under an assignment
 abbrev pub StandsAs : List (Option Bool) → List Lit → Standing → Type 0
-StandsAs values clause Open = IsOpen values clause
+StandsAs values clause Open = Any (IsTrueIn (value_of values)) clause ⊎ HasTwo values clause
 StandsAs values clause False = All (IsFalseIn (value_of values)) clause
 StandsAs values clause (Due lit) = IsDue values clause lit
 
@@ -51,9 +53,3 @@ pub record IsClosing (start : List Lit) (clauses : List (List Lit)) (assignment 
   pub kept : IsKept assignment
   pub derived : All (Derived start clauses) assignment.trail.items
   pub starts : All (Contains assignment.trail.items) start
-
--- what going over the clauses once gives
-abbrev pub SweepGives : Assignment → Assignment → List (List Lit) → Progress → Type 0
-SweepGives old new clauses Refuted = (start : List Lit) → IsClosing start clauses old → Conflicts start clauses
-SweepGives old new clauses Moved = unassigned new.values.items < unassigned old.values.items
-SweepGives old new clauses Still = All (IsOpen new.values.items) clauses

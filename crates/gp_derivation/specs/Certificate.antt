@@ -73,3 +73,8 @@ pub record RefutedMeans : Type 0 where
       → HoldsAll truth problem.clauses → All (HoldsLit truth) query.assumed → ⊥
   pub no_answer : (problem : Problem) (query : Query) (certificate : Certificate) → Refutes problem query certificate
       → (valuation : Valuation) → Meets problem query valuation → ⊥
+
+-- a certificate that checks for a query and has problem variables only checks for the empty query
+abbrev pub ChecksWithoutLocals : Type 0
+ChecksWithoutLocals = (problem : Problem) (query : Query) (certificate : Certificate) → IsValidProblem problem → Checks problem query certificate
+    → All (NamesBelow (length problem.kinds)) (clauses_of certificate.steps) → Checks problem empty_query certificate

@@ -1,5 +1,5 @@
 -- The cone of a step: the steps on which it rests, each once, in the order of the log, and the step itself at the end.
-use Rattle.std.specs.Prelude.{ℕ, ◌≡◌, ◌↔◌, suc, zero, Bool, true, false, IsTrue, List, [], ◌∷◌, ◌++◌, Option, None, Some, length, map, slice_get}
+use Rattle.std.specs.Prelude.{ℕ, ◌≡◌, ◌↔◌, suc, zero, Bool, true, false, IsTrue, List, [], ◌∷◌, ◌++◌, Option, None, Some, length, map, slice_get, ◌+◌, ◌<◌, All}
 use Rattle.std.specs.Arc.{arc_value}
 use Rattle.gp_clause.specs.declared.problem.Problem.{Problem}
 use Rattle.gp_clause.specs.declared.problem.Query.{Query}
@@ -11,7 +11,7 @@ use Rattle.gp_derivation.specs.declared.log.Origin.{Origin}
 use Rattle.gp_derivation.specs.declared.log.Origin.TheVariants.{Learned, Taken}
 use Rattle.gp_derivation.specs.Certificate.{Checks}
 use Rattle.gp_derivation.specs.Log.{LearnedPasses, LogPasses}
-use Rattle.gp_derivation.specs.Numbering.{steps_before, number_of, renumbered, moved, with_hints}
+use Rattle.gp_derivation.specs.Numbering.{NamesEarlier, steps_before, number_of, renumbered, moved, with_hints}
 use Rattle.gp_derivation.specs.Reach.{IsReached}
 
 -- the steps that an entry gives after so many others: a learned one itself, and a taken one those of its certificate
@@ -41,3 +41,14 @@ abbrev pub ConeChecks : Type 0
 ConeChecks = (problem : Problem) (query : Query) (log : List LogEntry) (begins : ℕ) (last : Step) (certificate : Certificate) → IsValidProblem problem
     → LogPasses problem query.locals log begins → LearnedPasses problem query.locals log begins (length log) last
     → IsCone (length problem.clauses) log last certificate → Checks problem query certificate
+
+-- a step has one cone at most
+abbrev pub ConeIsUnique : Type 0
+ConeIsUnique = (bases : ℕ) (log : List LogEntry) (last : Step) (certificate other : Certificate) → IsCone bases log last certificate → IsCone bases log last other → certificate ≡ other
+
+-- the cone of a step whose hints, like those of the entries, name what comes before stays the same when the log grows at
+-- its end
+abbrev pub ConeStays : Type 0
+ConeStays = (bases : ℕ) (log more : List LogEntry) (last : Step) (certificate : Certificate)
+    → ((place : ℕ) (entry : LogEntry) → slice_get log place ≡ Some entry → NamesEarlier bases place entry.step entry.origin) → All (λ hint. hint < bases + length log) last.hints
+    → IsCone bases log last certificate → IsCone bases (log ++ more) last certificate

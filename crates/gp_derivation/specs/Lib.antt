@@ -1,6 +1,7 @@
 pub mod Places
 pub mod Step
 pub mod Assignment
+pub mod Counting
 pub mod Certificate
 pub mod Shared
 pub mod Log
@@ -10,4 +11,6 @@ pub mod Reach
 pub mod Numbering
 pub mod Cones
 pub mod ListLaws
+pub mod Bench
 pub mod Tester
+pub mod SharedLaws

@@ -1,6 +1,6 @@
 -- The numbers of the steps of a cone, and hints by them.
-use Rattle.std.specs.Prelude.{ℕ, ◌≡◌, ◌+◌, ◌-◌, ◌<◌, ◌^◌, suc, zero, Bool, true, false, nat_lt, if◌then◌else◌, List, Option, None, Some, length, map, slice_get, All}
-use Rattle.std.specs.List.{sum_by}
+use Rattle.std.specs.Prelude.{ℕ, ◌≡◌, ◌+◌, ◌-◌, ◌<◌, ◌^◌, suc, zero, Bool, true, false, nat_lt, if◌then◌else◌, List, Option, None, Some, length, map, slice_get, slice_index_or, ◌≤◌, ◌==◌, All}
+use Rattle.std.specs.List.{sum_by, position_or_len}
 use Rattle.std.specs.Arc.{arc_value}
 use Rattle.gp_derivation.specs.declared.step.Step.{Step}
 use Rattle.gp_derivation.specs.declared.log.LogEntry.{LogEntry}
@@ -43,6 +43,23 @@ steps_before kept log (suc place) = steps_before kept log place + counted (kept 
 -- the number of the last step that a kept entry gives
 abbrev pub number_of : ℕ → (ℕ → Bool) → List LogEntry → ℕ → ℕ
 number_of bases kept log place = (bases + steps_before kept log (suc place)) - 1
+
+-- the number that stands beside a place, in the order of some places
+abbrev pub number_beside : List ℕ → List ℕ → ℕ → ℕ
+number_beside places numbers place = slice_index_or numbers (position_or_len (λ other. other == place) places) 0
+
+-- a place is among those that have a number beside them
+abbrev pub HasNumber : List ℕ → List ℕ → ℕ → Type 0
+HasNumber places numbers place = (k : ℕ) × (k < length places) × (k < length numbers) × (slice_index_or places k 0 ≡ place)
+
+-- a hint names a base clause, or an entry whose place has a number
+abbrev pub IsNumbered : ℕ → List ℕ → List ℕ → ℕ → Type 0
+IsNumbered bases places numbers hint = bases ≤ hint → HasNumber places numbers (hint - bases)
+
+-- the hints of a learned entry are numbered, and those of a certificate name base clauses and steps before them
+abbrev pub IsNumberable : ℕ → List ℕ → List ℕ → Step → Origin → Type 0
+IsNumberable bases places numbers step Learned = All (IsNumbered bases places numbers) step.hints
+IsNumberable bases places numbers step (Taken sender certificate) = (k : ℕ) (own : Step) → slice_get (arc_value certificate).steps k ≡ Some own → All (λ hint. hint < bases + k) own.hints
 
 -- a hint to a base clause stays, and one to an entry becomes one to its number
 abbrev pub renumbered : ℕ → (ℕ → ℕ) → ℕ → ℕ

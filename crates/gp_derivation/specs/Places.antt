@@ -1,5 +1,5 @@
 -- The bounds of literals, beside fixed edges.
-use Rattle.std.specs.Prelude.{ℕ, ◌≡◌, ◌≤◌, Bool, List, [], ◌++◌, Option, None, Some, length, slice_get, MatchBool}
+use Rattle.std.specs.Prelude.{ℕ, ◌≡◌, ◌≤◌, Bool, List, [], Option, None, Some, slice_get, MatchBool}
 use Rattle.std.specs.List.{filter_map}
 use Rattle.gp_clause.specs.declared.edge.Edge.{Edge}
 use Rattle.gp_clause.specs.declared.kind.Kind.{Kind}

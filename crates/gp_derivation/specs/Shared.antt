@@ -1,5 +1,5 @@
 -- Certificates over a list of steps that they share with others.
-use Rattle.std.specs.Prelude.{ℕ, ◌≡◌, ◌+◌, ◌<◌, ◌↔◌, Bool, ℤ, List, [], ◌∷◌, ◌++◌, length, take, All, Contains}
+use Rattle.std.specs.Prelude.{ℕ, ◌+◌, ◌<◌, ◌↔◌, Bool, ℤ, List, [], ◌∷◌, ◌++◌, length, take, All, Contains}
 use Rattle.gp_clause.specs.declared.edge.Edge.{Edge}
 use Rattle.gp_clause.specs.declared.kind.Kind.{Kind}
 use Rattle.gp_clause.specs.declared.lit.Lit.{Lit}
@@ -55,6 +55,12 @@ pub record FirstFails (problem : Problem) (shared : List Step) (place : ℕ) : T
   pub before : SharedPasses problem (take place shared)
   pub within : place < length shared
   pub fails : SharedPasses problem (take (place + 1) shared) → ⊥
+
+-- an own step is the first that fails
+pub record FirstOwnFails (edges : List Edge) (kinds : List Kind) (base shared : List (List Lit)) (steps : List Step) (place : ℕ) : Type 0 where
+  pub before : OwnStepsPass edges kinds base shared [] (take place steps)
+  pub within : place < length steps
+  pub fails : OwnStepsPass edges kinds base shared [] (take (place + 1) steps) → ⊥
 
 -- over the empty list, checking and refuting are what they are without a list
 pub record SharesNothing : Type 0 where

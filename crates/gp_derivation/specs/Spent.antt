@@ -23,11 +23,6 @@ abbrev pub LearnsWhatPasses : Problem → Query → List LogEntry → Turn → T
 LearnsWhatPasses problem query log turn = (place : ℕ) (entry : LogEntry) → slice_get log place ≡ Some entry → turn.learned ≤ place → place < turn.ends
     → EntryPasses problem query.locals log turn.begins place entry
 
--- a turn is spent where it learned so many entries as its budget, each of which passes
-pub record IsSpent (problem : Problem) (query : Query) (log : List LogEntry) (budget : ℕ) (turn : Turn) : Type 0 where
-  pub learning : LearnsItsBudget log budget turn
-  pub passing : LearnsWhatPasses problem query log turn
-
 -- the clauses that a place of a turn may use freely: those of the problem, and those of the turn's entries before it
 abbrev pub turned : Problem → List LogEntry → Turn → ℕ → List (List Lit)
 turned problem log turn place = problem.clauses ++ map (λ (entry : LogEntry). entry.step.clause) (take (place - turn.begins) (drop turn.begins log))
@@ -64,10 +59,11 @@ pub record IsSpentOn (problem : Problem) (query : Query) (log : List LogEntry) (
   pub news : LearnsWhatIsNew problem query log turn
   pub tight : LearnsWhatIsTight problem query log turn
 
+-- a turn that is spent on some entries of a log stays so when the log grows at its end
+abbrev pub SpentStays : Type 0
+SpentStays = (problem : Problem) (query : Query) (log more : List LogEntry) (budget : ℕ) (turn : Turn) (from to : ℕ) → IsSpentOn problem query log budget turn from to
+    → IsSpentOn problem query (log ++ more) budget turn from to
+
 -- a record has a turn with some ticket that is spent on the entries from one number to another
 abbrev pub HasTurnSpentOn : Problem → Query → WorkerRecord → ℕ → ℕ → ℕ → ℕ → Type 0
 HasTurnSpentOn problem query worker ticket budget from to = (turn : Turn) × Contains worker.turns turn × (turn.ticket ≡ ticket) × IsSpentOn problem query worker.log budget turn from to
-
--- a record has a spent turn with some ticket
-abbrev pub HasSpentTurn : Problem → Query → WorkerRecord → ℕ → ℕ → Type 0
-HasSpentTurn problem query worker ticket budget = (turn : Turn) × Contains worker.turns turn × (turn.ticket ≡ ticket) × IsSpent problem query worker.log budget turn

@@ -1,5 +1,5 @@
 -- A clause that passes and would not with any one literal left out.
-use Rattle.std.specs.Prelude.{ℕ, Bool, not, List, Contains}
+use Rattle.std.specs.Prelude.{not, List, Contains}
 use Rattle.std.specs.List.{filter}
 use Rattle.gp_clause.specs.declared.edge.Edge.{Edge}
 use Rattle.gp_clause.specs.declared.kind.Kind.{Kind}

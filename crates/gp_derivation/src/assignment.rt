@@ -1,8 +1,9 @@
-ghost use Rattle.std.specs.Prelude.{◌≡◌, ◌≢◌, ◌+◌, ◌<◌, ◌≤◌, ◌↔◌, None, Some, [], ◌∷◌, ◌++◌, length, IsTrue, IfOk, MatchBool, MatchOption, All, Any, Contains, List, slice_set};
+ghost use Rattle.std.specs.Prelude.{◌≡◌, ◌≢◌, ◌+◌, ◌<◌, ◌≤◌, ◌↔◌, None, Some, [], ◌∷◌, ◌++◌, length, IsTrue, IfOk, OnOk, MatchBool, MatchOption, All, Any, Contains, List, ℕ, ◌*◌, take, slice_set, slice_get, slice_index_or, vec_capacity};
 ghost use Rattle.gp_clause.specs.declared.lit.Lit.{Lit};
 ghost use Rattle.gp_clause.specs.Clause.{NamesBelow, NamesOnce};
-ghost use Rattle.gp_clause.specs.Closure.{Conflicts, IsTrueIn};
-ghost use Rattle.gp_derivation.specs.Assignment.{value_of, StandsAs, IsOpen, IsKept, IsClosing, SweepGives};
+ghost use Rattle.gp_clause.specs.Closure.{Conflicts, IsTrueIn, IsFalseIn};
+ghost use Rattle.gp_derivation.specs.Assignment.{value_of, StandsAs, IsOpen, IsKept, IsClosing};
+ghost use Rattle.gp_derivation.specs.Counting.{AreCounted, AreListed, Extends, StaysClosing, FindsConflict, Recounts, row_of, code_of};
 ghost use Rattle.gp_derivation.specs.Step.{negations};
 
 use gp_clause::{Clause, Lit};
@@ -16,16 +17,8 @@ pub(crate) enum Standing {
     Due(Lit),
 }
 
-// What became of an assignment when the clauses were gone over.
-#[derive(Drop)]
-pub(crate) enum Progress {
-    Refuted,
-    Moved,
-    Still,
-}
-
 // The value of each variable that has one, and the literals that are true in the order in which they became so.
-#[derive(Drop)]
+#[derive(Debug, Drop)]
 pub(crate) struct Assignment {
     values: Vec<Option<bool>>,
     trail: Vec<Lit>,
@@ -42,6 +35,32 @@ impl Assignment {
         values.resize(variables, None)?;
         let trail = Vec::with_capacity(alloc, variables)?;
         Ok(Assignment { values, trail })
+    }
+
+    // Makes room for so many variables.
+    pub(crate) fn reserve(&mut self, variables: usize) -> Result<(), AllocError>
+        requires { self.old.trail.items ≡ [] }
+        ensures values { self.new.values.items ≡ self.old.values.items }
+        ensures trail { self.new.trail.items ≡ self.old.trail.items }
+        ensures room { OnOk result ((variables ≤ vec_capacity self.new.values) × (variables ≤ vec_capacity self.new.trail)) }
+        ensures more { vec_capacity self.old.trail ≤ vec_capacity self.new.trail }
+    {
+        self.trail.reserve(variables)?;
+        self.values.reserve(variables)?;
+        Ok(())
+    }
+
+    // Cuts or fills up the variables to so many, for which there is room. None has a value.
+    pub(crate) fn resize(&mut self, variables: usize)
+        requires kept { IsKept self.old }
+        requires none { self.old.trail.items ≡ [] }
+        requires values { variables ≤ vec_capacity self.old.values }
+        requires trail { variables ≤ vec_capacity self.old.trail }
+        ensures kept { IsKept self.new }
+        ensures none { self.new.trail.items ≡ [] }
+        ensures size { length self.new.values.items ≡ variables }
+    {
+        let _ = self.values.resize(variables, None);
     }
 
     // The literals that are true.
@@ -66,19 +85,122 @@ impl Assignment {
         }
     }
 
-    // Makes true what unit clauses force, until a clause is false or none is unit. Tells whether a clause is false.
-    pub(crate) fn settle(&mut self, clauses: &[Clause]) -> bool
+    // Makes true what unit clauses force, until a clause is false or none is unit. Tells whether a clause is false. Each
+    // literal that becomes true lowers the counts of the clauses in which its negation stands.
+    pub(crate) fn settle(
+        &mut self,
+        clauses: &[Clause],
+        rows: &[Vec<usize>],
+        left: &mut [usize],
+    ) -> bool
         requires kept { IsKept self.old }
         requires within { All (NamesBelow (length self.old.values.items)) clauses.now }
+        requires once { All NamesOnce clauses.now }
+        requires listed { AreListed clauses.now rows.now }
+        requires left { length left.old ≡ length clauses.now }
         ensures closing { IsClosing self.old.trail.items clauses.now self.new }
         ensures size { length self.new.values.items ≡ length self.old.values.items }
         ensures gives { MatchBool result (Conflicts self.old.trail.items clauses.now) (All (IsOpen self.new.values.items) clauses.now) }
     {
-        'settling: loop {
-            match self.sweep(clauses) {
-                Progress::Refuted => return true,
-                Progress::Still => return false,
-                Progress::Moved => {}
+        if self.count_all(clauses, left) {
+            return true;
+        }
+        let mut cursor = 0;
+        while cursor < self.trail.len() {
+            if self.fall(clauses, rows, left, cursor) {
+                return true;
+            }
+            cursor += 1;
+        }
+        false
+    }
+
+    // Counts the literals of each clause, and looks at those that have fewer than two. Tells whether a clause is false.
+    fn count_all(&mut self, clauses: &[Clause], left: &mut [usize]) -> bool
+        requires kept { IsKept self.old }
+        requires within { All (NamesBelow (length self.old.values.items)) clauses.now }
+        requires left { length left.old ≡ length clauses.now }
+        ensures extends { Extends self.old self.new }
+        ensures closing { StaysClosing clauses.now self.old self.new }
+        ensures gives { MatchBool result (FindsConflict clauses.now self.old) (AreCounted [] self.new.values.items clauses.now left.new) }
+    {
+        for (number, clause) in clauses.iter().enumerate() {
+            let lits = clause.lits();
+            let Some(count) = self.recount(lits, lits.len() + 1) else {
+                return true;
+            };
+            left[number] = count;
+        }
+        false
+    }
+
+    // Lowers the counts of the clauses in which the negation of a literal of the trail stands. Tells whether a clause is
+    // false.
+    fn fall(
+        &mut self,
+        clauses: &[Clause],
+        rows: &[Vec<usize>],
+        left: &mut [usize],
+        cursor: usize,
+    ) -> bool
+        requires kept { IsKept self.old }
+        requires within { All (NamesBelow (length self.old.values.items)) clauses.now }
+        requires once { All NamesOnce clauses.now }
+        requires listed { AreListed clauses.now rows.now }
+        requires cursor { cursor < length self.old.trail.items }
+        requires counted { AreCounted (take cursor self.old.trail.items) self.old.values.items clauses.now left.old }
+        ensures extends { Extends self.old self.new }
+        ensures closing { StaysClosing clauses.now self.old self.new }
+        ensures gives { MatchBool result (FindsConflict clauses.now self.old) (AreCounted (take (cursor + 1) self.new.trail.items) self.new.values.items clauses.now left.new) }
+    {
+        let fallen = self.trail[cursor].negated();
+        for number in row(rows, fallen) {
+            if self.lower(clauses, left, *number) {
+                return true;
+            }
+        }
+        false
+    }
+
+    // Lowers the count of one clause. Tells whether it is false.
+    fn lower(&mut self, clauses: &[Clause], left: &mut [usize], number: usize) -> bool
+        requires kept { IsKept self.old }
+        requires within { All (NamesBelow (length self.old.values.items)) clauses.now }
+        requires left { length left.old ≡ length clauses.now }
+        ensures extends { Extends self.old self.new }
+        ensures closing { StaysClosing clauses.now self.old self.new }
+        ensures gives { MatchBool result (FindsConflict clauses.now self.old) ((clause : List Lit) → slice_get clauses.now number ≡ Some clause → Recounts self.old self.new clause (slice_index_or left.old number 0) (slice_index_or left.new number 0)) }
+        ensures others { (other : ℕ) → other ≢ number → slice_index_or left.new other 0 ≡ slice_index_or left.old other 0 }
+    {
+        if number >= clauses.len() {
+            return false;
+        }
+        let Some(count) = self.recount(clauses[number].lits(), left[number]) else {
+            return true;
+        };
+        left[number] = count;
+        false
+    }
+
+    // Lowers the count of a clause, and looks at it where fewer than two are left. Its new count, or none where it is
+    // false.
+    fn recount(&mut self, clause: &[Lit], left: usize) -> Option<usize>
+        requires kept { IsKept self.old }
+        requires within { NamesBelow (length self.old.values.items) clause.now }
+        ensures extends { Extends self.old self.new }
+        ensures closing { (clauses : List (List Lit)) → Contains clauses clause.now → StaysClosing clauses self.old self.new }
+        ensures gives { MatchOption result (All (IsFalseIn (value_of self.old.values.items)) clause.now) (Recounts self.old self.new clause.now left) }
+    {
+        let less = left.saturating_sub(1);
+        if less > 1 {
+            return Some(less);
+        }
+        match self.standing(clause) {
+            Standing::Open => Some(2),
+            Standing::False => None,
+            Standing::Due(lit) => {
+                self.assign(lit);
+                Some(less)
             }
         }
     }
@@ -95,29 +217,6 @@ impl Assignment {
             self.values[variable] = None;
         }
         self.trail.clear();
-    }
-
-    // Goes over the clauses once, and makes the literal of each unit clause true.
-    fn sweep(&mut self, clauses: &[Clause]) -> Progress
-        requires kept { IsKept self.old }
-        requires within { All (NamesBelow (length self.old.values.items)) clauses.now }
-        ensures kept { IsKept self.new }
-        ensures closing { (start : List Lit) → IsClosing start clauses.now self.old → IsClosing start clauses.now self.new }
-        ensures size { length self.new.values.items ≡ length self.old.values.items }
-        ensures gives { SweepGives self.old self.new clauses.now result }
-    {
-        let mut progress = Progress::Still;
-        for clause in clauses {
-            match self.standing(clause.lits()) {
-                Standing::Open => {}
-                Standing::False => return Progress::Refuted,
-                Standing::Due(lit) => {
-                    self.assign(lit);
-                    progress = Progress::Moved;
-                }
-            }
-        }
-        progress
     }
 
     // Makes an unassigned literal true.
@@ -207,4 +306,21 @@ impl Assignment {
             None => None,
         }
     }
+}
+
+// The clauses that the row of a literal lists.
+fn row(rows: &[Vec<usize>], lit: Lit) -> &[usize]
+    ensures { result.now ≡ row_of rows.now lit }
+{
+    match rows.get(code(lit)) {
+        Some(row) => row.as_slice(),
+        None => &[],
+    }
+}
+
+// The number of a literal.
+pub(crate) fn code(lit: Lit) -> usize
+    ensures { result ≡ code_of lit }
+{
+    2 * lit.variable as usize + usize::from(lit.positive)
 }

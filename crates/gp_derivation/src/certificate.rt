@@ -1,4 +1,4 @@
-ghost use Rattle.gp_derivation.specs.Certificate.{CertificateFollows, RefutedMeans};
+ghost use Rattle.gp_derivation.specs.Certificate.{CertificateFollows, RefutedMeans, ChecksWithoutLocals};
 
 use crate::step::Step;
 use gp_clause::{
@@ -31,3 +31,8 @@ pub fn refuted_means()
     keeping_leaves_no_cycle();
     true_or_false();
 }
+
+/// A law: a certificate that checks for a query and has problem variables only checks for the empty query.
+pub fn checks_without_locals()
+    ensures { ChecksWithoutLocals }
+{}

@@ -1,6 +1,6 @@
-ghost use Rattle.std.specs.Prelude.{◌≡◌, ℕ, ◌+◌, ◌-◌, ◌<◌, ◌^◌, [], ◌∷◌, ◌++◌, Some, length, map, IfOk, OnOk, All, slice_index_or, slice_get};
-ghost use Rattle.gp_derivation.specs.Cones.{IsCone, ConeChecks, steps_given, kept_steps};
-ghost use Rattle.gp_derivation.specs.Numbering.{CanBeNumbered, NamesEarlier, moved, with_hints, size_of};
+ghost use Rattle.std.specs.Prelude.{◌≡◌, ℕ, ◌+◌, ◌-◌, ◌<◌, ◌^◌, [], ◌∷◌, ◌++◌, Some, length, map, IfOk, OnOk, All, AllPairs, slice_get};
+ghost use Rattle.gp_derivation.specs.Cones.{IsCone, ConeChecks, ConeIsUnique, ConeStays, steps_given};
+ghost use Rattle.gp_derivation.specs.Numbering.{CanBeNumbered, IsNumberable, number_beside, moved, with_hints, size_of};
 ghost use Rattle.gp_derivation.specs.declared.step.Step.{Step};
 
 use crate::certificate::Certificate;
@@ -12,7 +12,8 @@ use gp_clause::Row;
 use std::alloc::{AllocError, Global};
 
 /// The steps on which `last` rests, each once and in the order of the log, and `last` itself at the end. The steps of a
-/// taken entry's certificate stand for the entry, and a hint to it becomes one to the last of them.
+/// taken entry's certificate stand for the entry, and a hint to it becomes one to the last of them. Besides what these
+/// steps hold it costs a logarithm for each of their hints, and nothing for the rest of the log.
 pub fn cone(
     alloc: Global,
     base_clauses: u32,
@@ -23,15 +24,17 @@ pub fn cone(
     ensures { IfOk result (IsCone base_clauses log.now last.now) }
 {
     let needed = reached(alloc, base_clauses, log, last.hints.as_slice())?;
+    let places = needed.as_slice();
     let mut draft = Draft {
         steps: Row::new(alloc),
         numbers: Row::new(alloc),
     };
-    for (place, entry) in log.iter().enumerate() {
-        draft.pass(alloc, base_clauses, entry, needed[place])?;
+    for place in places {
+        draft.pass(alloc, base_clauses, places, &log[*place as usize])?;
     }
     let Draft { mut steps, numbers } = draft;
-    steps.push(renumber(alloc, base_clauses, numbers.as_slice(), last)?)?;
+    let step = renumber(alloc, base_clauses, places, numbers.as_slice(), last)?;
+    steps.push(step)?;
     Ok(Certificate { steps })
 }
 
@@ -40,8 +43,17 @@ pub fn cone_checks()
     ensures { ConeChecks }
 {}
 
-// The steps of a cone so far, and for each entry that was passed the number of the last step then. It serves for the
-// entries that are needed.
+/// A law: a step has one cone at most.
+pub fn cone_is_unique()
+    ensures { ConeIsUnique }
+{}
+
+/// A law: the cone of a step stays the same when the log grows.
+pub fn cone_stays()
+    ensures { ConeStays }
+{}
+
+// The steps of a cone so far, and the number of the last step of each entry that was passed.
 #[derive(Drop)]
 struct Draft {
     steps: Row<Step>,
@@ -49,28 +61,22 @@ struct Draft {
 }
 
 impl Draft {
-    // Goes past the next entry, and adds the steps that it stands for where it is needed.
+    // Goes past the next entry of those at some places, and adds the steps that it stands for.
     fn pass(
         &mut self,
         alloc: Global,
         base_clauses: u32,
+        places: &[u32],
         entry: &LogEntry,
-        needed: bool,
     ) -> Result<(), AllocError>
-        requires named { NamesEarlier base_clauses (length self.old.numbers) entry.now.step entry.now.origin }
+        requires rising { AllPairs (λ a b. a < b) places.now }
+        requires numbered { IsNumberable base_clauses places.now self.old.numbers entry.now.step entry.now.origin }
         requires few { base_clauses + length self.old.steps + size_of entry.now < 2 ^ 32 }
-        ensures steps { OnOk result (self.new.steps ≡ self.old.steps ++ kept_steps base_clauses (λ place. slice_index_or self.old.numbers place 0) (length self.old.steps) needed (Some entry.now)) }
+        ensures steps { OnOk result (self.new.steps ≡ self.old.steps ++ steps_given base_clauses (number_beside places.now self.old.numbers) (length self.old.steps) entry.now.step entry.now.origin) }
         ensures numbers { OnOk result (self.new.numbers ≡ self.old.numbers ++ ((base_clauses + length self.new.steps) - 1) ∷ []) }
     {
-        if needed {
-            add(
-                alloc,
-                base_clauses,
-                &mut self.steps,
-                self.numbers.as_slice(),
-                entry,
-            )?;
-        }
+        let numbers = self.numbers.as_slice();
+        add(alloc, base_clauses, &mut self.steps, places, numbers, entry)?;
         self.numbers
             .push(last_number(base_clauses, self.steps.len()))?;
         Ok(())
@@ -82,15 +88,19 @@ fn add(
     alloc: Global,
     base_clauses: u32,
     steps: &mut Row<Step>,
+    places: &[u32],
     numbers: &[u32],
     entry: &LogEntry,
 ) -> Result<(), AllocError>
-    requires named { NamesEarlier base_clauses (length numbers.now) entry.now.step entry.now.origin }
+    requires rising { AllPairs (λ a b. a < b) places.now }
+    requires numbered { IsNumberable base_clauses places.now numbers.now entry.now.step entry.now.origin }
     requires few { base_clauses + length steps.old + size_of entry.now < 2 ^ 32 }
-    ensures { OnOk result (steps.new ≡ steps.old ++ steps_given base_clauses (λ place. slice_index_or numbers.now place 0) (length steps.old) entry.now.step entry.now.origin) }
+    ensures { OnOk result (steps.new ≡ steps.old ++ steps_given base_clauses (number_beside places.now numbers.now) (length steps.old) entry.now.step entry.now.origin) }
 {
     match &entry.origin {
-        Origin::Learned => steps.push(renumber(alloc, base_clauses, numbers, &entry.step)?),
+        Origin::Learned => {
+            steps.push(renumber(alloc, base_clauses, places, numbers, &entry.step)?)
+        }
         Origin::Taken { certificate, .. } => {
             add_moved(alloc, base_clauses, steps, certificate.steps.as_slice())
         }
@@ -114,6 +124,3 @@ fn add_moved(
     }
     Ok(())
 }
-
-#[cfg(test)]
-mod tests;

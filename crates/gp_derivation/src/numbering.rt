@@ -1,6 +1,6 @@
-ghost use Rattle.std.specs.Prelude.{◌≡◌, ℕ, ◌+◌, ◌-◌, ◌<◌, ◌^◌, ◌↔◌, IsTrue, Some, length, IfOk, All, slice_index_or, slice_get};
+ghost use Rattle.std.specs.Prelude.{◌≡◌, ℕ, ◌+◌, ◌-◌, ◌<◌, ◌^◌, ◌↔◌, IsTrue, Some, length, IfOk, All, AllPairs, slice_get};
 ghost use Rattle.std.specs.List.{sum_by};
-ghost use Rattle.gp_derivation.specs.Numbering.{CanBeNumbered, NamesEarlier, renumbered, moved, with_hints, size_of};
+ghost use Rattle.gp_derivation.specs.Numbering.{CanBeNumbered, NamesEarlier, HasNumber, IsNumbered, number_beside, renumbered, moved, with_hints, size_of};
 ghost use Rattle.gp_derivation.specs.declared.log.LogEntry.{LogEntry};
 ghost use Rattle.gp_derivation.specs.declared.step.Step.{Step};
 
@@ -95,19 +95,21 @@ fn is_before(base_clauses: u32, others: usize, hint: u32) -> bool
     hint < base_clauses || ((hint - base_clauses) as usize) < others
 }
 
-// The step whose hints to entries name the numbers of these.
+// The step whose hints to entries name the numbers that stand beside their places.
 pub(crate) fn renumber(
     alloc: Global,
     base_clauses: u32,
+    places: &[u32],
     numbers: &[u32],
     step: &Step,
 ) -> Result<Step, AllocError>
-    requires { All (λ hint. hint < base_clauses + length numbers.now) step.now.hints }
-    ensures { IfOk result (λ copy. copy ≡ with_hints (renumbered base_clauses (λ place. slice_index_or numbers.now place 0)) step.now) }
+    requires rising { AllPairs (λ a b. a < b) places.now }
+    requires numbered { All (IsNumbered base_clauses places.now numbers.now) step.now.hints }
+    ensures { IfOk result (λ copy. copy ≡ with_hints (renumbered base_clauses (number_beside places.now numbers.now)) step.now) }
 {
     let mut hints = Vec::new(alloc);
     for hint in step.hints.as_slice() {
-        hints.push(number(base_clauses, numbers, *hint))?;
+        hints.push(number(base_clauses, places, numbers, *hint))?;
     }
     Ok(Step {
         clause: step.clause.clone()?,
@@ -116,15 +118,26 @@ pub(crate) fn renumber(
 }
 
 // The hint to what has this number.
-fn number(base_clauses: u32, numbers: &[u32], hint: u32) -> u32
-    requires { hint < base_clauses + length numbers.now }
-    ensures { result ≡ renumbered base_clauses (λ place. slice_index_or numbers.now place 0) hint }
+fn number(base_clauses: u32, places: &[u32], numbers: &[u32], hint: u32) -> u32
+    requires rising { AllPairs (λ a b. a < b) places.now }
+    requires numbered { IsNumbered base_clauses places.now numbers.now hint }
+    ensures { result ≡ renumbered base_clauses (number_beside places.now numbers.now) hint }
 {
     if hint < base_clauses {
         hint
     } else {
-        numbers[(hint - base_clauses) as usize]
+        number_of_place(places, numbers, hint - base_clauses)
     }
+}
+
+// The number beside a place.
+fn number_of_place(places: &[u32], numbers: &[u32], place: u32) -> u32
+    requires rising { AllPairs (λ a b. a < b) places.now }
+    requires there { HasNumber places.now numbers.now place }
+    ensures { result ≡ number_beside places.now numbers.now place }
+{
+    let at = places.binary_search(&place).unwrap();
+    numbers[at]
 }
 
 // The step whose hints to steps name those that come so many later.

@@ -1,4 +1,4 @@
-ghost use Rattle.std.specs.Prelude.{◌≡◌, ◌+◌, ◌<◌, ◌≤◌, ◌^◌, ◌↔◌, [], ◌++◌, length, IsTrue, IfOk, All};
+ghost use Rattle.std.specs.Prelude.{◌≡◌, ◌+◌, ◌<◌, ◌≤◌, ◌^◌, ◌↔◌, [], ◌++◌, length, IsTrue, IfOk, OnOk, All};
 ghost use Rattle.gp_clause.specs.Clause.{NamesBelow};
 ghost use Rattle.gp_clause.specs.Problem.{IsValidEdge, IsValidKind};
 ghost use Rattle.gp_clause.specs.Walk.{HasNegativeCycle};
@@ -11,7 +11,7 @@ use std::alloc::{AllocError, Global};
 
 // Fixed edges, and a graph that tells whether bounds close a negative cycle with them. Where they hold one themselves
 // the graph has none of them.
-#[derive(Drop)]
+#[derive(Debug, Drop)]
 pub(crate) struct Places {
     edges: Row<Edge>,
     graph: Graph,
@@ -44,6 +44,17 @@ impl Places {
             graph,
             cyclic,
         })
+    }
+
+    // Makes room for so many bounds.
+    pub(crate) fn reserve(&mut self, count: u32) -> Result<(), AllocError>
+        requires { AreBare 0 self.old }
+        ensures same { self.new ≡ record self.old { graph = self.new.graph } }
+        ensures graph { self.new.graph ≡ record self.old.graph { room = self.new.graph.room } }
+        ensures room { OnOk result (count ≤ self.new.graph.room) }
+        ensures more { self.old.graph.room ≤ self.new.graph.room }
+    {
+        self.graph.reserve(count)
     }
 
     // Whether the edges and the bounds of the literals hold a negative cycle.

@@ -1,51 +1,73 @@
-ghost use Rattle.std.specs.Prelude.{◌≡◌, ℕ, ◌+◌, ◌-◌, ◌<◌, ◌↔◌, ◌⊎◌, IsTrue, true, false, nat_lt, if◌then◌else◌, [], Some, length, IfOk, All, Contains, slice_index_or, slice_get, slice_set};
+ghost use Rattle.std.specs.Prelude.{◌≡◌, ℕ, ◌+◌, ◌<◌, ◌↔◌, ◌⊎◌, Some, length, IfOk, OnOk, All, AllPairs, Contains, slice_get};
 ghost use Rattle.gp_derivation.specs.Numbering.{NamesEarlier};
 ghost use Rattle.gp_derivation.specs.Reach.{IsReached, rests_on as hints_of};
 ghost use Rattle.gp_derivation.specs.declared.log.LogEntry.{LogEntry};
 
 use crate::log::{LogEntry, Origin};
 use std::alloc::{AllocError, Global};
+use std::collections::BTreeSet;
 
-// Whether each entry of a log is one on which a step with these hints rests.
+// The places of the entries on which a step with these hints rests, in the order of the log.
 pub(crate) fn reached(
     alloc: Global,
     base_clauses: u32,
     log: &[LogEntry],
     hints: &[u32],
-) -> Result<Vec<bool>, AllocError>
+) -> Result<Vec<u32>, AllocError>
     requires within { All (λ hint. hint < base_clauses + length log.now) hints.now }
     requires entries { (place : ℕ) (entry : LogEntry) → slice_get log.now place ≡ Some entry → NamesEarlier base_clauses place entry.step entry.origin }
-    ensures length { IfOk result (λ needed. length needed.items ≡ length log.now) }
-    ensures reached { IfOk result (λ needed. (place : ℕ) → IsTrue (slice_index_or needed.items place false) ↔ IsReached base_clauses log.now hints.now place) }
+    ensures rising { IfOk result (λ places. AllPairs (λ a b. a < b) places.items) }
+    ensures reached { IfOk result (λ places. (place : ℕ) → Contains places.items place ↔ IsReached base_clauses log.now hints.now place) }
 {
-    let mut needed = vec![in alloc; false; log.len()]?;
-    mark(&mut needed, base_clauses, hints);
-    for place in (0..log.len()).rev() {
-        let hints = rests_on_if(needed[place], &log[place]);
-        mark(&mut needed, base_clauses, hints);
-    }
-    Ok(needed)
+    let mut places = descend(alloc, base_clauses, log, hints)?;
+    places.as_mut_slice().reverse();
+    Ok(places)
 }
 
-// Marks the entries that the hints name.
-fn mark(needed: &mut Vec<bool>, base_clauses: u32, hints: &[u32])
-    requires { All (λ hint. hint < base_clauses + length needed.old.items) hints.now }
-    ensures length { length needed.new.items ≡ length needed.old.items }
-    ensures marked { (place : ℕ) → IsTrue (slice_index_or needed.new.items place false) ↔ (IsTrue (slice_index_or needed.old.items place false) ⊎ Contains hints.now (base_clauses + place)) }
+// The same places, the last one first: what the hints name is visited from the end of the log on, with what its own hints
+// name.
+fn descend(
+    alloc: Global,
+    base_clauses: u32,
+    log: &[LogEntry],
+    hints: &[u32],
+) -> Result<Vec<u32>, AllocError>
+    requires within { All (λ hint. hint < base_clauses + length log.now) hints.now }
+    requires entries { (place : ℕ) (entry : LogEntry) → slice_get log.now place ≡ Some entry → NamesEarlier base_clauses place entry.step entry.origin }
+    ensures falling { IfOk result (λ places. AllPairs (λ a b. b < a) places.items) }
+    ensures reached { IfOk result (λ places. (place : ℕ) → Contains places.items place ↔ IsReached base_clauses log.now hints.now place) }
+{
+    let mut places = Vec::new(alloc);
+    let mut todo = BTreeSet::new(alloc);
+    queue(&mut todo, base_clauses, hints)?;
+    let mut bound = log.len();
+    while let Some(place) = todo.pop_last() {
+        bound = place as usize;
+        queue(&mut todo, base_clauses, rests_on(&log[bound]))?;
+        places.push(place)?;
+    }
+    Ok(places)
+}
+
+// Queues the places of the entries that the hints name.
+fn queue(todo: &mut BTreeSet<u32>, base_clauses: u32, hints: &[u32]) -> Result<(), AllocError>
+    ensures { OnOk result ((place : ℕ) → Contains todo.new.keys place ↔ (Contains todo.old.keys place ⊎ Contains hints.now (base_clauses + place))) }
 {
     for hint in hints {
-        mark_one(needed, base_clauses, *hint);
+        queue_one(todo, base_clauses, *hint)?;
     }
+    Ok(())
 }
 
-// Marks the entry that a hint names, if it names one.
-fn mark_one(needed: &mut Vec<bool>, base_clauses: u32, hint: u32)
-    requires { hint < base_clauses + length needed.old.items }
-    ensures { needed.new.items ≡ (if nat_lt hint base_clauses then needed.old.items else slice_set needed.old.items (hint - base_clauses) true) }
+// Queues the place of the entry that a hint names, if it names one.
+fn queue_one(todo: &mut BTreeSet<u32>, base_clauses: u32, hint: u32) -> Result<(), AllocError>
+    ensures { OnOk result ((place : ℕ) → Contains todo.new.keys place ↔ (Contains todo.old.keys place ⊎ (hint ≡ base_clauses + place))) }
 {
-    if hint >= base_clauses {
-        needed[(hint - base_clauses) as usize] = true;
+    if hint < base_clauses {
+        return Ok(());
     }
+    todo.insert(hint - base_clauses)?;
+    Ok(())
 }
 
 // The hints by which an entry rests on others.
@@ -56,11 +78,4 @@ fn rests_on(entry: &LogEntry) -> &[u32]
         Origin::Learned => entry.step.hints.as_slice(),
         Origin::Taken { .. } => &[],
     }
-}
-
-// The same where the entry is needed, and else none.
-fn rests_on_if(needed: bool, entry: &LogEntry) -> &[u32]
-    ensures { result.now ≡ (if needed then hints_of entry.now.step entry.now.origin else []) }
-{
-    if needed { rests_on(entry) } else { &[] }
 }

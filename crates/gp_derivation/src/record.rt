@@ -1,3 +1,5 @@
+ghost use Rattle.gp_derivation.specs.Spent.{SpentStays};
+
 use crate::log::LogEntry;
 use gp_clause::Row;
 
@@ -32,3 +34,8 @@ pub struct WorkerRecord {
     pub turns: Row<Turn>,
     pub offered: Row<Offered>,
 }
+
+/// A law: a turn that is spent on some entries of a log stays so when the log grows.
+pub fn spent_stays()
+    ensures { SpentStays }
+{}

@@ -1,33 +1,32 @@
-ghost use Rattle.std.specs.Prelude.{◌≡◌, ◌+◌, ◌<◌, ◌^◌, ◌↔◌, [], ◌++◌, length, IsTrue, IfOk, All};
+ghost use Rattle.std.specs.Prelude.{◌≡◌, ◌<◌, ◌^◌, ◌++◌, [], length, slice_get, IfOk, OnOk, OnErr, All, Contains, MatchBool};
+ghost use Rattle.std.specs.List.{remove};
+ghost use Rattle.std.specs.Option.{option_map};
 ghost use Rattle.gp_clause.specs.Clause.{NamesBelow, NamesOnce};
 ghost use Rattle.gp_clause.specs.Problem.{IsValidKind, IsValidProblem};
-ghost use Rattle.gp_derivation.specs.Assignment.{IsKept};
-ghost use Rattle.gp_derivation.specs.Places.{AreBare};
-ghost use Rattle.gp_derivation.specs.Step.{IsRefuted, Passes, negations};
+ghost use Rattle.gp_derivation.specs.Log.{logged};
+ghost use Rattle.gp_derivation.specs.Step.{Passes, named};
+ghost use Rattle.gp_derivation.specs.Tight.{IsTight};
 
-use crate::assignment::Assignment;
-use crate::places::Places;
-use gp_clause::{Clause, Kind, Lit, Problem, closure_is_least};
+use crate::bench::Bench;
+use crate::log::LogEntry;
+use gp_clause::{Clause, Kind, Lit, Problem};
 use std::alloc::{AllocError, Global};
 use std::marker::Model;
 
-/// Tells which clauses pass. It is made once for a problem, keeps one assignment and one set of places over all tries,
-/// and takes back what a try did.
-#[derive(Drop)]
+/// Makes clauses tight. It is made once for a problem, keeps what it needs over all tries, and takes back what a try did.
+#[derive(Debug, Drop)]
 pub struct Tester {
-    kinds: Vec<Kind>,
-    assignment: Assignment,
-    places: Places,
+    bench: Bench,
 }
 
 impl Model for Tester {
-    ghost use Rattle.gp_derivation.specs.Tester.{TesterForm, IsReady};
+    ghost use Rattle.gp_derivation.specs.Tester.{TesterForm, IsUnloaded};
 
     ghost Value = { TesterForm };
 
-    ghost view = { λ t. record { edges = t.places.edges; kinds = t.kinds.items } };
+    ghost view = { λ t. record { points = t.bench.points; edges = t.bench.edges; lasting = t.bench.lasting; kinds = t.bench.kinds } };
 
-    ghost invariant = { IsReady };
+    ghost invariant = { IsUnloaded };
 }
 
 impl Tester {
@@ -36,92 +35,133 @@ impl Tester {
         requires valid { IsValidProblem problem.now }
         requires few { length locals.now < 2 ^ 30 }
         requires locals { All (IsValidKind problem.now.points) locals.now }
-        ensures { IfOk result (λ tester. tester ≡ record { edges = problem.now.edges; kinds = problem.now.kinds ++ locals.now }) }
+        ensures { IfOk result (λ tester. tester ≡ record { points = problem.now.points; edges = problem.now.edges; lasting = problem.now.kinds; kinds = problem.now.kinds ++ locals.now }) }
     {
-        let mut kinds = Vec::from_slice(alloc, problem.kinds.as_slice())?;
-        kinds.extend_from_slice(locals)?;
-        let assignment = Assignment::new(alloc, kinds.len())?;
-        let edges = problem.edges.as_slice();
-        let places = Places::new(alloc, problem.points, edges, kinds.len() as u32)?;
-        Ok(Tester {
-            kinds,
-            assignment,
-            places,
-        })
+        let bench = Bench::new(alloc, problem, locals)?;
+        Ok(Tester { bench })
     }
 
-    /// Whether a clause with these literals passes with the clauses. It takes no memory.
-    pub fn passes(&mut self, clauses: &[Clause], lits: &[Lit]) -> bool
-        requires within { All (NamesBelow (length self.old.kinds)) clauses.now }
-        requires once { NamesOnce lits.now }
-        ensures passes { IsTrue result ↔ Passes self.old.edges self.old.kinds clauses.now lits.now }
+    /// Changes the locals. It costs what the old ones and the new ones are; after want of memory there are none.
+    pub fn set_locals(&mut self, locals: &[Kind]) -> Result<(), AllocError>
+        requires few { length locals.now < 2 ^ 30 }
+        requires locals { All (IsValidKind self.old.points) locals.now }
+        ensures ok { OnOk result (self.new ≡ record self.old { kinds = self.old.lasting ++ locals.now }) }
+        ensures err { OnErr result (self.new ≡ record self.old { kinds = self.old.lasting }) }
+    {
+        self.bench.set_locals(locals)
+    }
+
+    /// Some of the literals of a clause that passes with the clauses that hints name: with any one more literal left out
+    /// it would not pass. The hints number the clauses of the problem and then those of the log.
+    pub fn tighten(
+        &mut self,
+        problem: &Problem,
+        log: &[LogEntry],
+        hints: &[u32],
+        clause: Clause,
+    ) -> Result<Clause, AllocError>
+        requires within { All (NamesBelow (length self.old.kinds)) (named (logged problem.now log.now) hints.now) }
+        requires passes { Passes self.old.edges self.old.kinds (named (logged problem.now log.now) hints.now) clause }
+        ensures some { IfOk result (All (Contains clause)) }
+        ensures passes { IfOk result (Passes self.old.edges self.old.kinds (named (logged problem.now log.now) hints.now)) }
+        ensures tight { IfOk result (IsTight self.old.edges self.old.kinds (named (logged problem.now log.now) hints.now)) }
         ensures same { self.new ≡ self.old }
     {
-        if !is_within(lits, self.kinds.len()) {
-            return false;
+        let outcome = tightened(&mut self.bench, problem, log, hints, clause);
+        self.bench.clear();
+        outcome
+    }
+}
+
+// Some of the literals of a clause that passes with the clauses that hints name, which are left loaded.
+fn tightened(
+    bench: &mut Bench,
+    problem: &Problem,
+    log: &[LogEntry],
+    hints: &[u32],
+    clause: Clause,
+) -> Result<Clause, AllocError>
+    requires empty { bench.old.loaded ≡ [] }
+    requires within { All (NamesBelow (length bench.old.kinds)) (named (logged problem.now log.now) hints.now) }
+    requires passes { Passes bench.old.edges bench.old.kinds (named (logged problem.now log.now) hints.now) clause }
+    ensures some { IfOk result (All (Contains clause)) }
+    ensures passes { IfOk result (Passes bench.old.edges bench.old.kinds (named (logged problem.now log.now) hints.now)) }
+    ensures tight { IfOk result (IsTight bench.old.edges bench.old.kinds (named (logged problem.now log.now) hints.now)) }
+    ensures same { bench.new ≡ record bench.old { loaded = bench.new.loaded } }
+{
+    load_named(bench, problem, log, hints)?;
+    let lits = left_over(bench, clause)?;
+    match Clause::of(lits) {
+        Ok(tight) => Ok(tight),
+        Err(_) => unreachable!(),
+    }
+}
+
+// Leaves out one literal after another of a clause, where the rest passes.
+fn left_over(bench: &mut Bench, clause: Clause) -> Result<Vec<Lit>, AllocError>
+    requires { Passes bench.old.edges bench.old.kinds bench.old.loaded clause }
+    ensures once { IfOk result (λ lits. NamesOnce lits.items) }
+    ensures some { IfOk result (λ lits. All (Contains clause) lits.items) }
+    ensures passes { IfOk result (λ lits. Passes bench.old.edges bench.old.kinds bench.old.loaded lits.items) }
+    ensures tight { IfOk result (λ lits. IsTight bench.old.edges bench.old.kinds bench.old.loaded lits.items) }
+    ensures same { bench.new ≡ bench.old }
+{
+    let mut lits = clause.into_vec();
+    let mut index = 0;
+    while index < lits.len() {
+        if !leave_out(bench, &mut lits, index)? {
+            index += 1;
         }
-        let kinds = self.kinds.as_slice();
-        refutes(kinds, &mut self.assignment, &mut self.places, clauses, lits)
     }
+    Ok(lits)
 }
 
-// Whether all variables are below the count.
-fn is_within(lits: &[Lit], count: usize) -> bool
-    ensures { IsTrue result ↔ NamesBelow count lits.now }
+// Leaves out the literal at an index where the others pass. Tells whether they do.
+fn leave_out(bench: &mut Bench, lits: &mut Vec<Lit>, index: usize) -> Result<bool, AllocError>
+    requires index { index < length lits.old.items }
+    requires once { NamesOnce lits.old.items }
+    ensures passes { IfOk result (λ left. MatchBool left (Passes bench.old.edges bench.old.kinds bench.old.loaded (remove lits.old.items index)) (Passes bench.old.edges bench.old.kinds bench.old.loaded (remove lits.old.items index) → ⊥)) }
+    ensures lits { IfOk result (λ left. MatchBool left (lits.new.items ≡ remove lits.old.items index) (lits.new.items ≡ lits.old.items)) }
+    ensures same { bench.new ≡ bench.old }
 {
-    lits.iter().all(|lit| (lit.variable as usize) < count)
-}
-
-// Whether the clauses refute the negation of the literals. All is taken back.
-fn refutes(
-    kinds: &[Kind],
-    assignment: &mut Assignment,
-    places: &mut Places,
-    clauses: &[Clause],
-    lits: &[Lit],
-) -> bool
-    requires kept { IsKept assignment.old }
-    requires none { assignment.old.trail.items ≡ [] }
-    requires size { length assignment.old.values.items ≡ length kinds.now }
-    requires bare { AreBare (length kinds.now) places.old }
-    requires kinds { All (IsValidKind places.old.graph.points) kinds.now }
-    requires within { All (NamesBelow (length kinds.now)) clauses.now }
-    requires named { NamesBelow (length kinds.now) lits.now }
-    requires once { NamesOnce lits.now }
-    ensures refuted { IsTrue result ↔ IsRefuted places.old.edges kinds.now clauses.now (negations lits.now) }
-    ensures kept { IsKept assignment.new }
-    ensures none { assignment.new.trail.items ≡ [] }
-    ensures size { length assignment.new.values.items ≡ length kinds.now }
-    ensures same { places.new ≡ record places.old { graph = places.new.graph } }
-    ensures graph { places.new.graph ≡ record places.old.graph { places = places.new.graph.places; cycle = places.new.graph.cycle } }
-{
-    assignment.assume(lits);
-    let refuted = derive(kinds, assignment, places, clauses);
-    assignment.clear();
-    refuted
-}
-
-// Makes true what is derived from the literals that are true, and tells whether the clauses refute these.
-fn derive(
-    kinds: &[Kind],
-    assignment: &mut Assignment,
-    places: &mut Places,
-    clauses: &[Clause],
-) -> bool
-    requires kept { IsKept assignment.old }
-    requires size { length assignment.old.values.items ≡ length kinds.now }
-    requires bare { AreBare (length kinds.now) places.old }
-    requires kinds { All (IsValidKind places.old.graph.points) kinds.now }
-    requires within { All (NamesBelow (length kinds.now)) clauses.now }
-    ensures refuted { IsTrue result ↔ IsRefuted places.old.edges kinds.now clauses.now assignment.old.trail.items }
-    ensures kept { IsKept assignment.new }
-    ensures size { length assignment.new.values.items ≡ length kinds.now }
-    ensures same { places.new ≡ record places.old { graph = places.new.graph } }
-    ensures graph { places.new.graph ≡ record places.old.graph { places = places.new.graph.places; cycle = places.new.graph.cycle } }
-{
-    closure_is_least();
-    if assignment.settle(clauses) {
-        return true;
+    let lit = lits.remove(index);
+    if bench.passes(lits.as_slice()) {
+        return Ok(true);
     }
-    places.close_cycle(kinds, assignment.trail())
+    lits.insert(index, lit)?;
+    Ok(false)
+}
+
+// Loads the clauses that hints name, of a problem and then of a log.
+fn load_named(
+    bench: &mut Bench,
+    problem: &Problem,
+    log: &[LogEntry],
+    hints: &[u32],
+) -> Result<(), AllocError>
+    requires empty { bench.old.loaded ≡ [] }
+    requires within { All (NamesBelow (length bench.old.kinds)) (named (logged problem.now log.now) hints.now) }
+    ensures ok { OnOk result (bench.new ≡ record bench.old { loaded = named (logged problem.now log.now) hints.now }) }
+    ensures same { bench.new ≡ record bench.old { loaded = bench.new.loaded } }
+{
+    for hint in hints {
+        if let Some(clause) = numbered(problem, log, *hint as usize) {
+            bench.load(clause.clone()?)?;
+        }
+    }
+    Ok(())
+}
+
+// The clause with a number, of a problem and then of a log.
+fn numbered<'a>(problem: &'a Problem, log: &'a [LogEntry], number: usize) -> Option<&'a Clause>
+    ensures { option_map (λ clause. clause.now) result ≡ slice_get (logged problem.now log.now) number }
+{
+    let bases = problem.clauses.len();
+    if number < bases {
+        return Some(&problem.clauses.as_slice()[number]);
+    }
+    match log.get(number - bases) {
+        Some(entry) => Some(&entry.step.clause),
+        None => None,
+    }
 }

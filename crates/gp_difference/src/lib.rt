@@ -11,15 +11,15 @@ mod bounds;
 mod falls;
 mod fault;
 mod graph;
+mod keeping;
 mod laws;
 mod lower;
 mod placement;
 mod settle;
 mod start;
-#[cfg(test)]
-mod tests;
 
 pub use bound::Bound;
 pub use fault::{Asserted, GraphFault};
 pub use graph::Graph;
+pub use keeping::keeps;
 pub use laws::closed_walks_refute;

@@ -6,7 +6,7 @@ use Rattle.gp_window.specs.declared.schedule.EventId.{EventId}
 use Rattle.gp_replay.specs.Step.{count_of, turn_of}
 use Rattle.gp_replay.specs.declared.rule.Rule.{Rule}
 use Rattle.gp_replay.specs.declared.state.State.{State}
-use Rattle.gp_replay.proofs.Steps.{turn_is_count}
+use Rattle.gp_replay.specs.StepLaws.{turn_is_count}
 
 -- states with the same counts
 same_counts : (state later : State) (thread : ℕ) → later.counts ≡ state.counts → count_of later thread ≡ count_of state thread

@@ -1,13 +1,11 @@
 -- Lines that spell a schedule are read as it, and no others are.
-use Rattle.std.proofs.Common.{ℕ, ◌≡◌, ◌<◌, ◌≤◌, ◌^◌, ap, sym, ◌∙◌, refl, subst, Bool, true, false, List, [], ◌∷◌, ◌++◌, map, arith}
-use Rattle.std.specs.Prelude.{Option, Some, None, Result, Ok, Err, IfOk, codes, decimal, if◌then◌else◌, nat_le, ◌&&◌}
+use Rattle.std.proofs.Common.{ℕ, ◌≡◌, ◌<◌, ◌≤◌, ◌^◌, ap, sym, ◌∙◌, refl, subst, List, [], ◌∷◌, ◌++◌, map, arith}
+use Rattle.std.specs.Prelude.{Option, Some, None, Result, Ok, Err, IfOk, codes}
 use Rattle.std.specs.List.{AllByRecursion}
-use Rattle.std.specs.Str.{bytes_eq}
-use Rattle.std.proofs.lemmas.Bool.{le-leb, leb-true}
-use Rattle.std.proofs.lemmas.Slice.Eq.{bytes_eq-Decides}
-use Rattle.gp_text.specs.Numbers.{OneSpelling, between, number_after, small_number_of}
+use Rattle.gp_text.specs.Numbers.{OneSpelling, between, number_after}
 use Rattle.gp_text.specs.Results.{or_refusal, then_rest, with_prefix}
 use Rattle.gp_text.specs.declared.line.Line.{Line}
+use Rattle.gp_window.specs.NumberLaws.{is_between, keyword_and_number, number_is_after, was_between}
 use Rattle.gp_window.specs.EventIds.{EventIdsReadExactly, event_id_of, event_id_text}
 use Rattle.gp_window.specs.declared.schedule.EventId.{EventId}
 use Rattle.gp_replay.specs.Grammar.{AreEventIds, Spells, words_in}
@@ -106,50 +104,6 @@ texts_are_lines law (line ∷ lines) ids small e =
     ∙ ap (λ (rest : Result (List EventId) ScheduleFault). with_prefix parts.0 rest) later
     ∙ ap Ok (sym parts.2)
 
--- a test between two bounds that passed
-between_passed : (least most : Bool) (m n : ℕ) → ◌≡◌ {A = Option ℕ} (if least && most then Some m else None) (Some n) → (least ≡ true) × (most ≡ true) × (m ≡ n)
-between_passed true true m n e = (refl, refl, (cc))
-between_passed true false m n e = cc
-between_passed false most m n e = cc
-
--- a number that is one of those between is there, and between
-was_between : (low high : ℕ) (number : Option ℕ) (n : ℕ) → between low high number ≡ Some n → (number ≡ Some n) × (low ≤ n) × (n ≤ high)
-was_between low high None n e = cc
-was_between low high (Some m) n e =
-    let passed = between_passed (nat_le low m) (nat_le m high) m n e in
-    let least : low ≤ m = leb-true low m passed.0 in
-    let most : m ≤ high = leb-true m high passed.1 in
-    let same : m ≡ n = passed.2 in
-    (ap Some same, omega arith, omega arith)
-
--- a number between two bounds is one of those between
-is_between : (low high n : ℕ) → low ≤ n → n ≤ high → between low high (Some n) ≡ Some n
-is_between low high n least most =
-    ap (λ b. if b && nat_le n high then Some n else None) (le-leb low n least)
-    ∙ ap (λ b. if b then Some n else None) (le-leb n high most)
-
-after_passed : (b : Bool) (number : Option ℕ) (n : ℕ) → ◌≡◌ {A = Option ℕ} (if b then number else None) (Some n) → (b ≡ true) × (number ≡ Some n)
-after_passed true number n e = (refl, e)
-after_passed false number n e = cc
-
--- a line with a keyword's number is the keyword and the number
-keyword_and_number : OneSpelling → (keyword : List ℕ) (words : List (List ℕ)) (n : ℕ) → n < 2 ^ 32
-    → number_after keyword words ≡ Some n → words ≡ keyword ∷ decimal n ∷ []
-keyword_and_number law keyword [] n small e = cc
-keyword_and_number law keyword (first ∷ []) n small e = cc
-keyword_and_number law keyword (first ∷ number ∷ []) n small e =
-    let passed = after_passed (bytes_eq first keyword) (small_number_of number) n e in
-    let same : first ≡ keyword = (bytes_eq-Decides first keyword).0 passed.0 in
-    let spelled : number ≡ decimal n = (law.small number n small).0 passed.1 in
-    ap (λ word. word ∷ number ∷ []) same ∙ ap (λ word. keyword ∷ word ∷ []) spelled
-keyword_and_number law keyword (first ∷ second ∷ third ∷ more) n small e = cc
-
--- a keyword and a number are read as the number
-number_is_after : OneSpelling → (keyword : List ℕ) (n : ℕ) → n < 2 ^ 32 → number_after keyword (keyword ∷ decimal n ∷ []) ≡ Some n
-number_is_after law keyword n small =
-    ap (λ b. if b then small_number_of (decimal n) else None) ((bytes_eq-Decides keyword keyword).1 refl)
-    ∙ (law.small (decimal n) n small).1 refl
-
 -- the events that were read are the schedule's
 events_given : (window : ℕ) (events : Result (List EventId) ScheduleFault) (read : WindowSchedule) → schedule_with window events ≡ Ok read
     → (events ≡ Ok read.schedule.events) × (window ≡ read.window)
@@ -178,7 +132,7 @@ read_is_spelled numbers ids epochs end (line ∷ lines) read few small e =
       first = line;
       rest = lines;
       all = refl;
-      window = keyword_and_number numbers (codes "window") line.words read.window (omega arith) named.0;
+      window = keyword_and_number numbers (codes "window") line.words read.window named.0;
       least = least;
       most = most;
       events = lines_are_texts ids lines read.schedule.events small given.1;

@@ -1,15 +1,4 @@
 pub mod Countable
-pub mod Counts
-pub mod Exclusion
 pub mod Grammar
-pub mod Holders
-pub mod Orders
-pub mod Parts
-pub mod ReaderSets
 pub mod Runs
-pub mod Sharing
-pub mod Sizes
 pub mod Starts
-pub mod Steps
-pub mod Uses
-pub mod Values

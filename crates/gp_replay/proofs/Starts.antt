@@ -1,19 +1,30 @@
 -- Entries that are put into a table in the order of their keys.
-use Rattle.std.proofs.Common.{ℕ, ◌≡◌, ◌∙◌, sym, ap, refl, subst, List, [], ◌∷◌, ◌++◌, append_assoc}
+use Rattle.std.proofs.Common.{ℕ, true, ◌≡◌, ◌∙◌, sym, ap, refl, subst, List, [], ◌∷◌, ◌++◌, append_assoc}
+use Rattle.std.specs.Prelude.{◌↔◌, Some}
 use Rattle.std.specs.declared.cmp.Ordering.{Ordering}
 use Rattle.std.specs.declared.cmp.Ordering.TheVariants.{Less, Greater}
-use Rattle.std.specs.Ordering.{ordering_reverse}
+use Rattle.std.specs.Cmp.Lexicographic.{slice_cmp}
+use Rattle.std.specs.Ordering.{nat_cmp, ordering_reverse}
 use Rattle.std.specs.Cmp.{IsTotalOrder}
 use Rattle.std.specs.BTreeMap.{insert_entry}
 use Rattle.std.specs.BTreeSet.{insert_key}
 use Rattle.std.specs.List.{AllByRecursion}
 use Rattle.std.specs.List.Sorted.{IsStrictlySortedBy}
 use Rattle.std.specs.Map.{keys_of}
+use Rattle.std.proofs.lemmas.Cmp.{nat_list_cmp_total}
 use Rattle.std.proofs.lemmas.List.{append-nil}
+use Rattle.std.proofs.lemmas.Map.Lookups.{exact_bytes}
+use Rattle.std.proofs.lemmas.Map.Views.{Contains-from_lookup, tells_apart}
 use Rattle.gp_window.specs.Holders.{holder_cmp}
-use Rattle.gp_replay.specs.Readers.{with_readers}
-use Rattle.gp_replay.proofs.ReaderSets.{holder_total}
-use Rattle.gp_text.specs.Table.{with_entries}
+use Rattle.gp_window.specs.HoldersLaws.{holder_total, stands_to}
+use Rattle.gp_trace.specs.declared.lock_use.LockMode.TheVariants.{Exclusive, Shared}
+use Rattle.gp_window.specs.Formed.{IsFormed, mode_at_start}
+use Rattle.gp_window.specs.FormedLaws.{holds_at_start, reads_at_start}
+use Rattle.gp_window.specs.WindowForm.{WindowForm}
+use Rattle.gp_replay.specs.Readers.{is_reader, with_readers}
+use Rattle.gp_replay.specs.Step.{holder_of, start_state}
+use Rattle.gp_replay.specs.ExclusionLaws.{HoldersAreAlone}
+use Rattle.gp_text.specs.Table.{value_at, with_entries}
 
 -- an entry above all others goes to their end
 put_last : {K V : Type 0} {R : K → K → Ordering} (o : IsTotalOrder R) (prefix : List (K × V)) (k : K) (v : V)
@@ -87,3 +98,34 @@ add_in_order prefix (reader ∷ back) sorted =
 -- readers in order are the readers that are added one after another
 pub add_all_in_order : (readers : List (List ℕ × ℕ)) → IsStrictlySortedBy holder_cmp readers → with_readers [] readers ≡ readers
 add_all_in_order readers sorted = add_in_order [] readers sorted
+
+-- a window begins as it tells, where it is formed
+pub values_as_told : (window : WindowForm) → IsFormed window → (start_state window).values ≡ window.start_values
+values_as_told window formed = put_all_in_order nat_list_cmp_total window.start_values formed.values
+
+pub holders_as_told : (window : WindowForm) → IsFormed window → (start_state window).holders ≡ window.holders
+holders_as_told window formed = put_all_in_order nat_list_cmp_total window.holders formed.holders
+
+pub readers_as_told : (window : WindowForm) → IsFormed window → (start_state window).readers ≡ window.readers
+readers_as_told window formed = add_all_in_order window.readers formed.readers
+
+-- a thread is the holder of a lock where it holds the lock alone, and a reader where it reads it
+pub held_as_told : (window : WindowForm) → IsFormed window → (lock : List ℕ) (thread : ℕ)
+    → (holder_of (start_state window) lock ≡ Some thread) ↔ (mode_at_start window thread lock ≡ Some Exclusive)
+held_as_told window formed lock thread =
+    subst (λ holders. (value_at (slice_cmp nat_cmp) holders lock ≡ Some thread) ↔ (mode_at_start window thread lock ≡ Some Exclusive))
+    (sym (holders_as_told window formed)) (holds_at_start window formed lock thread)
+
+pub read_as_told : (window : WindowForm) → IsFormed window → (lock : List ℕ) (thread : ℕ)
+    → (is_reader (start_state window).readers lock thread ≡ true) ↔ (mode_at_start window thread lock ≡ Some Shared)
+read_as_told window formed lock thread =
+    subst (λ readers. (is_reader readers lock thread ≡ true) ↔ (mode_at_start window thread lock ≡ Some Shared))
+    (sym (readers_as_told window formed)) (reads_at_start window formed lock thread)
+
+-- and no lock that has a holder then has a reader
+pub alone_at_start : (window : WindowForm) → IsFormed window → HoldersAreAlone (start_state window)
+alone_at_start window formed lock one other holds reads =
+    formed.alone lock one other
+    (Contains-from_lookup (tells_apart exact_bytes) lock one window.holders
+    (ap (λ holders. value_at (slice_cmp nat_cmp) holders lock) (sym (holders_as_told window formed)) ∙ holds))
+    (stands_to window.readers lock other (subst (λ readers. is_reader readers lock other ≡ true) (readers_as_told window formed) reads))

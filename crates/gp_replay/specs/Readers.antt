@@ -5,11 +5,12 @@ use Rattle.std.specs.BTreeMap.{is_at}
 use Rattle.std.specs.BTreeSet.{insert_key}
 use Rattle.std.specs.List.{list_any}
 use Rattle.std.specs.Str.{bytes_eq}
+use Rattle.gp_window.specs.Formed.{stands_at}
 use Rattle.gp_window.specs.Holders.{holder_cmp}
 
 -- whether a thread is a reader of a lock
 abbrev pub is_reader : List (List ℕ × ℕ) → List ℕ → ℕ → Bool
-is_reader readers lock thread = list_any (is_at (holder_cmp (lock, thread))) readers
+is_reader readers lock thread = stands_at readers lock thread
 
 -- whether a lock has a reader
 abbrev pub has_reader : List (List ℕ × ℕ) → List ℕ → Bool

@@ -1,15 +1,15 @@
 -- Which threads hold a lock by a racquire.
-use Rattle.std.specs.Prelude.{ℕ, ◌≡◌, ◌↔◌, ◌⊎◌, true, List, ◌∷◌, ◌++◌, Some}
+use Rattle.std.specs.Prelude.{ℕ, ◌≡◌, ◌↔◌, ◌⊎◌, true, List, ◌∷◌, ◌++◌}
 use Rattle.std.specs.List.{AllByRecursion}
 use Rattle.gp_trace.specs.declared.lock_use.LockMode.TheVariants.{Shared}
-use Rattle.gp_window.specs.WindowForm.{WindowForm}
+use Rattle.gp_window.specs.WindowForm.{IsWindow, WindowForm}
 use Rattle.gp_window.specs.declared.schedule.EventId.{EventId}
 use Rattle.gp_replay.specs.declared.state.State.{State}
 use Rattle.gp_replay.specs.Feasible.{IsFeasible, Runs}
 use Rattle.gp_replay.specs.Holder.{Holds}
 use Rattle.gp_replay.specs.LockUses.{GivesBack, Takes}
 use Rattle.gp_replay.specs.Readers.{is_reader}
-use Rattle.gp_replay.specs.Step.{holder_of, start_state}
+use Rattle.gp_replay.specs.Step.{start_state}
 
 -- none of the events is one by which the thread gives the lock back that it holds as a reader
 abbrev pub NoneGivesBack : WindowForm → List EventId → List ℕ → ℕ → Type 0
@@ -29,11 +29,7 @@ abbrev pub ReadersAcquired : Type 0
 ReadersAcquired = (window : WindowForm) (ids : List EventId) (last : State) → Runs window (start_state window) ids last
     → (lock : List ℕ) (thread : ℕ) → (is_reader last.readers lock thread ≡ true) ↔ Shares window (start_state window) ids lock thread
 
--- a lock that has a holder in this state has no reader
-abbrev pub HoldersAreAlone : State → Type 0
-HoldersAreAlone state = (lock : List ℕ) (one other : ℕ) → holder_of state lock ≡ Some one → ¬ (is_reader state.readers lock other ≡ true)
-
--- where no lock that has a holder has a reader when the window begins, it is so after each feasible schedule
+-- after a feasible schedule of a window a lock that has a holder has no reader
 abbrev pub HoldersStayAlone : Type 0
-HoldersStayAlone = (window : WindowForm) (ids : List EventId) → HoldersAreAlone (start_state window) → IsFeasible window ids
+HoldersStayAlone = (window : WindowForm) (ids : List EventId) → IsWindow window → IsFeasible window ids
     → (lock : List ℕ) (one other : ℕ) → Holds window (start_state window) ids lock one → ¬ Shares window (start_state window) ids lock other

@@ -1,19 +1,18 @@
 -- With what a window begins.
-use Rattle.std.specs.Prelude.{ℕ, ◌≡◌, List}
-use Rattle.std.specs.Cmp.Lexicographic.{slice_cmp}
-use Rattle.std.specs.List.Sorted.{IsStrictlySortedBy}
-use Rattle.std.specs.Map.{keys_of}
-use Rattle.std.specs.Ordering.{nat_cmp}
-use Rattle.gp_window.specs.Holders.{holder_cmp}
-use Rattle.gp_window.specs.WindowForm.{WindowForm}
-use Rattle.gp_replay.specs.Step.{start_state}
+use Rattle.std.specs.Prelude.{◌≡◌, ◌↔◌, ℕ, true, List, Some}
+use Rattle.gp_trace.specs.declared.lock_use.LockMode.TheVariants.{Exclusive, Shared}
+use Rattle.gp_window.specs.Formed.{mode_at_start}
+use Rattle.gp_window.specs.WindowForm.{IsWindow, WindowForm}
+use Rattle.gp_replay.specs.Readers.{is_reader}
+use Rattle.gp_replay.specs.Step.{holder_of, start_state}
 
--- the entries stand in the order of their names, each name once
-abbrev pub HasRisingNames : {V : Type 0} → List (List ℕ × V) → Type 0
-HasRisingNames entries = IsStrictlySortedBy (slice_cmp nat_cmp) (keys_of entries)
-
--- a window begins with its start values and with its holders, just as it tells them in the order of their names
+-- a window begins with its start values, its holders and its readers, just as it tells them; so a thread is the holder or a
+-- reader of a lock exactly where it holds the lock in that way
 pub record BeginsAsTold : Type 0 where
-  pub values : (window : WindowForm) → HasRisingNames window.start_values → (start_state window).values ≡ window.start_values
-  pub holders : (window : WindowForm) → HasRisingNames window.holders → (start_state window).holders ≡ window.holders
-  pub readers : (window : WindowForm) → IsStrictlySortedBy holder_cmp window.readers → (start_state window).readers ≡ window.readers
+  pub values : (window : WindowForm) → IsWindow window → (start_state window).values ≡ window.start_values
+  pub holders : (window : WindowForm) → IsWindow window → (start_state window).holders ≡ window.holders
+  pub readers : (window : WindowForm) → IsWindow window → (start_state window).readers ≡ window.readers
+  pub holds : (window : WindowForm) → IsWindow window → (lock : List ℕ) (thread : ℕ)
+      → (holder_of (start_state window) lock ≡ Some thread) ↔ (mode_at_start window thread lock ≡ Some Exclusive)
+  pub reads : (window : WindowForm) → IsWindow window → (lock : List ℕ) (thread : ℕ)
+      → (is_reader (start_state window).readers lock thread ≡ true) ↔ (mode_at_start window thread lock ≡ Some Shared)

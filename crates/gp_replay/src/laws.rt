@@ -8,7 +8,7 @@ ghost use Rattle.gp_replay.specs.Start.{BeginsAsTold};
 ghost use Rattle.gp_replay.specs.Value.{ReadsFindLastWrites, ValuesAreLastWrites};
 
 use gp_text::one_spelling;
-use gp_window::event_ids_read_exactly;
+use gp_window::{event_ids_read_exactly, windows_are_formed};
 
 /// Lines are read as a schedule exactly where they spell it.
 pub fn schedules_read_exactly()
@@ -18,10 +18,12 @@ pub fn schedules_read_exactly()
     event_ids_read_exactly();
 }
 
-/// A window begins with its start values and its holders, just as it tells them by name.
+/// A window begins with its start values, its holders and its readers, just as it tells them.
 pub fn begins_as_told()
     ensures { BeginsAsTold }
-{}
+{
+    windows_are_formed();
+}
 
 /// What `replay` answers is what the words say: it ends exactly where each event may happen in turn,
 /// and it is stuck exactly at the first event that may not.
@@ -86,7 +88,9 @@ pub fn readers_acquired()
     ensures { ReadersAcquired }
 {}
 
-/// After a feasible schedule a lock that has a holder has no reader, if it was so when the window began.
+/// After a feasible schedule of a window a lock that has a holder has no reader.
 pub fn holders_stay_alone()
     ensures { HoldersStayAlone }
-{}
+{
+    windows_are_formed();
+}

@@ -11,7 +11,7 @@ use Rattle.gp_sat.specs.Stored.{Stored}
 use Rattle.gp_sat.specs.declared.watches.Slot.{Slot}
 use Rattle.gp_sat.specs.State.{SolverForm, assigned, clause_at, IsAttached, with_literal}
 use Rattle.gp_sat.specs.Sound.{IsSound}
-use Rattle.gp_sat.specs.Standing.{IsFalse, Each, EachOther}
+use Rattle.gp_sat.specs.Standing.{IsFalse, EachOther}
 use Rattle.gp_sat.specs.Links.{IsIn, put, AreLinked, IsLoose}
 use Rattle.gp_sat.specs.WatchesForm.{WatchesForm}
 use Rattle.gp_sat.specs.Watching.{ArePartners, IsSafe, IsHeld, IsLong, IsSettled, Watches, AreLooked, AreWatched, code, link_at, next_at, watch_at, no_slot}

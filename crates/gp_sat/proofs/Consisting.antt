@@ -1,5 +1,5 @@
 -- What holds of the parts of a solver goes on holding.
-use Rattle.std.proofs.Common.{◌≡◌, ◌≢◌, refl, sym, ◌∙◌, ap, subst, ℕ, ◌+◌, ◌-◌, ◌<◌, ◌≤◌, false, zero, suc, Option, Some, None, List, [], ◌∷◌, ◌++◌, length, get_or, take, drop, map, MatchOption, IfSome, ◌⊎◌, inl, inr, arith}
+use Rattle.std.proofs.Common.{◌≡◌, ◌≢◌, refl, sym, ◌∙◌, ap, subst, ℕ, ◌+◌, ◌-◌, ◌<◌, ◌≤◌, false, Option, Some, None, List, [], ◌∷◌, ◌++◌, length, get_or, take, drop, map, MatchOption, IfSome, ◌⊎◌, inl, inr, arith}
 use Rattle.std.specs.Prelude.{Contains, slice_set, slice_get, replicate}
 use Rattle.std.proofs.lemmas.Bool.{cases_eq, cases_lt}
 use Rattle.std.proofs.lemmas.List.{length-set, length_push, length-map, length-take-le, get_or-take, get_or_push, get_or_append_left, length-replicate, length-append, append_assoc, append-nil, get_or-append-add, take-append-drop}
@@ -14,13 +14,13 @@ use Rattle.gp_sat.specs.State.{SolverForm, assigned, clause_at, kept_to, with_li
 use Rattle.gp_sat.specs.Sound.{IsSound, true_lit}
 use Rattle.gp_sat.specs.Standing.{Each}
 use Rattle.gp_sat.specs.Changes.{MayAdd, Backjumps, IsUpTo}
-use Rattle.gp_sat.specs.Levels.{IsEndOf, AreStarts}
+use Rattle.gp_sat.specs.Levels.{IsEndOf}
 use Rattle.gp_sat.specs.Deciding.{IsPassed, IsPlaced, IsNextFree, IsFull}
 use Rattle.gp_sat.specs.Consistent.{IsConsistent}
 use Rattle.gp_sat.proofs.Adding.{sound_more, laid_is}
 use Rattle.gp_sat.proofs.Cutting.{Cuts, cuts_at, kept_all, sound_cut, front_low, rest_high}
 use Rattle.gp_sat.proofs.Storing.{sound_ordered, sound_empty, all_unassigned}
-use Rattle.gp_sat.specs.SolverLaws.{Adds, added, added_cases, added_stays, adds_literal, kept_was, kept_stays, kept_at, free_at, room_left, within_values}
+use Rattle.gp_sat.specs.SolverLaws.{Adds, added, added_cases, added_stays, adds_literal, kept_was, kept_stays, free_at, room_left, within_values}
 
 -- the front of the order is a place in it
 pub placed_front : (values : ℕ → Option Assigned) (used : ℕ) (order : List ℕ) (place : Option ℕ) → place ≡ slice_get order 0 → IsPlaced values used order place

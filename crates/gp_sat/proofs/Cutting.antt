@@ -1,10 +1,10 @@
 -- The assignments above a level are taken back.
-use Rattle.std.proofs.Common.{◌≡◌, refl, sym, ◌∙◌, ap, subst, ℕ, ◌+◌, ◌<◌, ◌≤◌, Bool, true, false, zero, suc, Option, Some, None, List, [], ◌∷◌, length, get_or, take, drop, map, nat_lt, inl, inr, arith}
+use Rattle.std.proofs.Common.{◌≡◌, sym, ◌∙◌, ap, ℕ, ◌+◌, ◌<◌, ◌≤◌, false, Option, Some, None, List, length, get_or, take, drop, map, inl, inr, arith}
 use Rattle.std.proofs.lemmas.List.{length-map, length-take-le, get_or-take, ext_get_or, length-drop, get_or-drop}
-use Rattle.std.proofs.lemmas.Bool.{cases_eq, cases_lt, ltb-true, ltb-false, le-ltb}
+use Rattle.std.proofs.lemmas.Bool.{cases_lt}
 use Rattle.gp_clause.specs.declared.lit.Lit.{Lit}
 use Rattle.gp_sat.specs.declared.assigned.Assigned.{Assigned}
-use Rattle.gp_sat.specs.State.{SolverForm, assigned, clause_at, above, kept_to}
+use Rattle.gp_sat.specs.State.{SolverForm, assigned, clause_at, kept_to}
 use Rattle.gp_sat.specs.Standing.{Each, IsFalseBefore, IsForcing}
 use Rattle.gp_sat.specs.Sound.{IsOrdered, IsSound, true_lit}
 use Rattle.gp_sat.specs.Changes.{IsUpTo, IsAbove}

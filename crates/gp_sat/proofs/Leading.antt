@@ -1,11 +1,10 @@
 -- What leads to a conflict, and the first unique implication point.
-use Rattle.std.proofs.Common.{◌≡◌, ◌≢◌, refl, sym, ◌∙◌, ap, subst, ℕ, ◌+◌, ◌<◌, ◌≤◌, Bool, true, nat_lt, Some, List, [], ◌∷◌, ◌++◌, length, inl, inr, ◌⊎◌, arith}
+use Rattle.std.proofs.Common.{◌≡◌, refl, sym, ◌∙◌, ap, subst, ℕ, ◌+◌, ◌<◌, ◌≤◌, Bool, true, nat_lt, Some, List, [], ◌∷◌, ◌++◌, length, inl, inr, arith}
 use Rattle.std.specs.Prelude.{Contains}
-use Rattle.std.proofs.lemmas.Bool.{cases_eq, lt-ltb, ltb-true}
+use Rattle.std.proofs.lemmas.Bool.{cases_eq, cases_lt, lt-ltb, ltb-true}
 use Rattle.std.proofs.lemmas.List.Elements.{Contains-push, Contains-push_cases, Contains-append_left}
 use Rattle.gp_clause.specs.declared.lit.Lit.{Lit}
 use Rattle.gp_clause.specs.Lit.{opposite}
-use Rattle.gp_sat.specs.declared.analysis.Stop.{Stop}
 use Rattle.gp_sat.specs.declared.analysis.Stop.TheVariants.{FirstPoint}
 use Rattle.gp_sat.specs.declared.assigned.Assigned.{Assigned}
 use Rattle.gp_sat.specs.State.{SolverForm, assigned, clause_at}
@@ -13,10 +12,10 @@ use Rattle.gp_sat.specs.Standing.{Each}
 use Rattle.gp_sat.specs.Sound.{IsSound, true_lit}
 use Rattle.gp_sat.specs.Learning.{IsBelowLevel, LeadsTo, IsUniquePoint, HasPresentFrom}
 use Rattle.gp_sat.specs.Learning.LeadsTo.{in_conflict, in_reason}
-use Rattle.gp_sat.specs.Marking.{IsMarked, IsPresentAt, HasMarked, IsLowest, IsLower, IsLowestOf, StopsAt, GoesOn, Marks}
-use Rattle.gp_sat.specs.Walking.{IsWalked, IsFollowed, IsStopped, IsSearched}
+use Rattle.gp_sat.specs.Marking.{IsMarked, HasMarked, IsLowest, IsLower, IsLowestOf, GoesOn, Marks}
+use Rattle.gp_sat.specs.Walking.{IsWalked, IsStopped, IsSearched}
 use Rattle.gp_sat.proofs.Marked.{one_at, none_in_nil}
-use Rattle.gp_sat.proofs.Visiting.{Stands, before_or_here}
+use Rattle.gp_sat.proofs.Visiting.{Stands, before_or_here, walked_down}
 
 -- one assignment at most is of a variable
 one_value : (s : SolverForm) (v : ℕ) (a b : Assigned) → assigned s v ≡ Some a → assigned s v ≡ Some b → a ≡ b
@@ -54,22 +53,23 @@ from_more s lits lit place (x, b, among, is, present, from) = (x, b, Contains-ap
 from_less : (s : SolverForm) (lits : List Lit) (place low : ℕ) → low ≤ place → HasPresentFrom s lits place → HasPresentFrom s lits low
 from_less s lits place low less (x, b, among, is, present, from) = (x, b, among, is, present, omega (arith, from, less))
 
--- a literal that is not marked is no unique implication point, unless one was kept
-pub searched_unmarked : (s : SolverForm) (conflict : List Lit) (place : ℕ) (marks : List Bool) (lits : List Lit) (hints : List ℕ) (v : ℕ) (a : Assigned) → IsSound s → Stands s place v a
-    → (IsMarked marks v → ⊥) → IsWalked s FirstPoint (place + 1) marks lits hints → IsSearched s conflict (place + 1) marks lits → IsSearched s conflict place marks lits
-searched_unmarked s conflict place marks lits hints v a sound stands unmarked walked old = record {
+-- between two places with no marked literal there is no unique implication point, unless one was kept
+pub searched_down : (s : SolverForm) (conflict : List Lit) (bound low : ℕ) (marks : List Bool) (lits : List Lit) (hints : List ℕ) → low ≤ bound
+    → ((variable : ℕ) (a : Assigned) → assigned s variable ≡ Some a → IsMarked marks variable → a.place < bound → a.place < low)
+    → IsWalked s FirstPoint bound marks lits hints → IsSearched s conflict bound marks lits → IsSearched s conflict low marks lits
+searched_down s conflict bound low marks lits hints less none walked old = record {
   started = old.started;
-  reached = λ w b marked is present. leads_more s conflict (place + 1) place w (omega arith) (old.reached w b marked is present);
-  first = λ w b unique from. elim (cases_eq b.place place) [
-    | inl here ↦
-        let one : w ≡ v = (one_at s sound v w a b stands.is unique.is (here ∙ sym stands.there)).1 in
+  reached = λ w b marked is present. leads_more s conflict bound low w less (old.reached w b marked is present);
+  first = λ w b unique from. elim (cases_lt b.place bound) [
+    | inl below ↦
+        let here : IsWalked s FirstPoint (b.place + 1) marks lits hints = walked_down s FirstPoint bound (b.place + 1) marks lits hints (omega (arith, below))
+        (λ v a is marked inside. omega (arith, none v a is marked inside, from)) walked in
         elim (walked.pointing refl) [
-          | inl coming ↦ absurd (unmarked (subst (λ (n : ℕ). IsMarked marks n) one
-              (complete s conflict (place + 1) marks lits hints walked coming.1 old.started w (subst (λ (n : ℕ). LeadsTo s conflict (n + 1) w) here unique.leads))))
-          | inr done ↦ from_less s lits (place + 1) b.place (omega (arith, here))
-              (kept_from s (place + 1) lits done.1.lit done.1.present.0 done.1.within done.1.present.1 done.1.present.2 (walked.stopped done.1.lit done.1.within))
+          | inl coming ↦ absurd (omega (arith, from, none w b unique.is (complete s conflict (b.place + 1) marks lits hints here coming.1 old.started w unique.leads) below))
+          | inr done ↦ from_less s lits bound b.place (omega (arith, below))
+              (kept_from s bound lits done.1.lit done.1.present.0 done.1.within done.1.present.1 done.1.present.2 (walked.stopped done.1.lit done.1.within))
         ]
-    | inr differ ↦ old.first w b unique (omega (arith, from, differ))
+    | inr past ↦ old.first w b unique past
   ];
 }
 

@@ -7,6 +7,7 @@ pub mod Consisting
 pub mod Scanning
 pub mod Steps
 pub mod Marked
+pub mod Queueing
 pub mod Visiting
 pub mod Leading
 pub mod Passing
@@ -20,3 +21,4 @@ pub mod Walks
 pub mod Choosing
 pub mod Adopting
 pub mod Outer
+pub mod Wholes

@@ -1,11 +1,8 @@
 -- The clause of a finished walk follows from its hints and the conflict.
-use Rattle.std.proofs.Common.{◌≡◌, refl, ◌∙◌, ap, subst, ℕ, ◌+◌, ◌<◌, ◌≤◌, Bool, true, false, zero, suc, Some, List, [], ◌∷◌, map, inl, inr, not, arith}
+use Rattle.std.proofs.Common.{◌≡◌, refl, ◌∙◌, ap, subst, ℕ, ◌+◌, ◌<◌, Bool, true, false, zero, suc, Some, List, [], ◌∷◌, map, inl, inr, not, arith}
 use Rattle.std.specs.Prelude.{Contains, IsPermutation}
 use Rattle.std.proofs.lemmas.List.{length-map, get_or-map}
 use Rattle.std.proofs.lemmas.List.Sorted.{Contains-permutation, IsPermutation-sym}
-use Rattle.std.specs.Prelude.{Result, Ok, Err, IsOk, IsErr, IfOk}
-use Rattle.gp_clause.specs.declared.clause.BadClause.{BadClause}
-use Rattle.gp_clause.specs.Clause.{NamesTwice, occurrences}
 use Rattle.gp_clause.specs.declared.lit.Lit.{Lit}
 use Rattle.gp_clause.specs.Lit.{opposite}
 use Rattle.gp_clause.specs.Closure.{Derived}

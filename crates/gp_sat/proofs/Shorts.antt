@@ -1,5 +1,5 @@
 -- The clauses of fewer than two literals.
-use Rattle.std.proofs.Common.{◌≡◌, ◌≢◌, refl, sym, ◌∙◌, ap, subst, ℕ, ◌+◌, ◌-◌, ◌<◌, ◌≤◌, true, zero, suc, Option, Some, None, List, [], ◌∷◌, ◌++◌, length, get_or, inl, inr, ◌⊎◌, arith}
+use Rattle.std.proofs.Common.{◌≡◌, sym, ◌∙◌, ap, subst, ℕ, ◌+◌, ◌-◌, ◌<◌, ◌≤◌, true, zero, suc, Option, Some, List, [], ◌∷◌, ◌++◌, length, get_or, inl, inr, ◌⊎◌, arith}
 use Rattle.std.specs.Prelude.{Contains, slice_set, slice_index}
 use Rattle.std.specs.List.{swap_remove}
 use Rattle.std.proofs.lemmas.Bool.{cases_eq, cases_lt}
@@ -10,8 +10,8 @@ use Rattle.std.proofs.lemmas.List.Sorted.{Contains-permutation, IsPermutation-sw
 use Rattle.gp_clause.specs.declared.lit.Lit.{Lit}
 use Rattle.gp_sat.specs.declared.assigned.Assigned.{Assigned}
 use Rattle.gp_sat.specs.Stored.{Stored}
-use Rattle.gp_sat.specs.State.{SolverForm, assigned, clause_at, IsAttached, no_clause, with_clause, without_clause}
-use Rattle.gp_sat.specs.Watching.{IsTrueTo, IsSettled, AreLooked}
+use Rattle.gp_sat.specs.State.{SolverForm, assigned, clause_at, IsAttached, no_clause, with_clause}
+use Rattle.gp_sat.specs.Watching.{IsSettled, AreLooked}
 use Rattle.gp_sat.specs.SolverLaws.{attached_within}
 
 -- where all short clauses were looked at, each that is attached is true at level 0

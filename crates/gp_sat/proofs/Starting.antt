@@ -1,6 +1,6 @@
 -- The start of a walk at the end of the trail.
-use Rattle.std.proofs.Common.{◌≡◌, refl, sym, ◌∙◌, ap, ℕ, ◌<◌, Bool, false, zero, suc, List, [], length, get_or, inl, inr, arith}
-use Rattle.std.specs.Prelude.{Contains, replicate}
+use Rattle.std.proofs.Common.{◌≡◌, refl, sym, ◌∙◌, ap, ℕ, ◌<◌, Bool, List, [], length, inl, inr, arith}
+use Rattle.std.specs.Prelude.{Contains}
 use Rattle.gp_clause.specs.declared.lit.Lit.{Lit}
 use Rattle.gp_sat.specs.declared.analysis.Stop.{Stop}
 use Rattle.gp_sat.specs.declared.analysis.Stop.TheVariants.{FirstPoint}
@@ -13,25 +13,16 @@ use Rattle.gp_sat.specs.Marking.{IsMarked, Marks}
 use Rattle.gp_sat.specs.Walking.{IsWalked}
 use Rattle.gp_sat.proofs.Marked.{none_in_nil}
 
--- nothing is marked in a list of marks that are not set
-unmarked : (count variable : ℕ) → get_or (replicate count false) variable false ≡ false
-unmarked zero variable = refl
-unmarked (suc count) zero = refl
-unmarked (suc count) (suc variable) = unmarked count variable
-
-pub not_marked : (count variable : ℕ) → IsMarked (replicate count false) variable → ⊥
-not_marked count variable is = let off : get_or (replicate count false) variable false ≡ false = unmarked count variable in cc
-
 none_number : (n : ℕ) → Contains {X = ℕ} [] n → ⊥
 none_number n (k, below, is) = omega (arith, below)
 
 -- only the variables of the conflict are marked at the start
-pub walk_start : (s : SolverForm) (stop : Stop) (conflict : List Lit) (old marks : List Bool) (count : ℕ) → IsSound s → old ≡ replicate count false → count ≡ length s.values → Marks old marks conflict
+pub walk_start : (s : SolverForm) (stop : Stop) (conflict : List Lit) (old marks : List Bool) → IsSound s → length old ≡ length s.values → ((v : ℕ) → IsMarked old v → ⊥) → Marks old marks conflict
     → Each (IsFalse (assigned s)) conflict → (stop ≡ FirstPoint → (0 < s.level) × HasPresent s conflict) → IsWalked s stop (length s.trail) marks [] []
-walk_start s stop conflict old marks count sound blank size started all_false present = record {
-  size = omega (arith, started.size, size, ap (λ (xs : List Bool). length xs) blank, replicate_length count);
+walk_start s stop conflict old marks sound size blank started all_false present = record {
+  size = omega (arith, started.size, size);
   true_marks = λ v is. elim (started.only v is) [
-    | inl was ↦ absurd (not_marked count v (ap (λ (xs : List Bool). get_or xs v false) (sym blank) ∙ was))
+    | inl was ↦ absurd (blank v was)
     | inr there ↦ let fell : IsFalse (assigned s) there.0 = all_false there.0 there.1 in (fell.0, ap (assigned s) (sym there.2) ∙ fell.1)
   ];
   handled = λ v a is _ past. absurd (omega (arith, past, sound.ordered.within v a is));
@@ -58,7 +49,3 @@ walk_start s stop conflict old marks count sound blank size started all_false pr
         λ lit is. absurd (none_in_nil lit is),
       );
 }
-  where
-    replicate_length : (n : ℕ) → length (replicate n false) ≡ n
-    replicate_length zero = refl
-    replicate_length (suc n) = ap suc (replicate_length n)

@@ -1,5 +1,5 @@
 -- Clauses that are attached and detached, and variables that are added.
-use Rattle.std.proofs.Common.{◌≡◌, ◌≢◌, refl, sym, ◌∙◌, ap, subst, ℕ, ◌+◌, ◌<◌, ◌≤◌, ◌^◌, true, false, zero, suc, Option, Some, None, List, [], ◌∷◌, ◌++◌, length, get_or, inl, inr, arith}
+use Rattle.std.proofs.Common.{◌≡◌, ◌≢◌, sym, ◌∙◌, ap, subst, ℕ, ◌+◌, ◌<◌, ◌≤◌, ◌^◌, true, false, Option, Some, None, List, [], ◌∷◌, ◌++◌, length, get_or, inl, inr, arith}
 use Rattle.std.specs.Prelude.{slice_set, replicate}
 use Rattle.std.proofs.lemmas.List.{length-set, length_push, get_or_push, get_or_append_left, get_or-set_same, get_or-set_other, get_or_past, set_past, ext_get_or, length-replicate}
 use Rattle.std.proofs.lemmas.List.Elements.{All-contains}
@@ -8,7 +8,7 @@ use Rattle.gp_clause.specs.declared.lit.Lit.{Lit}
 use Rattle.gp_clause.specs.Clause.{NamesBelow}
 use Rattle.gp_sat.specs.declared.assigned.Assigned.{Assigned}
 use Rattle.gp_sat.specs.Stored.{Stored}
-use Rattle.gp_sat.specs.State.{SolverForm, assigned, no_clause, clause_at, IsAttached, with_clause}
+use Rattle.gp_sat.specs.State.{SolverForm, assigned, no_clause, clause_at, with_clause}
 use Rattle.gp_sat.specs.Standing.{IsFalseTo, IsQuiet, IsForcing, Each}
 use Rattle.gp_sat.specs.Sound.{IsOrdered, IsExplained, IsNamed, IsSound, true_lit}
 use Rattle.gp_sat.specs.Changes.{IsAsserting, MayAttach}

@@ -1,9 +1,9 @@
 -- One step of the walk along the trail.
-use Rattle.std.proofs.Common.{◌≡◌, ◌≢◌, refl, sym, ◌∙◌, ap, subst, ℕ, ◌+◌, ◌<◌, ◌≤◌, Bool, true, false, Some, None, List, [], ◌∷◌, ◌++◌, cond, ◌==◌, ◌⊎◌, inl, inr, not, arith}
+use Rattle.std.proofs.Common.{◌≡◌, ◌≢◌, refl, sym, ◌∙◌, ap, subst, ℕ, ◌+◌, ◌<◌, ◌≤◌, Bool, true, false, Some, None, List, [], ◌∷◌, ◌++◌, length, get_or, cond, ◌==◌, ◌⊎◌, inl, inr, not, arith}
 use Rattle.std.specs.Prelude.{Contains}
 use Rattle.std.proofs.lemmas.List.Elements.{Contains-push, Contains-push_cases, Contains-append_left}
 use Rattle.std.proofs.lemmas.List.Sums.{sum_by-append}
-use Rattle.std.proofs.lemmas.Bool.{cases_eq, ne_eqb}
+use Rattle.std.proofs.lemmas.Bool.{cases_eq, cases_lt, ne_eqb}
 use Rattle.gp_clause.specs.declared.lit.Lit.{Lit}
 use Rattle.gp_clause.specs.Lit.{opposite}
 use Rattle.gp_clause.specs.Clause.{occurrences}
@@ -14,7 +14,8 @@ use Rattle.gp_sat.specs.State.{SolverForm, assigned, clause_at}
 use Rattle.gp_sat.specs.Standing.{Each, IsForcing, IsFalseBefore}
 use Rattle.gp_sat.specs.Sound.{IsSound, true_lit}
 use Rattle.gp_sat.specs.Learning.{IsBelowLevel}
-use Rattle.gp_sat.specs.Marking.{IsMarked, IsPresentAt, HasMarked, StopsAt, GoesOn, Marks}
+use Rattle.gp_sat.specs.Marking.{IsMarked, IsPresentAt, HasMarked, StopsAt, GoesOn, Follows, Marks}
+use Rattle.gp_sat.specs.Queueing.{IsAssigned, IsMarkedAt, IsMarkedOrBefore}
 use Rattle.gp_sat.specs.Walking.{IsFollowed, IsStopped, IsPointing, IsWalked}
 use Rattle.gp_sat.proofs.Marked.{one_at}
 
@@ -42,28 +43,34 @@ present_is s place v a marks sound stands present =
     let one : (true_lit present.variable present.value ≡ true_lit v a) × (present.variable ≡ v) × (present.value ≡ a) = one_at s sound v present.variable a present.value stands.is present.is (present.there ∙ sym stands.there) in
     (subst (λ (n : ℕ). IsMarked marks n) one.1 present.marked, sym (ap (λ (x : Assigned). x.level) one.2) ∙ present.present)
 
--- the literal is not marked
-pub visit_unmarked : (s : SolverForm) (stop : Stop) (place : ℕ) (marks : List Bool) (lits : List Lit) (hints : List ℕ) (v : ℕ) (a : Assigned) → IsSound s → Stands s place v a
-    → (IsMarked marks v → ⊥) → IsWalked s stop (place + 1) marks lits hints → IsWalked s stop place marks lits hints
-visit_unmarked s stop place marks lits hints v a sound stands unmarked old = record {
+-- no marked literal is left between two places
+pub walked_down : (s : SolverForm) (stop : Stop) (bound low : ℕ) (marks : List Bool) (lits : List Lit) (hints : List ℕ) → low ≤ bound
+    → ((variable : ℕ) (a : Assigned) → assigned s variable ≡ Some a → IsMarked marks variable → a.place < bound → a.place < low)
+    → IsWalked s stop bound marks lits hints → IsWalked s stop low marks lits hints
+walked_down s stop bound low marks lits hints less none old = record {
   size = old.size;
   true_marks = old.true_marks;
-  handled = λ w b wb marked low. elim (cases_eq b.place place) [
-    | inl same ↦ absurd (unmarked (subst (λ (n : ℕ). IsMarked marks n) (one_at s sound v w a b stands.is wb (same ∙ sym stands.there)).1 marked))
-    | inr differ ↦ old.handled w b wb marked (omega (arith, low, differ))
+  handled = λ w b wb marked from. elim (cases_lt b.place bound) [
+    | inl below ↦ absurd (omega (arith, from, none w b wb marked below))
+    | inr past ↦ old.handled w b wb marked past
   ];
   reasons = old.reasons;
-  stopped = λ lit is. stopped_less s stop place lit (old.stopped lit is);
+  stopped = λ lit is.
+      let was : IsStopped s stop bound lit = old.stopped lit is in
+      record { value = was.value; is = was.is; opposes = was.opposes; from = omega (arith, was.from, less); decided = was.decided; above = was.above };
   once = old.once;
-  absent = λ w none. old.absent w (λ b wb. omega (arith, none b wb));
+  absent = λ w before. old.absent w (λ b wb. omega (arith, before b wb, less));
   pointing = λ first. elim (old.pointing first) [
-    | inl coming ↦ elim (marked_cases s marks place coming.0) [
-      | inl here ↦ absurd (unmarked (present_is s place v a marks sound stands here).0)
-      | inr before ↦ inl (before, coming.1)
-    ]
-    | inr done ↦ inr (λ has. done.0 (marked_more s marks place has), done.1)
+    | inl coming ↦ inl (nearer coming.0, coming.1)
+    | inr done ↦ inr (λ has. done.0 (farther has), done.1)
   ];
 }
+  where
+    nearer : HasMarked s marks bound → HasMarked s marks low
+    nearer (at, below, p) = (at, omega (arith, none p.variable p.value p.is p.marked (omega (arith, p.there, below)), p.there), p)
+
+    farther : HasMarked s marks low → HasMarked s marks bound
+    farther (at, below, p) = (at, omega (arith, below, less), p)
 
 -- one, where a test holds
 abbrev one_if : Bool → ℕ
@@ -302,3 +309,41 @@ visit_follows s stop place marks new lits hints v a number sound stands marked r
             ap (λ (x : Assigned). x.level) equal ∙ p.present
         level_of_added (inr before) =
             omega (arith, sound.ordered.rising p.variable v p.value a p.is stands.is (omega (arith, below, p.there, stands.there)), p.present, (sound.ordered.present v a stands.is).0)
+
+-- the walk follows the reason of the marked literal at a place
+pub record IsFollowing (s : SolverForm) (stop : Stop) (marks : List Bool) (place number : ℕ) : Type 0 where
+  pub variable : ℕ
+  pub value : Assigned
+  pub stands : Stands s place variable value
+  pub marked : IsMarked marks variable
+  pub reason : value.reason ≡ Some number
+  pub goes : GoesOn s stop marks value
+  pub given : number < length s.clauses
+  pub assigned_all : Each (IsAssigned s) (clause_at s.clauses number)
+  pub before : Each (IsMarkedOrBefore s place marks) (clause_at s.clauses number)
+
+pub following : (s : SolverForm) (stop : Stop) (marks : List Bool) (place number : ℕ) → IsSound s → IsMarkedAt s marks place → Follows s stop marks place number → IsFollowing s stop marks place number
+following s stop marks place number sound (v, a, is, there, marked) follows =
+    let reason : a.reason ≡ Some number = (follows v a is there).0 in
+    record {
+      variable = v;
+      value = a;
+      stands = record { is = is; there = there };
+      marked = marked;
+      reason = reason;
+      goes = (follows v a is there).1;
+      given = (sound.explained.forced v a number is reason).0;
+      assigned_all = λ lit among. elim (before_or_here s v a number sound is reason lit among) [
+        | inl here ↦ (a, ap (assigned s) here ∙ is)
+        | inr earlier ↦ (earlier.0, earlier.1)
+      ];
+      before = λ lit among. elim (before_or_here s v a number sound is reason lit among) [
+        | inl here ↦ inl (subst (λ (n : ℕ). IsMarked marks n) (sym here) marked)
+        | inr earlier ↦ inr (earlier.0, earlier.1, omega (arith, earlier.2, there))
+      ];
+    }
+
+-- the literal at the place of a marked variable is its true one
+pub marked_lit : (s : SolverForm) (marks : List Bool) (place : ℕ) (lit : Lit) → IsSound s → (m : IsMarkedAt s marks place) → ((d : Lit) → get_or s.trail place d ≡ lit) → lit ≡ true_lit m.0 m.1
+marked_lit s marks place lit sound (v, a, is, there, marked) reads =
+    sym (reads lit) ∙ ap (λ (p : ℕ). get_or s.trail p lit) (sym there) ∙ sound.ordered.on_trail v a lit is

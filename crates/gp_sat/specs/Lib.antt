@@ -10,11 +10,13 @@ pub mod Consistent
 pub mod Looking
 pub mod Learning
 pub mod Marking
+pub mod Queueing
 pub mod Walking
 pub mod Links
 pub mod Watching
 pub mod WatchesForm
 pub mod Linked
 pub mod Stepping
+pub mod Whole
 pub mod Choosing
 pub mod SolverLaws

@@ -1,8 +1,8 @@
 -- Laws of solvers that the layer above uses.
-use Rattle.std.specs.Prelude.{◌≡◌, ◌≢◌, ℕ, ◌+◌, ◌<◌, ◌≤◌, ◌⊎◌, Bool, true, false, not, zero, suc, Option, Some, None, List, [], ◌∷◌, ◌++◌, length, map, replicate, slice_set, refl, nat_lt, Contains, IsPermutation, Result, Ok, Err, IsOk, IsErr, IfOk}
+use Rattle.std.specs.Prelude.{◌≡◌, ◌≢◌, ℕ, ◌+◌, ◌<◌, ◌≤◌, ◌⊎◌, Bool, true, false, zero, suc, Option, Some, None, List, [], ◌∷◌, ◌++◌, length, map, replicate, slice_set, refl, nat_lt, IsPermutation, Result, Ok, Err, IsOk, IsErr, IfOk}
 use Rattle.std.proofs.Common.{sym, ◌∙◌, ap, subst, inl, inr, get_or, arith}
 use Rattle.std.proofs.lemmas.List.{length-set, get_or-set_same, get_or-set_other, get_or_past}
-use Rattle.std.proofs.lemmas.Bool.{cases_eq, cases_lt, ltb-true, ltb-false, le-ltb}
+use Rattle.std.proofs.lemmas.Bool.{cases_eq, cases_lt, ltb-false, le-ltb}
 use Rattle.gp_clause.specs.declared.lit.Lit.{Lit}
 use Rattle.gp_clause.specs.declared.clause.BadClause.{BadClause}
 use Rattle.gp_clause.specs.Clause.{NamesTwice, occurrences}

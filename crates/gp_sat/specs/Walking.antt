@@ -50,3 +50,10 @@ pub record IsSearched (s : SolverForm) (conflict : List Lit) (place : ℕ) (mark
   pub started : (lit : Lit) → Contains conflict lit → IsMarked marks lit.variable
   pub reached : (variable : ℕ) (a : Assigned) → IsMarked marks variable → assigned s variable ≡ Some a → a.level ≡ s.level → LeadsTo s conflict place variable
   pub first : (variable : ℕ) (a : Assigned) → IsUniquePoint s conflict variable a → place ≤ a.place → HasPresentFrom s lits a.place
+
+-- a walk has come down to the begin of the trail from the literals of a conflict, which are marked
+pub record IsWalkedDown (s : SolverForm) (conflict : List Lit) (stop : Stop) (lits : List Lit) (hints : List ℕ) : Type 0 where
+  pub marks : List Bool
+  pub walked : IsWalked s stop 0 marks lits hints
+  pub started : (lit : Lit) → Contains conflict lit → IsMarked marks lit.variable
+  pub searched : stop ≡ FirstPoint → IsSearched s conflict 0 marks lits

@@ -1,13 +1,16 @@
-ghost use Rattle.std.specs.Prelude.{◌≡◌, ℕ, ◌+◌, ◌<◌, ◌≤◌, ◌↔◌, false, length, IsTrue, IfOk, OnOk, MatchOption, Contains, slice_index_or, List};
+ghost use Rattle.std.specs.Prelude.{◌≡◌, ℕ, ◌+◌, ◌<◌, ◌≤◌, ◌↔◌, length, IsTrue, IfOk, OnOk, MatchOption, Contains, List, [], ◌∷◌};
+ghost use Rattle.std.specs.BinaryHeap.{heap_items};
 ghost use Rattle.gp_sat.specs.State.{assigned};
 ghost use Rattle.gp_sat.specs.Standing.{IsFalse, Each};
 ghost use Rattle.gp_sat.specs.Sound.{IsSound};
 ghost use Rattle.gp_sat.specs.Changes.{HasPresent};
 ghost use Rattle.gp_sat.specs.Learning.{IsFirstPoint, IsFinal, IsHighestBelow};
+ghost use Rattle.gp_sat.specs.Queueing.{AreClear, AreListed, AreQueued, IsMarkedAt, IsAssigned, IsMarkedOrBefore};
 ghost use Rattle.gp_sat.specs.Marking.{IsMarked, HasMarked, IsLower, IsLowestOf, IsLowest, Stops, Follows, Marks};
-ghost use Rattle.gp_sat.specs.Walking.{IsWalked, IsSearched};
+ghost use Rattle.gp_sat.specs.Walking.{IsWalked, IsSearched, IsWalkedDown};
 
 use crate::kernel::{Kernel, value_of};
+use crate::marking::Marking;
 use gp_clause::{Clause, Lit, Row};
 use std::alloc::AllocError;
 
@@ -27,10 +30,9 @@ pub(crate) enum Stop {
     FirstPoint,
 }
 
-// What a walk has found: the marked variables, the literals at which it stopped, and the clauses that it followed.
+// What a walk has found: the literals at which it stopped, and the clauses that it followed.
 #[derive(Debug, Drop)]
 pub(crate) struct Walk {
-    pub(crate) marks: Vec<bool>,
     pub(crate) lits: Vec<Lit>,
     pub(crate) hints: Vec<u32>,
     // The least place of a marked literal of the present level.
@@ -40,13 +42,15 @@ pub(crate) struct Walk {
 impl Kernel {
     /// The first unique implication point: the clause has one literal of the present level, and `level` is the highest one
     /// of its others.
-    pub fn analyse(&self, conflict: &[Lit]) -> Result<Learned, AllocError>
+    pub fn analyse(&self, conflict: &[Lit], marking: &mut Marking) -> Result<Learned, AllocError>
         requires above { 0 < self.now.level }
         requires conflict { Each (IsFalse (assigned self.now)) conflict.now }
         requires present { HasPresent self.now conflict.now }
-        ensures { IfOk result (IsFirstPoint self.now conflict.now) }
+        requires clear { AreClear (length self.now.values) marking.old }
+        ensures learned { IfOk result (IsFirstPoint self.now conflict.now) }
+        ensures clear { AreClear (length self.now.values) marking.new }
     {
-        let Walk { lits, hints, .. } = self.walk(conflict, Stop::FirstPoint)?;
+        let Walk { lits, hints, .. } = self.walk(conflict, Stop::FirstPoint, marking)?;
         let level = self.highest_below(lits.as_slice());
         Ok(Learned {
             clause: Clause::of(lits).unwrap(),
@@ -56,11 +60,17 @@ impl Kernel {
     }
 
     /// The clause has negated decisions alone.
-    pub fn analyse_final(&self, conflict: &[Lit]) -> Result<Learned, AllocError>
-        requires { Each (IsFalse (assigned self.now)) conflict.now }
-        ensures { IfOk result (IsFinal self.now conflict.now) }
+    pub fn analyse_final(
+        &self,
+        conflict: &[Lit],
+        marking: &mut Marking,
+    ) -> Result<Learned, AllocError>
+        requires conflict { Each (IsFalse (assigned self.now)) conflict.now }
+        requires clear { AreClear (length self.now.values) marking.old }
+        ensures learned { IfOk result (IsFinal self.now conflict.now) }
+        ensures clear { AreClear (length self.now.values) marking.new }
     {
-        let Walk { lits, hints, .. } = self.walk(conflict, Stop::Decisions)?;
+        let Walk { lits, hints, .. } = self.walk(conflict, Stop::Decisions, marking)?;
         Ok(Learned {
             clause: Clause::of(lits).unwrap(),
             hints: Row::from_vec(hints),
@@ -68,58 +78,118 @@ impl Kernel {
         })
     }
 
-    // Walks the trail backwards from the literals of a conflict.
-    fn walk(&self, conflict: &[Lit], stop: Stop) -> Result<Walk, AllocError>
+    // Walks down the trail from the literals of a conflict, and takes back the marks.
+    fn walk(&self, conflict: &[Lit], stop: Stop, marking: &mut Marking) -> Result<Walk, AllocError>
         requires conflict { Each (IsFalse (assigned self.now)) conflict.now }
         requires present { stop ≡ Stop.FirstPoint → (0 < self.now.level) × HasPresent self.now conflict.now }
-        ensures walked { IfOk result (λ walk. IsWalked self.now stop 0 walk.marks.items walk.lits.items walk.hints.items) }
+        requires clear { AreClear (length self.now.values) marking.old }
+        ensures walked { IfOk result (λ walk. IsWalkedDown self.now conflict.now stop walk.lits.items walk.hints.items) }
         ensures sound { IsSound self.now }
-        ensures started { IfOk result (λ walk. (lit : Lit) → Contains conflict.now lit → IsMarked walk.marks.items lit.variable) }
-        ensures searched { IfOk result (λ walk. stop ≡ Stop.FirstPoint → IsSearched self.now conflict.now 0 walk.marks.items walk.lits.items) }
+        ensures clear { AreClear (length self.now.values) marking.new }
+    {
+        let found = self.walk_down(conflict, stop, marking);
+        marking.clear();
+        found
+    }
+
+    // Visits the marked literals of the trail, the last one first, and marks those that it comes to.
+    fn walk_down(
+        &self,
+        conflict: &[Lit],
+        stop: Stop,
+        marking: &mut Marking,
+    ) -> Result<Walk, AllocError>
+        requires conflict { Each (IsFalse (assigned self.now)) conflict.now }
+        requires present { stop ≡ Stop.FirstPoint → (0 < self.now.level) × HasPresent self.now conflict.now }
+        requires clear { AreClear (length self.now.values) marking.old }
+        ensures walked { IfOk result (λ walk. IsWalkedDown self.now conflict.now stop walk.lits.items walk.hints.items) }
+        ensures sound { IsSound self.now }
+        ensures listed { AreListed marking.new.marks.items marking.new.marked.items }
+        ensures size { length marking.new.marks.items ≡ length self.now.values }
     {
         let alloc = *self.trail.allocator();
-        let mut marks = vec![in alloc; false; self.values.len()]?;
-        mark_all(marks.as_mut_slice(), conflict);
-        let lowest = self.lowest_of(conflict, self.trail.len());
+        self.mark_all(conflict, marking)?;
+        let mut place = self.trail.len();
         let mut walk = Walk {
-            marks,
             lits: Vec::new(alloc),
             hints: Vec::new(alloc),
-            lowest,
+            lowest: self.lowest_of(conflict, place),
         };
-        let mut place = self.trail.len();
-        while place > 0 {
-            place -= 1;
-            self.visit(place, stop, &mut walk)?;
+        while let Some(next) = marking.places.pop() {
+            place = next as usize;
+            self.visit(place, stop, marking, &mut walk)?;
         }
         Ok(walk)
     }
 
-    // Visits a literal of the trail: where it is marked, stops at it or follows its reason.
-    fn visit(&self, place: usize, stop: Stop, walk: &mut Walk) -> Result<(), AllocError>
+    // Visits a marked literal of the trail: stops at it, or follows its reason.
+    fn visit(
+        &self,
+        place: usize,
+        stop: Stop,
+        marking: &mut Marking,
+        walk: &mut Walk,
+    ) -> Result<(), AllocError>
         requires within { place < length self.now.trail }
         requires present { stop ≡ Stop.FirstPoint → 0 < self.now.level }
-        requires walked { IsWalked self.now stop (place + 1) walk.old.marks.items walk.old.lits.items walk.old.hints.items }
-        requires lowest { IsLowest self.now walk.old.marks.items walk.old.lowest }
-        ensures walked { OnOk result (IsWalked self.now stop place walk.new.marks.items walk.new.lits.items walk.new.hints.items) }
-        ensures lowest { OnOk result (IsLowest self.now walk.new.marks.items walk.new.lowest) }
-        ensures searched { OnOk result (stop ≡ Stop.FirstPoint → (conflict : List Lit) → IsSearched self.now conflict (place + 1) walk.old.marks.items walk.old.lits.items → IsSearched self.now conflict place walk.new.marks.items walk.new.lits.items) }
-        ensures kept { OnOk result ((variable : ℕ) → IsMarked walk.old.marks.items variable → IsMarked walk.new.marks.items variable) }
+        requires marked { IsMarkedAt self.now marking.old.marks.items place }
+        requires listed { AreListed marking.old.marks.items marking.old.marked.items }
+        requires walked { IsWalked self.now stop (place + 1) marking.old.marks.items walk.old.lits.items walk.old.hints.items }
+        requires lowest { IsLowest self.now marking.old.marks.items walk.old.lowest }
+        requires queued { AreQueued self.now place marking.old.marks.items (heap_items marking.old.places) }
+        ensures listed { AreListed marking.new.marks.items marking.new.marked.items }
+        ensures size { length marking.new.marks.items ≡ length self.now.values }
+        ensures walked { OnOk result (IsWalked self.now stop place marking.new.marks.items walk.new.lits.items walk.new.hints.items) }
+        ensures lowest { OnOk result (IsLowest self.now marking.new.marks.items walk.new.lowest) }
+        ensures queued { OnOk result (AreQueued self.now place marking.new.marks.items (heap_items marking.new.places)) }
+        ensures searched { OnOk result (stop ≡ Stop.FirstPoint → (conflict : List Lit) → IsSearched self.now conflict (place + 1) marking.old.marks.items walk.old.lits.items → IsSearched self.now conflict place marking.new.marks.items walk.new.lits.items) }
+        ensures kept { OnOk result ((variable : ℕ) → IsMarked marking.old.marks.items variable → IsMarked marking.new.marks.items variable) }
     {
         let lit = self.trail[place];
-        if !is_marked(walk.marks.as_slice(), lit.variable) {
-            return Ok(());
-        }
-        match self.follow(walk.marks.as_slice(), walk.lowest, place, stop) {
+        match self.follow(marking.marks.as_slice(), walk.lowest, place, stop) {
             None => walk.lits.push(lit.negated())?,
             Some(number) => {
                 walk.hints.push(number)?;
                 let lits = self.clauses.lits(number as usize);
-                mark_all(walk.marks.as_mut_slice(), lits);
+                self.mark_all(lits, marking)?;
                 walk.lowest = self.lowest_of(lits, walk.lowest);
             }
         }
         Ok(())
+    }
+
+    // Marks the variables of literals, and queues their places.
+    fn mark_all(&self, lits: &[Lit], marking: &mut Marking) -> Result<(), AllocError>
+        requires assigned { Each (IsAssigned self.now) lits.now }
+        requires listed { AreListed marking.old.marks.items marking.old.marked.items }
+        requires size { length marking.old.marks.items ≡ length self.now.values }
+        ensures listed { AreListed marking.new.marks.items marking.new.marked.items }
+        ensures size { length marking.new.marks.items ≡ length self.now.values }
+        ensures marked { OnOk result (Marks marking.old.marks.items marking.new.marks.items lits.now) }
+        ensures queued { OnOk result ((bound : ℕ) → Each (IsMarkedOrBefore self.now bound marking.old.marks.items) lits.now
+            → AreQueued self.now bound marking.old.marks.items (heap_items marking.old.places) → AreQueued self.now bound marking.new.marks.items (heap_items marking.new.places)) }
+    {
+        for lit in lits {
+            self.mark(*lit, marking)?;
+        }
+        Ok(())
+    }
+
+    // Marks the variable of a literal, and queues its place.
+    fn mark(&self, lit: Lit, marking: &mut Marking) -> Result<(), AllocError>
+        requires assigned { IsAssigned self.now lit }
+        requires listed { AreListed marking.old.marks.items marking.old.marked.items }
+        requires size { length marking.old.marks.items ≡ length self.now.values }
+        ensures listed { AreListed marking.new.marks.items marking.new.marked.items }
+        ensures size { length marking.new.marks.items ≡ length self.now.values }
+        ensures marked { OnOk result (Marks marking.old.marks.items marking.new.marks.items (lit ∷ [])) }
+        ensures queued { OnOk result ((bound : ℕ) → IsMarkedOrBefore self.now bound marking.old.marks.items lit
+            → AreQueued self.now bound marking.old.marks.items (heap_items marking.old.places) → AreQueued self.now bound marking.new.marks.items (heap_items marking.new.places)) }
+    {
+        match value_of(self.values.as_slice(), lit.variable) {
+            Some(a) => marking.add(lit.variable, a.place),
+            None => Ok(()),
+        }
     }
 
     // The reason of a marked literal, unless the walk stops there.
@@ -192,25 +262,5 @@ impl Kernel {
             }
         }
         level
-    }
-}
-
-// Whether a variable is marked.
-fn is_marked(marks: &[bool], variable: u32) -> bool
-    ensures { result ≡ slice_index_or marks.now variable false }
-{
-    match marks.get(variable as usize) {
-        Some(mark) => *mark,
-        None => false,
-    }
-}
-
-// Marks the variables of literals.
-fn mark_all(marks: &mut [bool], lits: &[Lit])
-    requires { Each (λ lit. lit.variable < length marks.old) lits.now }
-    ensures { Marks marks.old marks.new lits.now }
-{
-    for lit in lits {
-        marks[lit.variable as usize] = true;
     }
 }

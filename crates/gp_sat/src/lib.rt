@@ -7,12 +7,11 @@
 mod analysis;
 mod assigned;
 mod kernel;
+mod marking;
 mod pending;
 mod propagation;
 mod solver;
 mod store;
-#[cfg(test)]
-mod tests;
 mod walk;
 mod watches;
 

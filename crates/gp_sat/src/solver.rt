@@ -11,6 +11,7 @@ ghost use Rattle.gp_sat.specs.Stepping.{IsReady};
 
 use crate::analysis::Learned;
 use crate::kernel::Kernel;
+use crate::marking::Marking;
 use crate::propagation::{Propagated, run};
 use crate::watches::Watches;
 use gp_clause::{Clause, Lit};
@@ -18,22 +19,24 @@ use std::alloc::{AllocError, Global};
 use std::marker::Model;
 
 /// A solver that watches two literals of each clause. Variables are the numbers below `variables`, and clauses have the
-/// numbers 0, 1, 2 and so on in the order of `attach`. Only `new`, `grow`, `attach` and the analyses take memory.
+/// numbers 0, 1, 2 and so on in the order of `attach`. Only `new`, `grow`, `attach` and the analyses take memory. An analysis
+/// visits only the literals that lead to its conflict, and costs a logarithm for each of them.
 #[derive(Debug, Drop)]
 pub struct Solver {
     kernel: Kernel,
     watches: Watches,
+    marking: Marking,
 }
 
 impl Model for Solver {
     ghost use Rattle.gp_sat.specs.State.{SolverForm};
-    ghost use Rattle.gp_sat.specs.Stepping.{IsReady};
+    ghost use Rattle.gp_sat.specs.Whole.{IsWhole};
 
     ghost Value = { SolverForm };
 
     ghost view = { λ s. s.kernel };
 
-    ghost invariant = { λ s. IsReady s.kernel s.watches };
+    ghost invariant = { λ s. IsWhole s.kernel s.watches s.marking };
 }
 
 impl Solver {
@@ -45,6 +48,7 @@ impl Solver {
         Ok(Solver {
             kernel: Kernel::new(alloc, variables)?,
             watches: Watches::new(alloc, variables)?,
+            marking: Marking::new(alloc, variables)?,
         })
     }
 
@@ -58,8 +62,10 @@ impl Solver {
     {
         let lists = 2 * (variables as usize) + 2;
         self.watches.reserve_lists(lists)?;
+        self.marking.reserve(variables as usize)?;
         self.kernel.grow(variables)?;
         self.watches.widen(lists);
+        self.marking.widen(variables as usize);
         Ok(())
     }
 
@@ -213,21 +219,23 @@ impl Solver {
 
     /// The first unique implication point: the clause has one literal of the present level, and `level` is the highest one
     /// of its others.
-    pub fn analyse(&self, conflict: &[Lit]) -> Result<Learned, AllocError>
-        requires above { 0 < self.now.level }
-        requires conflict { Each (IsFalse (assigned self.now)) conflict.now }
-        requires present { HasPresent self.now conflict.now }
-        ensures { IfOk result (IsFirstPoint self.now conflict.now) }
+    pub fn analyse(&mut self, conflict: &[Lit]) -> Result<Learned, AllocError>
+        requires above { 0 < self.old.level }
+        requires conflict { Each (IsFalse (assigned self.old)) conflict.now }
+        requires present { HasPresent self.old conflict.now }
+        ensures learned { IfOk result (IsFirstPoint self.old conflict.now) }
+        ensures same { self.new ≡ self.old }
     {
-        self.kernel.analyse(conflict)
+        self.kernel.analyse(conflict, &mut self.marking)
     }
 
     /// The clause has negated decisions alone.
-    pub fn analyse_final(&self, conflict: &[Lit]) -> Result<Learned, AllocError>
-        requires { Each (IsFalse (assigned self.now)) conflict.now }
-        ensures { IfOk result (IsFinal self.now conflict.now) }
+    pub fn analyse_final(&mut self, conflict: &[Lit]) -> Result<Learned, AllocError>
+        requires { Each (IsFalse (assigned self.old)) conflict.now }
+        ensures learned { IfOk result (IsFinal self.old conflict.now) }
+        ensures same { self.new ≡ self.old }
     {
-        self.kernel.analyse_final(conflict)
+        self.kernel.analyse_final(conflict, &mut self.marking)
     }
 }
 

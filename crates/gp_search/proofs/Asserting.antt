@@ -98,7 +98,7 @@ pub asserted_some : (problem : Problem) (query : Query) (engine : Engine) (graph
     → lit_bound (all_kinds problem query) (get_or engine.solver.trail engine.asserted d) ≡ Some edge → IsKept engine.graph (tagged edge (get_or engine.solver.trail engine.asserted d).variable) graph
     → next ≡ engine.asserted + 1 → IsTurning problem query (record engine { graph = graph; asserted = next })
 asserted_some problem query engine graph d edge next turning left is kept one_more = record {
-  whole = whole_moved problem query engine engine.solver graph next engine.assumed turning.whole refl refl
+  whole = whole_moved problem query engine (record engine { graph = graph; asserted = next }) (record { log = refl; pure = refl; begins = refl; learned = refl; tester = refl }) turning.whole refl refl
       (record { points = ap (λ (g : GraphForm). g.points) kept.added ∙ turning.whole.graph.points; edges = ap (λ (g : GraphForm). g.edges) kept.added ∙ turning.whole.graph.edges });
   variables = turning.variables;
   used = turning.used;
@@ -115,12 +115,15 @@ asserted_some problem query engine graph d edge next turning left is kept one_mo
         omega (arith, longer, less, turning.asserted.room, room_for_next problem query engine turning left);
   };
   assuming = turning.assuming;
+  levels = turning.levels;
+  kinds = turning.kinds;
+  taught = turning.taught;
 }
 
 pub asserted_none : (problem : Problem) (query : Query) (engine : Engine) (d : Lit) (next : ℕ) → IsTurning problem query engine → engine.asserted < length engine.solver.trail
     → lit_bound (all_kinds problem query) (get_or engine.solver.trail engine.asserted d) ≡ None → next ≡ engine.asserted + 1 → IsTurning problem query (record engine { asserted = next })
 asserted_none problem query engine d next turning left is one_more = record {
-  whole = whole_moved problem query engine engine.solver engine.graph next engine.assumed turning.whole refl refl turning.whole.graph;
+  whole = whole_moved problem query engine (record engine { asserted = next }) (record { log = refl; pure = refl; begins = refl; learned = refl; tester = refl }) turning.whole refl refl turning.whole.graph;
   variables = turning.variables;
   used = turning.used;
   sound = turning.sound;
@@ -132,6 +135,9 @@ asserted_none problem query engine d next turning left is one_more = record {
     room = turning.asserted.room;
   };
   assuming = turning.assuming;
+  levels = turning.levels;
+  kinds = turning.kinds;
+  taught = turning.taught;
 }
 
 -- the tag of the new bound is one of the cycle's

@@ -4,11 +4,17 @@ pub mod Cycles
 pub mod LearnedSteps
 pub mod Wholes
 pub mod Asserting
+pub mod Levels
 pub mod Trails
 pub mod Conflicts
+pub mod Taught
 pub mod Logging
 pub mod Refuting
 pub mod Meeting
 pub mod Choosing
 pub mod Turns
+pub mod Few
 pub mod Running
+pub mod News
+pub mod Teaching
+pub mod Highest

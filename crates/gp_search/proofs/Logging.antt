@@ -1,20 +1,22 @@
 -- What a learned step is, and what a turn keeps true when it is logged.
-use Rattle.std.proofs.Common.{◌≡◌, refl, sym, ◌∙◌, ap, subst, ℕ, ◌+◌, ◌<◌, ◌≤◌, ◌^◌, Bool, true, false, Option, Some, None, List, [], ◌∷◌, ◌++◌, length, get_or, map, Contains, ◌⊎◌, inl, inr, append_assoc, arith}
+use Rattle.std.proofs.Common.{◌≡◌, refl, sym, ◌∙◌, ap, subst, ℕ, ◌+◌, ◌*◌, ◌<◌, ◌≤◌, ◌^◌, Bool, true, false, Option, Some, None, List, [], ◌∷◌, ◌++◌, length, get_or, map, Contains, ◌⊎◌, inl, inr, append_assoc, arith}
 use Rattle.std.specs.List.{slice_get}
 use Rattle.std.proofs.lemmas.Bool.{cases_lt}
 use Rattle.std.proofs.lemmas.Option.{same_Some, slice_get-get_or}
 use Rattle.std.proofs.lemmas.List.{map-append, length_push, get_or_append_left, get_or_push, get_or_past}
 use Rattle.std.proofs.lemmas.List.Elements.{All-push}
+use Rattle.gp_clause.specs.declared.kind.Kind.{Kind}
 use Rattle.gp_clause.specs.declared.lit.Lit.{Lit}
 use Rattle.gp_clause.specs.declared.problem.Problem.{Problem}
 use Rattle.gp_clause.specs.declared.problem.Query.{Query}
-use Rattle.gp_clause.specs.Clause.{NamesBelow}
+use Rattle.gp_clause.specs.Clause.{NamesBelow, IsRising}
 use Rattle.gp_derivation.specs.declared.log.LogEntry.{LogEntry}
-use Rattle.gp_derivation.specs.declared.log.Origin.TheVariants.{Learned}
 use Rattle.gp_derivation.specs.declared.step.Step.{Step}
 use Rattle.gp_derivation.specs.Log.{IsLearned, IsPure, LogGrows, LearnedPasses}
 use Rattle.gp_derivation.specs.Log.IsPure.{taken, learned}
-use Rattle.gp_derivation.specs.ListLaws.{got_front, slice_get_back}
+use Rattle.gp_derivation.specs.ListLaws.{got_front}
+use Rattle.gp_derivation.specs.Numbering.{size_of}
+use Rattle.gp_derivation.specs.Tester.{TesterForm}
 use Rattle.gp_difference.specs.Graph.{GraphForm}
 use Rattle.gp_sat.specs.declared.assigned.Assigned.{Assigned}
 use Rattle.gp_sat.specs.Stored.{Stored}
@@ -25,10 +27,12 @@ use Rattle.gp_sat.specs.Changes.{Backjumps, MayAttach}
 use Rattle.gp_sat.specs.Learning.{HasOnePresent, IsHighestBelow, IsBelowLevel}
 use Rattle.gp_sat.specs.SolverLaws.{attached_within}
 use Rattle.gp_search.specs.declared.engine.Engine.{Engine}
-use Rattle.gp_search.specs.Inside.{all_kinds, IsPlain, IsMarked, IsStored, IsKeeping, IsPassing, IsTurning, IsReasoned, IsAsserted, IsAssuming, IsGraphOf}
-use Rattle.gp_search.specs.Moves.{RestsOnMarked}
+use Rattle.gp_search.specs.declared.engine.Level.{Level}
+use Rattle.gp_search.specs.Inside.{all_kinds, IsPlain, IsMarked, IsStored, IsKeeping, IsPassing, IsTurning, IsReasoned, IsAsserted, IsAssuming, IsGraphOf, IsLevelled, IsTaught, IsTesterOf, turn_from, no_level}
+use Rattle.gp_search.specs.Moves.{IsLesson, RestsOnMarked}
 use Rattle.gp_search.proofs.LearnedSteps.{clauses_counted}
-use Rattle.gp_search.proofs.Trails.{back_was, back_stays}
+use Rattle.gp_search.proofs.Taught.{entry_of, last_got, old_or_last, taught_more}
+use Rattle.gp_search.proofs.Levels.{back_was, back_stays, begun_same}
 
 -- a literal of the level that was left is unassigned
 left_free : (old new : SolverForm) (level v : ℕ) (a : Assigned) → Backjumps old new level → assigned old v ≡ Some a → level < a.level → assigned new v ≡ None
@@ -70,10 +74,6 @@ lesson_below s clause level above highest = elim highest.reached [
 pub pure_longer : (problem : Problem) (log more : List LogEntry) (place : ℕ) → IsPure problem log place → IsPure problem (log ++ more) place
 pure_longer problem log more place (taken p own got took) = taken p own (got_front log more p own got) took
 pure_longer problem log more place (learned p own got below others) = learned p own (got_front log more p own got) below (λ other by. pure_longer problem log more other (others other by))
-
--- the entry at the end of a log
-pub last_got : (log : List LogEntry) (entry : LogEntry) (place : ℕ) → place ≡ length log → slice_get (log ++ entry ∷ []) place ≡ Some entry
-last_got log entry place at_end = ap (λ (n : ℕ). slice_get (log ++ entry ∷ []) n) (let same : place ≡ length log + 0 = omega (arith, at_end) in same) ∙ slice_get_back log (entry ∷ []) 0
 
 plain_longer : (problem : Problem) (log : List LogEntry) (entry : LogEntry) (place : ℕ) → place < length log → IsPlain problem log place → IsPlain problem (log ++ entry ∷ []) place
 plain_longer problem log entry place within plain = record {
@@ -184,28 +184,39 @@ pub record Logs (old new : Engine) (entry : LogEntry) (mark : Bool) : Type 0 whe
   pub log : new.log.items ≡ old.log.items ++ entry ∷ []
   pub pure : new.pure.items ≡ old.pure.items ++ mark ∷ []
   pub begins : new.begins ≡ old.begins
+  pub learned : new.learned ≡ old.learned
+  pub tester : new.tester ≡ old.tester
   pub asserted : new.asserted ≡ old.asserted
   pub assumed : new.assumed ≡ old.assumed
+  pub levels : new.levels.items ≡ old.levels.items
+  pub next : new.next ≡ old.next
 
--- a learned entry
-abbrev pub entry_of : Step → LogEntry
-entry_of step = record { step = step; origin = Learned }
+-- a log that passes, and one learned entry more
+passing_more : (problem : Problem) (locals : List Kind) (log : List LogEntry) (begins from : ℕ) (step : Step) → LogGrows → IsPassing problem locals log begins from
+    → LearnedPasses problem locals log begins (length log) step → IsPassing problem locals (log ++ entry_of step ∷ []) begins from
+passing_more problem locals log begins from step grows old passes = record {
+  began = old.began;
+  within = omega (arith, old.within, length_push log (entry_of step));
+  small = All-push (λ (e : LogEntry). size_of e ≤ 64) log (entry_of step) old.small (omega arith);
+  learned = λ place entry got late. elim (old_or_last log (entry_of step) place entry got) [
+    | inl before ↦ old.learned place entry before.1 late
+    | inr last ↦ subst (λ (e : LogEntry). IsLearned e.origin) last.1 tt
+  ];
+  passes = grows.pushed problem locals log begins (entry_of step) (omega (arith, old.began, old.within)) old.passes passes;
+}
 
 pub logged_more : (problem : Problem) (query : Query) (old new : Engine) (step : Step) (mark : Bool) → LogGrows → IsTurning problem query old → IsSound new.solver → Logs old new (entry_of step) mark
-    → (mark ≡ true → RestsOnMarked problem old.pure.items step) → LearnedPasses problem query.locals old.log.items old.begins (length old.log.items) step
-    → length problem.clauses + length old.log.items + 2 < 2 ^ 32 → IsTurning problem query new
-logged_more problem query old new step mark grows turning sound more rests passes few =
+    → (mark ≡ true → RestsOnMarked problem old.pure.items step) → IsLesson problem query old.log.items old.begins step → IsRising step.clause
+    → length problem.clauses + 64 * (length old.log.items + 2) < 2 ^ 32 → IsTurning problem query new
+logged_more problem query old new step mark grows turning sound more rests lesson rising few =
+    let passes : LearnedPasses problem query.locals old.log.items old.begins (length old.log.items) step = lesson.passes in
     let entry : LogEntry = entry_of step in
     let names : ℕ = length (all_kinds problem query) in
     let s : SolverForm = old.solver in
     let t : SolverForm = record (with_clause s step.clause) { order = more.order } in
-    let log : IsPassing problem query.locals (old.log.items ++ entry ∷ []) old.begins = record {
-      began = omega (arith, turning.whole.log.began, length_push old.log.items entry);
-      learned = All-push (λ (e : LogEntry). IsLearned e.origin) old.log.items entry turning.whole.log.learned tt;
-      passes = grows.pushed problem query.locals old.log.items old.begins entry turning.whole.log.began turning.whole.log.passes passes;
-    } in
+    let log : IsPassing problem query.locals (old.log.items ++ entry ∷ []) old.begins old.learned = passing_more problem query.locals old.log.items old.begins old.learned step grows turning.whole.log passes in
     let stored : IsStored problem old.begins names (old.log.items ++ entry ∷ []) t.clauses =
-    stored_more problem old.begins names old.log.items s.clauses entry turning.whole.log.began passes.passes.in_range turning.whole.stored in
+    stored_more problem old.begins names old.log.items s.clauses entry (omega (arith, turning.whole.log.began, turning.whole.log.within)) passes.passes.in_range turning.whole.stored in
     let keeping : IsKeeping (length problem.clauses) old.begins (length (old.log.items ++ entry ∷ [])) (old.pure.items ++ mark ∷ []) t.clauses =
     keeping_more (length problem.clauses) old.begins old.log.items entry old.pure.items mark s.clauses step.clause turning.whole.marked.size (clauses_counted problem old.log.items s.clauses turning.whole.stored.lits) turning.whole.keeping in
     let marked : IsMarked problem (old.log.items ++ entry ∷ []) (old.pure.items ++ mark ∷ []) = marked_more problem old.log.items old.pure.items entry mark turning.whole.marked rests in
@@ -221,6 +232,11 @@ logged_more problem query old new step mark grows turning sound more rests passe
       present = λ place d above within. turning.asserted.present place d above within;
       room = turning.asserted.room;
     } in
+    let levels : IsLevelled (all_kinds problem query) query.assumed t old.levels.items old.next = record {
+      counted = turning.levels.counted;
+      begun = λ below low. begun_same (all_kinds problem query) query.assumed s t below (get_or old.levels.items below no_level) refl refl (turning.levels.begun below low);
+      passed = turning.levels.passed;
+    } in
     let assuming : IsAssuming query.assumed t old.assumed = record {
       within = turning.assuming.within;
       decided = λ v a is none low. turning.assuming.decided v a is none low;
@@ -231,7 +247,9 @@ logged_more problem query old new step mark grows turning sound more rests passe
         valid = turning.whole.valid;
         asked = turning.whole.asked;
         few = omega (arith, few, ap (λ (xs : List LogEntry). length xs) more.log, length_push old.log.items entry);
-        log = subst (λ (n : ℕ). IsPassing problem query.locals new.log.items n) (sym more.begins) (subst (λ (xs : List LogEntry). IsPassing problem query.locals xs old.begins) (sym more.log) log);
+        log = subst (λ (n : ℕ). IsPassing problem query.locals new.log.items new.begins n) (sym more.learned)
+            (subst (λ (n : ℕ). IsPassing problem query.locals new.log.items n old.learned) (sym more.begins)
+            (subst (λ (xs : List LogEntry). IsPassing problem query.locals xs old.begins old.learned) (sym more.log) log));
         stored = subst (λ (n : ℕ). IsStored problem n names new.log.items new.solver.clauses) (sym more.begins)
             (subst (λ (xs : List LogEntry). IsStored problem old.begins names xs new.solver.clauses) (sym more.log)
             (solver_at (λ x. IsStored problem old.begins names (old.log.items ++ entry ∷ []) x.clauses) stored));
@@ -241,6 +259,7 @@ logged_more problem query old new step mark grows turning sound more rests passe
             (solver_at (λ x. IsKeeping (length problem.clauses) old.begins (length (old.log.items ++ entry ∷ [])) (old.pure.items ++ mark ∷ []) x.clauses) keeping)));
         marked = subst (λ (xs : List LogEntry). IsMarked problem xs new.pure.items) (sym more.log) (subst (λ (bs : List Bool). IsMarked problem (old.log.items ++ entry ∷ []) bs) (sym more.pure) marked);
         graph = subst (λ (g : GraphForm). IsGraphOf problem g) (sym more.graph) turning.whole.graph;
+        tester = subst (λ (t : TesterForm). IsTesterOf problem t) (sym more.tester) turning.whole.tester;
         variables = omega (arith, values, turning.whole.variables);
       };
       variables = omega (arith, values, turning.variables);
@@ -251,4 +270,12 @@ logged_more problem query old new step mark grows turning sound more rests passe
           (subst (λ (g : GraphForm). IsAsserted (all_kinds problem query) new.solver g old.asserted) (sym more.graph)
           (solver_at (λ x. IsAsserted (all_kinds problem query) x old.graph old.asserted) asserted));
       assuming = subst (λ (n : ℕ). IsAssuming query.assumed new.solver n) (sym more.assumed) (solver_at (λ x. IsAssuming query.assumed x old.assumed) assuming);
+      levels = subst (λ (n : ℕ). IsLevelled (all_kinds problem query) query.assumed new.solver new.levels.items n) (sym more.next)
+          (subst (λ (ls : List Level). IsLevelled (all_kinds problem query) query.assumed new.solver ls old.next) (sym more.levels)
+          (solver_at (λ x. IsLevelled (all_kinds problem query) query.assumed x old.levels.items old.next) levels));
+      kinds = ap (λ (t : TesterForm). t.kinds) more.tester ∙ turning.kinds;
+      taught = subst (λ (n : ℕ). IsTaught problem query new.log.items (turn_from new.begins n (length new.log.items))) (sym more.learned)
+          (subst (λ (n : ℕ). IsTaught problem query new.log.items (turn_from n old.learned (length new.log.items))) (sym more.begins)
+          (subst (λ (es : List LogEntry). IsTaught problem query es (turn_from old.begins old.learned (length es))) (sym more.log)
+          (taught_more problem query old.log.items old.begins old.learned step turning.whole.log turning.taught lesson rising)));
     }

@@ -52,7 +52,7 @@ base_true s names truth clause laws sound told all names_below quiet = at (laws 
         (one.0, one.1, sym (truth_is s names truth lit.variable one.0 told below one.1) ∙ value, (sound.ordered.present lit.variable one.0 one.1).0)))
 
 -- the base clauses are those of the first numbers
-base_at : (problem : Problem) (query : Query) (engine : Engine) → IsTurning problem query engine → (clause : List Lit) → Contains problem.clauses clause
+pub base_at : (problem : Problem) (query : Query) (engine : Engine) → IsTurning problem query engine → (clause : List Lit) → Contains problem.clauses clause
     → (number : ℕ) × (number < length problem.clauses) × (clause_at engine.solver.clauses number ≡ clause)
 base_at problem query engine turning clause (number, within, is) =
     let all : number < length engine.solver.clauses = omega (arith, within, clauses_counted problem engine.log.items engine.solver.clauses turning.whole.stored.lits) in
@@ -64,7 +64,7 @@ base_at problem query engine turning clause (number, within, is) =
     (number, within, same ∙ is)
 
 -- the bound of a true literal of the trail is kept
-bound_kept : (kinds : List Kind) (graph : GraphForm) (trail : List Lit) (lit : Lit) (place : ℕ → ℤ) → graph.kept ≡ bounds_along kinds trail → All (Keeps place) (all_edges graph) → Contains trail lit
+pub bound_kept : (kinds : List Kind) (graph : GraphForm) (trail : List Lit) (lit : Lit) (place : ℕ → ℤ) → graph.kept ≡ bounds_along kinds trail → All (Keeps place) (all_edges graph) → Contains trail lit
     → KeepsBound place (lit_bound kinds lit)
 bound_kept kinds graph trail lit place same keeps is = at (lit_bound kinds lit) refl
   where
@@ -78,7 +78,7 @@ bound_kept kinds graph trail lit place same keeps is = at (lit_bound kinds lit) 
         All-contains (Keeps place) (all_edges graph) edge keeps (contains_map (λ (b : Bound). b.edge) (bounds_of graph) (tagged edge lit.variable) three)
 
 -- the fixed edges are among all
-edge_among : (graph : GraphForm) (edge : Edge) → Contains graph.edges edge → Contains (all_edges graph) edge
+pub edge_among : (graph : GraphForm) (edge : Edge) → Contains graph.edges edge → Contains (all_edges graph) edge
 edge_among graph edge is =
     let one : Contains (map untagged graph.edges) (untagged edge) = contains_map untagged graph.edges edge is in
     contains_map (λ (b : Bound). b.edge) (bounds_of graph) (untagged edge) (Contains-append_left (map untagged graph.edges) graph.kept (untagged edge) one)

@@ -1,12 +1,16 @@
 -- The last steps of refutations, and their cones.
-use Rattle.std.proofs.Common.{◌≡◌, ◌≢◌, refl, sym, ◌∙◌, ap, subst, ℕ, ◌+◌, ◌<◌, ◌≤◌, ◌==◌, Bool, true, false, cond, not, Some, List, [], ◌∷◌, ◌++◌, length, All, Contains, sum_by, IsPermutation, inl, inr, arith}
+use Rattle.std.proofs.Common.{◌≡◌, ◌≢◌, refl, sym, ◌∙◌, ap, subst, ℕ, zero, suc, ◌+◌, ◌*◌, ◌<◌, ◌≤◌, ◌==◌, Bool, true, false, cond, not, Some, List, [], ◌∷◌, ◌++◌, length, All, Contains, sum_by, IsPermutation, inl, inr, arith}
 use Rattle.std.specs.Prelude.{Result, Ok, Err, IsOk, IsErr, IfOk}
 use Rattle.std.proofs.lemmas.Bool.{cases_lt, cases_eq}
 use Rattle.std.proofs.lemmas.Bool.Decides.{nat_tests}
-use Rattle.std.proofs.lemmas.Option.{same_Some}
-use Rattle.std.proofs.lemmas.List.Sums.{sum_by-cons, sum_by-append}
+use Rattle.std.specs.Arc.{arc_value}
+use Rattle.std.specs.List.{slice_get}
+use Rattle.std.proofs.lemmas.Option.{same_Some, none-some}
+use Rattle.std.proofs.lemmas.List.{length_push}
+use Rattle.std.proofs.lemmas.List.Sums.{sum_by-cons, sum_by-append, sum_by-le}
 use Rattle.std.proofs.lemmas.List.Sorted.{Contains-permutation, IsPermutation-sym}
-use Rattle.std.proofs.lemmas.List.Elements.{All-contains, All-head, All-tail, Contains-push, Contains-push_cases, Contains-append_left}
+use Rattle.std.proofs.lemmas.List.Elements.{All-contains, All-weaker, Contains-push, Contains-push_cases, Contains-append_left}
+use Rattle.gp_clause.specs.declared.edge.Edge.{Edge}
 use Rattle.gp_clause.specs.declared.kind.Kind.{Kind}
 use Rattle.gp_clause.specs.declared.lit.Lit.{Lit}
 use Rattle.gp_clause.specs.declared.problem.Problem.{Problem}
@@ -19,9 +23,9 @@ use Rattle.gp_derivation.specs.declared.log.LogEntry.{LogEntry}
 use Rattle.gp_derivation.specs.declared.log.Origin.{Origin}
 use Rattle.gp_derivation.specs.declared.log.Origin.TheVariants.{Learned, Taken}
 use Rattle.gp_derivation.specs.declared.step.Step.{Step}
-use Rattle.gp_derivation.specs.Log.{IsLearned, LearnedPasses, OriginPasses}
+use Rattle.gp_derivation.specs.Certificate.{StepsCheck}
+use Rattle.gp_derivation.specs.Log.{LearnedPasses, OriginPasses}
 use Rattle.gp_derivation.specs.Numbering.{CanBeNumbered, NamesEarlier, size_of}
-use Rattle.gp_derivation.specs.ListLaws.{contains_got}
 use Rattle.gp_sat.specs.declared.assigned.Assigned.{Assigned}
 use Rattle.gp_sat.specs.State.{SolverForm, assigned}
 use Rattle.gp_sat.specs.Standing.{IsFalse, Each}
@@ -43,23 +47,27 @@ makes_clause (Err e) lits twice once = let both : NamesTwice lits = twice refl i
 pub clause_sorted : (r : Result (List Lit) BadClause) (lits clause : List Lit) → IfOk r (λ c. IsPermutation lits c) → r ≡ Ok clause → IsPermutation lits clause
 clause_sorted r lits clause sorted is = let P : Result (List Lit) BadClause → Type 0 = λ x. IfOk x (λ c. IsPermutation lits c) in subst P is sorted
 
--- learned entries count one each
-learned_sizes : (log : List LogEntry) → All (λ (entry : LogEntry). IsLearned entry.origin) log → sum_by size_of log ≡ length log
-learned_sizes [] all = refl
-learned_sizes (entry ∷ log) all =
-    let rest : sum_by size_of log ≡ length log = learned_sizes log (All-tail (λ (e : LogEntry). IsLearned e.origin) entry log all) in
-    let one : size_of entry ≡ 1 = size entry.origin (All-head (λ (e : LogEntry). IsLearned e.origin) entry log all) in
-    omega (arith, sum_by-cons size_of entry log, rest, one)
-  where
-    size : (origin : Origin) → IsLearned origin → size_of (record { step = entry.step; origin = origin }) ≡ 1
-    size Learned is = refl
-    size (Taken sender certificate) wrong = absurd wrong
+-- each step of a certificate that checks has hints to what comes before it
+steps_before : (edges : List Edge) (kinds : List Kind) (earlier : List (List Lit)) (steps : List Step) → StepsCheck edges kinds earlier steps → (k : ℕ) (own : Step) → slice_get steps k ≡ Some own
+    → All (λ hint. hint < length earlier + k) own.hints
+steps_before edges kinds earlier [] checks k own got = absurd (none-some own got)
+steps_before edges kinds earlier (step ∷ steps) checks zero own got =
+    let same : step ≡ own = same_Some step own got in
+    subst (λ (s : Step). All (λ hint. hint < length earlier + 0) s.hints) same (All-weaker (λ hint. hint < length earlier) (λ hint. hint < length earlier + 0) (λ hint low. omega (arith, low)) step.hints checks.0.hints)
+steps_before edges kinds earlier (step ∷ steps) checks (suc k) own got =
+    All-weaker (λ hint. hint < length (earlier ++ step.clause ∷ []) + k) (λ hint. hint < length earlier + suc k) (λ hint low. omega (arith, low, length_push earlier step.clause)) own.hints
+    (steps_before edges kinds (earlier ++ step.clause ∷ []) steps checks.1 k own got)
 
--- a learned entry that passes names what comes before it
-names_earlier : (problem : Problem) (locals : List Kind) (log : List LogEntry) (begins place : ℕ) (step : Step) (origin : Origin) → IsLearned origin → OriginPasses problem locals log begins place step origin
+-- an entry that passes names what comes before it
+names_earlier : (problem : Problem) (locals : List Kind) (log : List LogEntry) (begins place : ℕ) (step : Step) (origin : Origin) → OriginPasses problem locals log begins place step origin
     → NamesEarlier (length problem.clauses) place step origin
-names_earlier problem locals log begins place step Learned is passes = passes.hints
-names_earlier problem locals log begins place step (Taken sender certificate) wrong passes = absurd wrong
+names_earlier problem locals log begins place step Learned passes = passes.hints
+names_earlier problem locals log begins place step (Taken sender certificate) proves = (
+  let steps : List Step = (arc_value certificate).steps in
+      let last : steps ≡ proves.ends.1.0 ++ proves.ends.0 ∷ [] = proves.ends.1.1 in
+      omega (arith, ap (λ (ss : List Step). length ss) last, length_push proves.ends.1.0 proves.ends.0),
+  λ k own got. steps_before problem.edges (problem.kinds ++ []) problem.clauses (arc_value certificate).steps proves.checks k own got,
+)
 
 -- a step that passes at the end of a log has a cone
 pub can_number : (problem : Problem) (query : Query) (engine : Engine) (bases : ℕ) (log : List LogEntry) (step : Step) → IsTurning problem query engine → bases ≡ length problem.clauses → log ≡ engine.log.items
@@ -67,15 +75,14 @@ pub can_number : (problem : Problem) (query : Query) (engine : Engine) (bases : 
 can_number problem query engine bases log step turning counted same passes =
     let P : ℕ → Type 0 = λ n. CanBeNumbered n log step in
     let Q : List LogEntry → Type 0 = λ xs. CanBeNumbered (length problem.clauses) xs step in
+    let sizes : sum_by size_of engine.log.items ≤ length engine.log.items * 64 = sum_by-le size_of 64 engine.log.items turning.whole.log.small in
     subst P (sym counted) (subst Q (sym same) (record {
-      entries = λ place entry got.
-          let is : IsLearned entry.origin = All-contains (λ (e : LogEntry). IsLearned e.origin) engine.log.items entry turning.whole.log.learned (contains_got engine.log.items place entry got) in
-          elim (cases_lt place engine.begins) [
-            | inl before ↦ let some = turning.whole.log.passes.earlier place entry got before in names_earlier problem some.0 engine.log.items some.1 place entry.step entry.origin is some.2
-            | inr after ↦ names_earlier problem query.locals engine.log.items engine.begins place entry.step entry.origin is (turning.whole.log.passes.current place entry got after)
-          ];
+      entries = λ place entry got. elim (cases_lt place engine.begins) [
+        | inl before ↦ let some = turning.whole.log.passes.earlier place entry got before in names_earlier problem some.0 engine.log.items some.1 place entry.step entry.origin some.2
+        | inr after ↦ names_earlier problem query.locals engine.log.items engine.begins place entry.step entry.origin (turning.whole.log.passes.current place entry got after)
+      ];
       hints = passes.hints;
-      few = omega (arith, learned_sizes engine.log.items turning.whole.log.learned, turning.whole.few);
+      few = omega (arith, sizes, turning.whole.few);
     }))
 
 -- how often a literal counts for a variable

@@ -1,13 +1,14 @@
 -- What a turn keeps true when the trail moves.
-use Rattle.std.proofs.Common.{◌≡◌, refl, sym, ◌∙◌, ap, subst, ℕ, ◌+◌, ◌-◌, ◌<◌, ◌≤◌, min, not, Option, Some, None, List, [], ◌∷◌, ◌++◌, length, get_or, take, drop, Contains, ◌⊎◌, inl, inr, arith}
+use Rattle.std.proofs.Common.{◌≡◌, refl, sym, ◌∙◌, ap, subst, ℕ, ◌+◌, ◌-◌, ◌<◌, ◌≤◌, min, not, false, Option, Some, None, List, [], ◌∷◌, ◌++◌, length, get_or, take, drop, All, Contains, ◌⊎◌, inl, inr, arith}
 use Rattle.std.proofs.lemmas.Bool.{cases_lt}
 use Rattle.std.proofs.lemmas.List.{length-append, length-map, length-take, length_push, length-set, get_or_append_left, get_or_push, take-append-le, take-take, take-append-drop, take_at}
-use Rattle.std.proofs.lemmas.List.Elements.{All-contains, filter_map-append, Contains-get_or}
+use Rattle.std.proofs.lemmas.List.Elements.{All-contains, All-more, filter_map-append, Contains-get_or}
 use Rattle.gp_clause.specs.declared.kind.Kind.{Kind}
 use Rattle.gp_clause.specs.declared.lit.Lit.{Lit}
 use Rattle.gp_clause.specs.declared.problem.Problem.{Problem}
 use Rattle.gp_clause.specs.declared.problem.Query.{Query}
 use Rattle.gp_clause.specs.Clause.{NamesBelow}
+use Rattle.gp_derivation.specs.Tester.{TesterForm}
 use Rattle.gp_difference.specs.declared.bound.Bound.{Bound}
 use Rattle.gp_difference.specs.Graph.{GraphForm}
 use Rattle.gp_sat.specs.declared.assigned.Assigned.{Assigned}
@@ -18,12 +19,14 @@ use Rattle.gp_sat.specs.Sound.{IsSound, true_lit}
 use Rattle.gp_sat.specs.Changes.{Propagates, Backjumps, IsOfLevel, IsUpTo, HasPresent}
 use Rattle.gp_sat.specs.Looking.{IsTrueLit}
 use Rattle.gp_sat.specs.SolverLaws.{Adds, added, adds_literal, added_cases, added_stays}
-use Rattle.gp_sat.specs.SolverLaws.{kept_at, kept_was, kept_stays}
 use Rattle.gp_search.specs.declared.engine.Engine.{Engine}
+use Rattle.gp_search.specs.declared.engine.Level.{Level}
 use Rattle.gp_search.specs.Bounds.{lit_bound, under, bounds_along}
-use Rattle.gp_search.specs.Inside.{all_kinds, IsTurning, IsAsserted, IsReasoned, IsAssuming, IsTrueTo}
+use Rattle.gp_search.specs.Inside.{all_kinds, IsTurning, IsAsserted, IsReasoned, IsAssuming, IsGraphOf, IsLevelled, IsTrueTo, no_level}
+use Rattle.gp_search.specs.Moves.{BeginsLevel}
 use Rattle.gp_search.proofs.Lists.{contains_cases, here, there}
-use Rattle.gp_search.proofs.Wholes.{whole_moved, moved}
+use Rattle.gp_search.proofs.Levels.{at_place, back_was, back_stays, bounds_back, levelled_more, levelled_decided, levelled_back}
+use Rattle.gp_search.proofs.Wholes.{HasSameLog, taught_moved, whole_moved}
 
 -- the reasons after a propagation
 reasoned_more : (names : ℕ) (old new : SolverForm) → ((number : ℕ) → IsAttached old.clauses number → NamesBelow names (clause_at old.clauses number)) → Propagates old new → IsReasoned names old → IsReasoned names new
@@ -78,13 +81,16 @@ assuming_more assumed old new level more was = record {
 pub propagated : (problem : Problem) (query : Query) (engine : Engine) (solver : SolverForm) → IsTurning problem query engine → IsSound solver → Propagates engine.solver solver
     → IsTurning problem query (record engine { solver = solver })
 propagated problem query engine solver turning sound more = record {
-  whole = whole_moved problem query engine solver engine.graph engine.asserted engine.assumed turning.whole more.clauses more.variables turning.whole.graph;
+  whole = whole_moved problem query engine (record engine { solver = solver }) (record { log = refl; pure = refl; begins = refl; learned = refl; tester = refl }) turning.whole more.clauses more.variables turning.whole.graph;
   variables = omega (arith, more.variables, turning.variables);
   used = more.used ∙ turning.used;
   sound = sound;
   reasoned = reasoned_more (length (all_kinds problem query)) engine.solver solver turning.whole.stored.named more turning.reasoned;
   asserted = asserted_more (all_kinds problem query) engine.solver solver engine.graph engine.asserted turning.sound sound more turning.asserted;
   assuming = assuming_more query.assumed engine.solver solver engine.assumed more turning.assuming;
+  levels = levelled_more (all_kinds problem query) query.assumed engine.solver solver engine.levels.items engine.next more turning.levels;
+  kinds = turning.kinds;
+  taught = turning.taught;
 }
 
 -- the reasons after a decision
@@ -115,67 +121,135 @@ asserted_decided kinds s graph asserted level lit inside free all values was = r
   room = omega (arith, values, was.room);
 }
 
+-- an engine after a decision
+pub record IsDecidedOn (old new : Engine) (lit : Lit) : Type 0 where
+  pub same : HasSameLog old new
+  pub solver : new.solver ≡ with_literal old.solver lit (old.solver.level + 1) None
+  pub graph : new.graph ≡ old.graph
+  pub asserted : new.asserted ≡ old.asserted
+  pub levels : new.levels.items ≡ old.levels.items ++ record { bounds = length old.graph.kept; next = old.next } ∷ []
+  pub next : new.next ≡ old.next
+
+pub decided_on : (old new : Engine) (lit : Lit) (assumed : ℕ) → BeginsLevel old new lit → IsDecidedOn old (record new { assumed = assumed }) lit
+decided_on old new lit assumed begun = record {
+  same = record {
+    log = ap (λ (e : Engine). e.log.items) begun.same;
+    pure = ap (λ (e : Engine). e.pure.items) begun.same;
+    begins = ap (λ (e : Engine). e.begins) begun.same;
+    learned = ap (λ (e : Engine). e.learned) begun.same;
+    tester = ap (λ (e : Engine). e.tester) begun.same;
+  };
+  solver = begun.solver;
+  graph = ap (λ (e : Engine). e.graph) begun.same;
+  asserted = ap (λ (e : Engine). e.asserted) begun.same;
+  levels = begun.levels;
+  next = ap (λ (e : Engine). e.next) begun.same;
+}
+
 -- all but the assumptions after a decision
-decided_but : (problem : Problem) (query : Query) (engine : Engine) (lit : Lit) (level assumed : ℕ) → IsTurning problem query engine → IsSound (with_literal engine.solver lit level None)
-    → engine.asserted ≡ length engine.solver.trail → assigned engine.solver lit.variable ≡ None → lit.variable < length (all_kinds problem query)
-    → IsAssuming query.assumed (with_literal engine.solver lit level None) assumed → IsTurning problem query (record engine { solver = with_literal engine.solver lit level None; assumed = assumed })
-decided_but problem query engine lit level assumed turning sound all free below assuming =
-    let s : SolverForm = engine.solver in
+decided_but : (problem : Problem) (query : Query) (old new : Engine) (lit : Lit) → IsTurning problem query old → IsSound new.solver → old.asserted ≡ length old.solver.trail → assigned old.solver lit.variable ≡ None
+    → lit.variable < length (all_kinds problem query) → IsDecidedOn old new lit → IsAssuming query.assumed (with_literal old.solver lit (old.solver.level + 1) None) new.assumed → IsTurning problem query new
+decided_but problem query old new lit turning sound all free below decided assuming =
+    let kinds : List Kind = all_kinds problem query in
+    let s : SolverForm = old.solver in
+    let t : SolverForm = with_literal s lit (s.level + 1) None in
     let inside : lit.variable < length s.values = omega (arith, below, turning.variables) in
-    let values : length (with_literal s lit level None).values ≡ length s.values = length-set s.values lit.variable (Some (added s lit level None)) in
+    let values : length t.values ≡ length s.values = length-set s.values lit.variable (Some (added s lit (s.level + 1) None)) in
+    let more : length new.solver.values ≡ length s.values = ap (λ (x : SolverForm). length x.values) decided.solver ∙ values in
+    let solver_at : (P : SolverForm → Type 0) → P t → P new.solver = λ P is. subst P (sym decided.solver) is in
+    let mark : length old.graph.kept ≡ length (bounds_along kinds (take (length s.trail) s.trail)) =
+    ap (λ (bs : List Bound). length bs) turning.asserted.kept ∙ ap (λ (n : ℕ). length (bounds_along kinds (take n s.trail))) all in
+    let levels : IsLevelled kinds query.assumed t (old.levels.items ++ record { bounds = length old.graph.kept; next = old.next } ∷ []) old.next =
+    levelled_decided kinds query.assumed s old.levels.items old.next (length old.graph.kept) lit turning.sound inside free mark turning.levels in
     record {
-      whole = whole_moved problem query engine (with_literal s lit level None) engine.graph engine.asserted assumed turning.whole refl values turning.whole.graph;
-      variables = omega (arith, values, turning.variables);
-      used = turning.used;
+      whole = whole_moved problem query old new decided.same turning.whole (ap (λ (x : SolverForm). x.clauses) decided.solver) more (subst (λ (g : GraphForm). IsGraphOf problem g) (sym decided.graph) turning.whole.graph);
+      variables = omega (arith, more, turning.variables);
+      used = ap (λ (x : SolverForm). x.used) decided.solver ∙ turning.used;
       sound = sound;
-      reasoned = reasoned_decided (length (all_kinds problem query)) s lit level inside free below turning.reasoned;
-      asserted = asserted_decided (all_kinds problem query) s engine.graph engine.asserted level lit inside free all values turning.asserted;
-      assuming = assuming;
+      reasoned = solver_at (IsReasoned (length kinds)) (reasoned_decided (length kinds) s lit (s.level + 1) inside free below turning.reasoned);
+      asserted = subst (λ (n : ℕ). IsAsserted kinds new.solver new.graph n) (sym decided.asserted)
+          (subst (λ (g : GraphForm). IsAsserted kinds new.solver g old.asserted) (sym decided.graph)
+          (solver_at (λ x. IsAsserted kinds x old.graph old.asserted) (asserted_decided kinds s old.graph old.asserted (s.level + 1) lit inside free all values turning.asserted)));
+      assuming = solver_at (λ x. IsAssuming query.assumed x new.assumed) assuming;
+      levels = subst (λ (n : ℕ). IsLevelled kinds query.assumed new.solver new.levels.items n) (sym decided.next)
+          (subst (λ (ls : List Level). IsLevelled kinds query.assumed new.solver ls old.next) (sym decided.levels)
+          (solver_at (λ x. IsLevelled kinds query.assumed x (old.levels.items ++ record { bounds = length old.graph.kept; next = old.next } ∷ []) old.next) levels));
+      kinds = ap (λ (t : TesterForm). t.kinds) decided.same.tester ∙ turning.kinds;
+      taught = taught_moved problem query old new decided.same turning.taught;
     }
 
 -- an assumption was decided, where no other literal was
-pub assumed_decided : (problem : Problem) (query : Query) (engine : Engine) (solver : SolverForm) (lit : Lit) (level : ℕ) → IsTurning problem query engine → IsSound solver
-    → engine.asserted ≡ length engine.solver.trail → Contains query.assumed lit → assigned engine.solver lit.variable ≡ None → lit.variable < length (all_kinds problem query)
-    → engine.solver.level ≤ engine.assumed → solver ≡ with_literal engine.solver lit (engine.solver.level + 1) None → level ≡ solver.level
-    → IsTurning problem query (record engine { solver = solver; assumed = level })
-assumed_decided problem query engine solver lit level turning sound all among free below low is same =
-    let s : SolverForm = engine.solver in
+pub assumed_decided : (problem : Problem) (query : Query) (old new : Engine) (lit : Lit) → IsTurning problem query old → IsSound new.solver → old.asserted ≡ length old.solver.trail → Contains query.assumed lit
+    → assigned old.solver lit.variable ≡ None → lit.variable < length (all_kinds problem query) → old.solver.level ≤ old.assumed → IsDecidedOn old new lit → new.assumed ≡ new.solver.level → IsTurning problem query new
+assumed_decided problem query old new lit turning sound all among free below low decided same =
+    let s : SolverForm = old.solver in
     let next : SolverForm = with_literal s lit (s.level + 1) None in
     let inside : lit.variable < length s.values = omega (arith, below, turning.variables) in
     let adds : Adds (assigned s) (assigned next) lit.variable (added s lit (s.level + 1) None) = adds_literal s lit (s.level + 1) None inside free in
-    let levels : level ≡ s.level + 1 = same ∙ ap (λ (x : SolverForm). x.level) is in
-    subst (λ (x : SolverForm). IsTurning problem query (record engine { solver = x; assumed = level })) (sym is)
-    (decided_but problem query engine lit (s.level + 1) level turning (subst IsSound is sound) all free below (record {
+    let levels : new.assumed ≡ s.level + 1 = same ∙ ap (λ (x : SolverForm). x.level) decided.solver in
+    decided_but problem query old new lit turning sound all free below decided (record {
       within = omega (arith, levels);
       decided = λ v a there none up. elim (added_cases adds v a there) [
         | inl here ↦ subst (λ (l : Lit). Contains query.assumed l) (λ i. record { variable = (sym here.0) i; positive = (sym (ap (λ (x : Assigned). x.positive) here.1)) i }) among
         | inr early ↦ turning.assuming.decided v a early none (omega (arith, (turning.sound.ordered.present v a early).0, low))
       ];
       all_true = λ above. absurd (omega (arith, above, levels));
-    }))
+    })
 
 -- a variable was decided, where all that is assumed is true
-pub free_decided : (problem : Problem) (query : Query) (engine : Engine) (solver : SolverForm) (lit : Lit) → IsTurning problem query engine → IsSound solver
-    → engine.asserted ≡ length engine.solver.trail → Each (IsTrueLit (assigned engine.solver)) query.assumed → assigned engine.solver lit.variable ≡ None → lit.variable < length (all_kinds problem query)
-    → solver ≡ with_literal engine.solver lit (engine.solver.level + 1) None → IsTurning problem query (record engine { solver = solver })
-free_decided problem query engine solver lit turning sound all holds free below is =
-    let s : SolverForm = engine.solver in
+pub free_decided : (problem : Problem) (query : Query) (old new : Engine) (lit : Lit) → IsTurning problem query old → IsSound new.solver → old.asserted ≡ length old.solver.trail
+    → Each (IsTrueLit (assigned old.solver)) query.assumed → assigned old.solver lit.variable ≡ None → lit.variable < length (all_kinds problem query) → IsDecidedOn old new lit → new.assumed ≡ old.assumed
+    → IsTurning problem query new
+free_decided problem query old new lit turning sound all holds free below decided same =
+    let s : SolverForm = old.solver in
     let next : SolverForm = with_literal s lit (s.level + 1) None in
     let inside : lit.variable < length s.values = omega (arith, below, turning.variables) in
     let adds : Adds (assigned s) (assigned next) lit.variable (added s lit (s.level + 1) None) = adds_literal s lit (s.level + 1) None inside free in
-    let stays : (l : Lit) → IsTrueTo s engine.assumed l → IsTrueTo next engine.assumed l = λ l one. (one.0, added_stays adds l.variable one.0 one.1, one.2, one.3) in
-    subst (λ (x : SolverForm). IsTurning problem query (record engine { solver = x })) (sym is)
-    (decided_but problem query engine lit (s.level + 1) engine.assumed turning (subst IsSound is sound) all free below (record {
+    let stays : (l : Lit) → IsTrueTo s old.assumed l → IsTrueTo next old.assumed l = λ l one. (one.0, added_stays adds l.variable one.0 one.1, one.2, one.3) in
+    let assuming : IsAssuming query.assumed next old.assumed = record {
       within = omega (arith, turning.assuming.within);
       decided = λ v a there none up. elim (added_cases adds v a there) [
         | inl here ↦ absurd (omega (arith, up, ap (λ (x : Assigned). x.level) here.1, turning.assuming.within))
         | inr early ↦ turning.assuming.decided v a early none up
       ];
-      all_true = λ _ l among. stays l (elim (cases_lt engine.assumed s.level) [
+      all_true = λ _ l among. stays l (elim (cases_lt old.assumed s.level) [
         | inl above ↦ turning.assuming.all_true above l among
         | inr at_top ↦ let one = holds l among in (one.0, one.1, one.2, omega (arith, (turning.sound.ordered.present l.variable one.0 one.1).0, at_top))
       ]);
-    }))
+    } in
+    decided_but problem query old new lit turning sound all free below decided (subst (λ (n : ℕ). IsAssuming query.assumed next n) (sym same) assuming)
+
+-- the same engine with other places of assumptions
+pub turning_levels : (problem : Problem) (query : Query) (old new : Engine) → IsTurning problem query old → HasSameLog old new → new.solver ≡ old.solver → new.graph ≡ old.graph → new.asserted ≡ old.asserted → new.assumed ≡ old.assumed
+    → IsLevelled (all_kinds problem query) query.assumed old.solver new.levels.items new.next → IsTurning problem query new
+turning_levels problem query old new turning same solver graph asserted assumed levels =
+    let kinds : List Kind = all_kinds problem query in
+    let solver_at : (P : SolverForm → Type 0) → P old.solver → P new.solver = λ P is. subst P (sym solver) is in
+    record {
+      whole = whole_moved problem query old new same turning.whole (ap (λ (x : SolverForm). x.clauses) solver) (ap (λ (x : SolverForm). length x.values) solver) (subst (λ (g : GraphForm). IsGraphOf problem g) (sym graph) turning.whole.graph);
+      variables = solver_at (λ x. length kinds ≤ length x.values) turning.variables;
+      used = solver_at (λ x. x.used ≡ length kinds) turning.used;
+      sound = solver_at IsSound turning.sound;
+      reasoned = solver_at (IsReasoned (length kinds)) turning.reasoned;
+      asserted = subst (λ (n : ℕ). IsAsserted kinds new.solver new.graph n) (sym asserted)
+          (subst (λ (g : GraphForm). IsAsserted kinds new.solver g old.asserted) (sym graph)
+          (solver_at (λ x. IsAsserted kinds x old.graph old.asserted) turning.asserted));
+      assuming = subst (λ (n : ℕ). IsAssuming query.assumed new.solver n) (sym assumed) (solver_at (λ x. IsAssuming query.assumed x old.assumed) turning.assuming);
+      levels = solver_at (λ x. IsLevelled kinds query.assumed x new.levels.items new.next) levels;
+      kinds = ap (λ (t : TesterForm). t.kinds) same.tester ∙ turning.kinds;
+      taught = taught_moved problem query old new same turning.taught;
+    }
+
+-- one assumption more was seen to be true
+pub passed_next : (problem : Problem) (query : Query) (engine : Engine) (d : Lit) (next : ℕ) → IsTurning problem query engine → engine.next < length query.assumed → IsTrueLit (assigned engine.solver) (get_or query.assumed engine.next d)
+    → next ≡ engine.next + 1 → IsTurning problem query (record engine { next = next })
+passed_next problem query engine d next turning within holds is =
+    turning_levels problem query engine (record engine { next = next }) turning (record { log = refl; pure = refl; begins = refl; learned = refl; tester = refl }) refl refl refl refl (record {
+      counted = turning.levels.counted;
+      begun = λ below low. turning.levels.begun below low;
+      passed = subst (λ (n : ℕ). All (IsTrueLit (assigned engine.solver)) (take n query.assumed)) (sym is)
+          (All-more (IsTrueLit (assigned engine.solver)) query.assumed engine.next d within turning.levels.passed holds);
+    })
 
 -- a front of the bounds of a front
 front_bounds : (kinds : List Kind) (trail rest lits : List Lit) (asserted low : ℕ) → trail ++ rest ≡ lits → low ≤ asserted → low ≤ length trail
@@ -190,73 +264,108 @@ front_bounds kinds trail rest lits asserted low is less within =
     ∙ take_at (bounds_along kinds (take low trail)) (bounds_along kinds (drop low (take asserted lits))) (length (bounds_along kinds (take low trail))) refl)
 
 -- so there are no more of the first than of the second
-pub fewer_bounds : (kinds : List Kind) (trail rest lits : List Lit) (asserted low : ℕ) → trail ++ rest ≡ lits → low ≤ asserted → low ≤ length trail
+fewer_bounds : (kinds : List Kind) (trail rest lits : List Lit) (asserted low : ℕ) → trail ++ rest ≡ lits → low ≤ asserted → low ≤ length trail
     → length (bounds_along kinds (take low trail)) ≤ length (bounds_along kinds (take asserted lits))
 fewer_bounds kinds trail rest lits asserted low is less within =
     let n : ℕ = length (bounds_along kinds (take low trail)) in
     let same : length (take n (bounds_along kinds (take asserted lits))) ≡ n = ap (λ (bs : List Bound). length bs) (front_bounds kinds trail rest lits asserted low is less within) in
     omega (arith, same, length-take n (bounds_along kinds (take asserted lits)))
 
--- what was assigned after a backjump was so before, up to the level
-pub back_was : (old new : SolverForm) (level : ℕ) → Backjumps old new level → (v : ℕ) (a : Assigned) → assigned new v ≡ Some a → (assigned old v ≡ Some a) × (a.level ≤ level)
-back_was old new level back v a is =
-    kept_was level (assigned old v) a (sym (ap (λ (vs : List (Option Assigned)). get_or vs v None) back.values ∙ kept_at level old.values v) ∙ is)
+-- the graph has all bounds of the trail that a backjump keeps
+kept_within : (kinds : List Kind) (old new : SolverForm) (graph : GraphForm) (asserted level : ℕ) → Backjumps old new level → level < old.level → IsAsserted kinds old graph asserted → length new.trail ≤ asserted
+kept_within kinds old new graph asserted level back below was = elim (cases_lt asserted (length new.trail)) [
+  | inr enough ↦ enough
+  | inl past ↦
+      let d : Lit = record { variable = 0; positive = false } in
+      let longer : length new.trail ≤ length old.trail = omega (arith, ap (λ (ls : List Lit). length ls) back.trail, length-append new.trail back.rest) in
+      let same : get_or old.trail asserted d ≡ get_or new.trail asserted d = ap (λ (ls : List Lit). get_or ls asserted d) (sym back.trail) ∙ get_or_append_left new.trail back.rest d asserted past in
+      let one : IsOfLevel old old.level (get_or new.trail asserted d) = subst (λ (l : Lit). IsOfLevel old old.level l) same (was.present asserted d (omega arith) (omega (arith, past, longer))) in
+      let up : IsUpTo old level (get_or new.trail asserted d) = back.stays (get_or new.trail asserted d) (Contains-get_or new.trail asserted d past) in
+      let equal : one.0 ≡ up.0 = cc in
+      absurd (omega (arith, one.2, up.2, below, ap (λ (x : Assigned). x.level) equal))
+]
 
-pub back_stays : (old new : SolverForm) (level : ℕ) → Backjumps old new level → (v : ℕ) (a : Assigned) → assigned old v ≡ Some a → a.level ≤ level → assigned new v ≡ Some a
-back_stays old new level back v a is low =
-    ap (λ (vs : List (Option Assigned)). get_or vs v None) back.values ∙ (kept_at level old.values v ∙ kept_stays level (assigned old v) a is low)
-
-asserted_back : (kinds : List Kind) (old new : SolverForm) (graph next : GraphForm) (asserted low mark level : ℕ) → IsSound old → Backjumps old new level → level < old.level → low ≡ min asserted (length new.trail)
+asserted_back : (kinds : List Kind) (old new : SolverForm) (graph next : GraphForm) (asserted low mark level : ℕ) → Backjumps old new level → level < old.level → low ≡ length new.trail
     → mark ≡ length (bounds_along kinds (take low new.trail)) → next ≡ record graph { kept = take mark graph.kept; room = graph.room + (length graph.kept - mark) } → IsAsserted kinds old graph asserted
     → IsAsserted kinds new next low
-asserted_back kinds old new graph next asserted low mark level sound back below least marked undone was = record {
-  within = omega (arith, least);
-  kept = ap (λ (g : GraphForm). g.kept) undone ∙ (ap (λ (bs : List Bound). take mark bs) was.kept ∙ (ap (λ (n : ℕ). take n (bounds_along kinds (take asserted old.trail))) marked
-      ∙ front_bounds kinds new.trail back.rest old.trail asserted low back.trail (omega (arith, least)) (omega (arith, least))));
-  present = λ place d above within.
-      let from : asserted ≤ place = omega (arith, least, above, within) in
-      let longer : length new.trail ≤ length old.trail = omega (arith, ap (λ (ls : List Lit). length ls) back.trail, length-append new.trail back.rest) in
-      let same : get_or old.trail place d ≡ get_or new.trail place d = ap (λ (ls : List Lit). get_or ls place d) (sym back.trail) ∙ get_or_append_left new.trail back.rest d place within in
-      let one : IsOfLevel old old.level (get_or new.trail place d) = subst (λ (l : Lit). IsOfLevel old old.level l) same (was.present place d from (omega (arith, within, longer))) in
-      let up : IsUpTo old level (get_or new.trail place d) = back.stays (get_or new.trail place d) (Contains-get_or new.trail place d within) in
-      let equal : one.0 ≡ up.0 = cc in
-      absurd (omega (arith, one.2, up.2, below, ap (λ (x : Assigned). x.level) equal));
-  room =
-      let kept : length next.kept ≡ length (take mark graph.kept) = ap (λ (g : GraphForm). length g.kept) undone in
-      let room : next.room ≡ graph.room + (length graph.kept - mark) = ap (λ (g : GraphForm). g.room) undone in
-      let all : length graph.kept ≡ length (bounds_along kinds (take asserted old.trail)) = ap (λ (bs : List Bound). length bs) was.kept in
-      let fewer : length (bounds_along kinds (take low new.trail)) ≤ length (bounds_along kinds (take asserted old.trail)) =
-      fewer_bounds kinds new.trail back.rest old.trail asserted low back.trail (omega (arith, least)) (omega (arith, least)) in
-      let values : length new.values ≡ length old.values = ap (λ (vs : List (Option Assigned)). length vs) back.values ∙ length-map old.values (kept_to level) in
-      omega (arith, kept, room, all, fewer, values, marked, was.room, length-take mark graph.kept);
-}
-
-pub went_back : (problem : Problem) (query : Query) (engine : Engine) (solver : SolverForm) (graph : GraphForm) (asserted mark assumed level : ℕ) → IsTurning problem query engine → IsSound solver
-    → Backjumps engine.solver solver level → level < engine.solver.level → asserted ≡ min engine.asserted (length solver.trail)
-    → mark ≡ length (bounds_along (all_kinds problem query) (take asserted solver.trail))
-    → graph ≡ record engine.graph { kept = take mark engine.graph.kept; room = engine.graph.room + (length engine.graph.kept - mark) } → assumed ≡ min engine.assumed level
-    → IsTurning problem query (moved engine solver graph asserted assumed)
-went_back problem query engine solver graph asserted mark assumed level turning sound back below least marked undone lower =
-    let s : SolverForm = engine.solver in
-    let values : length solver.values ≡ length s.values = ap (λ (vs : List (Option Assigned)). length vs) back.values ∙ length-map s.values (kept_to level) in
+asserted_back kinds old new graph next asserted low mark level back below least marked undone was =
+    let less : low ≤ asserted = omega (arith, least, kept_within kinds old new graph asserted level back below was) in
     record {
-      whole = whole_moved problem query engine solver graph asserted assumed turning.whole back.clauses values
-          (record { points = ap (λ (g : GraphForm). g.points) undone ∙ turning.whole.graph.points; edges = ap (λ (g : GraphForm). g.edges) undone ∙ turning.whole.graph.edges });
+      within = omega (arith, least);
+      kept = ap (λ (g : GraphForm). g.kept) undone ∙ (ap (λ (bs : List Bound). take mark bs) was.kept ∙ (ap (λ (n : ℕ). take n (bounds_along kinds (take asserted old.trail))) marked
+          ∙ front_bounds kinds new.trail back.rest old.trail asserted low back.trail less (omega (arith, least))));
+      present = λ place d above within. absurd (omega (arith, above, within, least));
+      room =
+          let kept : length next.kept ≡ length (take mark graph.kept) = ap (λ (g : GraphForm). length g.kept) undone in
+          let room : next.room ≡ graph.room + (length graph.kept - mark) = ap (λ (g : GraphForm). g.room) undone in
+          let all : length graph.kept ≡ length (bounds_along kinds (take asserted old.trail)) = ap (λ (bs : List Bound). length bs) was.kept in
+          let fewer : length (bounds_along kinds (take low new.trail)) ≤ length (bounds_along kinds (take asserted old.trail)) =
+          fewer_bounds kinds new.trail back.rest old.trail asserted low back.trail less (omega (arith, least)) in
+          let values : length new.values ≡ length old.values = ap (λ (vs : List (Option Assigned)). length vs) back.values ∙ length-map old.values (kept_to level) in
+          omega (arith, kept, room, all, fewer, values, marked, was.room, length-take mark graph.kept);
+    }
+
+-- a mark of a level is one that the graph can be taken back to
+pub mark_within : (problem : Problem) (query : Query) (engine : Engine) (solver : SolverForm) (level : ℕ) (begun : Level) → IsTurning problem query engine → Backjumps engine.solver solver level → level < engine.solver.level
+    → begun ≡ get_or engine.levels.items level no_level → begun.bounds ≤ length engine.graph.kept
+mark_within problem query engine solver level begun turning back below is =
+    let kinds : List Kind = all_kinds problem query in
+    let s : SolverForm = engine.solver in
+    let marked : (get_or engine.levels.items level no_level).bounds ≡ length (bounds_along kinds (take (length solver.trail) solver.trail)) =
+    bounds_back kinds query.assumed s solver level (get_or engine.levels.items level no_level) turning.sound back (turning.levels.begun level below) in
+    let fewer : length (bounds_along kinds (take (length solver.trail) solver.trail)) ≤ length (bounds_along kinds (take engine.asserted s.trail)) =
+    fewer_bounds kinds solver.trail back.rest s.trail engine.asserted (length solver.trail) back.trail (kept_within kinds s solver engine.graph engine.asserted level back below turning.asserted) (omega arith) in
+    omega (arith, ap (λ (b : Level). b.bounds) is, marked, fewer, ap (λ (bs : List Bound). length bs) turning.asserted.kept)
+
+-- a level has what stood when it began
+pub begun_at : (problem : Problem) (query : Query) (engine : Engine) (level : ℕ) (begun : Level) → IsTurning problem query engine → level < engine.solver.level → begun ≡ get_or engine.levels.items level begun
+    → begun ≡ get_or engine.levels.items level no_level
+begun_at problem query engine level begun turning below is = is ∙ at_place engine.levels.items level begun no_level (omega (arith, below, turning.levels.counted))
+
+-- an engine after a backjump
+pub record IsTakenBack (old new : Engine) (level : ℕ) (begun : Level) : Type 0 where
+  pub same : HasSameLog old new
+  pub back : Backjumps old.solver new.solver level
+  pub begun_is : begun ≡ get_or old.levels.items level no_level
+  pub graph : new.graph ≡ record old.graph { kept = take begun.bounds old.graph.kept; room = old.graph.room + (length old.graph.kept - begun.bounds) }
+  pub asserted : new.asserted ≡ length new.solver.trail
+  pub assumed : new.assumed ≡ min old.assumed level
+  pub levels : new.levels.items ≡ take level old.levels.items
+  pub next : new.next ≡ begun.next
+
+pub went_back : (problem : Problem) (query : Query) (old new : Engine) (level : ℕ) (begun : Level) → IsTurning problem query old → IsSound new.solver → level < old.solver.level → IsTakenBack old new level begun → IsTurning problem query new
+went_back problem query old new level begun turning sound below taken =
+    let kinds : List Kind = all_kinds problem query in
+    let s : SolverForm = old.solver in
+    let back : Backjumps s new.solver level = taken.back in
+    let mark : ℕ = begun.bounds in
+    let marked : mark ≡ length (bounds_along kinds (take (length new.solver.trail) new.solver.trail)) =
+    ap (λ (b : Level). b.bounds) taken.begun_is ∙ bounds_back kinds query.assumed s new.solver level (get_or old.levels.items level no_level) turning.sound back (turning.levels.begun level below) in
+    let values : length new.solver.values ≡ length s.values = ap (λ (vs : List (Option Assigned)). length vs) back.values ∙ length-map s.values (kept_to level) in
+    record {
+      whole = whole_moved problem query old new taken.same turning.whole back.clauses values
+          (record { points = ap (λ (g : GraphForm). g.points) taken.graph ∙ turning.whole.graph.points; edges = ap (λ (g : GraphForm). g.edges) taken.graph ∙ turning.whole.graph.edges });
       variables = omega (arith, values, turning.variables);
       used = back.used ∙ turning.used;
       sound = sound;
       reasoned = record {
-        attached = λ v a number is reason. subst (λ (cs : List Stored). IsAttached cs number) (sym back.clauses) (turning.reasoned.attached v a number (back_was s solver level back v a is).0 reason);
-        below = λ v a is. turning.reasoned.below v a (back_was s solver level back v a is).0;
+        attached = λ v a number is reason. subst (λ (cs : List Stored). IsAttached cs number) (sym back.clauses) (turning.reasoned.attached v a number (back_was s new.solver level back v a is).0 reason);
+        below = λ v a is. turning.reasoned.below v a (back_was s new.solver level back v a is).0;
       };
-      asserted = asserted_back (all_kinds problem query) s solver engine.graph graph engine.asserted asserted mark level turning.sound back below least marked undone turning.asserted;
+      asserted = asserted_back kinds s new.solver old.graph new.graph old.asserted new.asserted mark level back below taken.asserted
+          (marked ∙ ap (λ (n : ℕ). length (bounds_along kinds (take n new.solver.trail))) (sym taken.asserted)) taken.graph turning.asserted;
       assuming = record {
-        within = omega (arith, lower, back.reached);
-        decided = λ v a is none low. turning.assuming.decided v a (back_was s solver level back v a is).0 none (omega (arith, low, lower));
+        within = omega (arith, taken.assumed, back.reached);
+        decided = λ v a is none low. turning.assuming.decided v a (back_was s new.solver level back v a is).0 none (omega (arith, low, taken.assumed));
         all_true = λ above lit among.
-            let one = turning.assuming.all_true (omega (arith, above, lower, back.reached, below)) lit among in
-            (one.0, back_stays s solver level back lit.variable one.0 one.1 (omega (arith, one.3, above, lower, back.reached)), one.2, omega (arith, one.3, above, lower, back.reached));
+            let one = turning.assuming.all_true (omega (arith, above, taken.assumed, back.reached, below)) lit among in
+            (one.0, back_stays s new.solver level back lit.variable one.0 one.1 (omega (arith, one.3, above, taken.assumed, back.reached)), one.2, omega (arith, one.3, above, taken.assumed, back.reached));
       };
+      levels = subst (λ (n : ℕ). IsLevelled kinds query.assumed new.solver new.levels.items n) (sym (taken.next ∙ ap (λ (b : Level). b.next) taken.begun_is))
+          (subst (λ (ls : List Level). IsLevelled kinds query.assumed new.solver ls (get_or old.levels.items level no_level).next) (sym taken.levels)
+          (levelled_back kinds query.assumed s new.solver old.levels.items old.next level turning.sound back below turning.levels));
+      kinds = ap (λ (t : TesterForm). t.kinds) taken.same.tester ∙ turning.kinds;
+      taught = taught_moved problem query old new taken.same turning.taught;
     }
 
 -- a literal of a false clause is of the present level, or all are below it

@@ -1,12 +1,12 @@
 -- How a turn begins and ends.
-use Rattle.std.proofs.Common.{◌≡◌, ◌≢◌, refl, sym, ◌∙◌, ap, subst, ℕ, ◌+◌, ◌-◌, ◌<◌, ◌≤◌, ◌^◌, zero, suc, Bool, true, false, cond, Option, Some, None, List, [], ◌∷◌, ◌++◌, length, get_or, map, replicate, All, inl, inr, arith}
+use Rattle.std.proofs.Common.{◌≡◌, ◌≢◌, refl, sym, ◌∙◌, ap, subst, ℕ, ◌+◌, ◌-◌, ◌*◌, ◌<◌, ◌≤◌, ◌^◌, zero, suc, Bool, true, false, cond, Option, Some, None, List, [], ◌∷◌, ◌++◌, length, get_or, map, replicate, take, All, inl, inr, arith}
 use Rattle.std.specs.Prelude.{slice_set}
 use Rattle.std.specs.List.{slice_get}
 use Rattle.std.specs.Option.{option_map}
 use Rattle.std.proofs.lemmas.Bool.{cases_lt, cases_eq, false≢true}
 use Rattle.std.proofs.lemmas.Option.{slice_get-get_or, slice_get-map, slice_get_within, get_or_from_slice_get, same_Some, none-some}
 use Rattle.std.proofs.lemmas.List.{length-append, length-replicate, length-set, length-map, get_or-map, get_or-set_same, get_or-set_other}
-use Rattle.std.proofs.lemmas.List.Elements.{All-weaker}
+use Rattle.std.proofs.lemmas.List.Elements.{All-nil, All-weaker}
 use Rattle.gp_clause.specs.declared.lit.Lit.{Lit}
 use Rattle.gp_clause.specs.declared.problem.Problem.{Problem}
 use Rattle.gp_clause.specs.declared.problem.Query.{Query}
@@ -15,16 +15,21 @@ use Rattle.gp_clause.specs.Problem.{IsValidProblem, IsValidQuery}
 use Rattle.gp_derivation.specs.declared.log.LogEntry.{LogEntry}
 use Rattle.gp_derivation.specs.Log.{LogGrows, logged}
 use Rattle.gp_derivation.specs.ListLaws.{slice_get_front, slice_get_back}
+use Rattle.gp_derivation.specs.Numbering.{size_of}
 use Rattle.gp_difference.specs.Graph.{GraphForm}
 use Rattle.gp_sat.specs.declared.assigned.Assigned.{Assigned}
 use Rattle.gp_sat.specs.Stored.{Stored}
 use Rattle.gp_sat.specs.State.{SolverForm, assigned, clause_at, no_clause, IsAttached, grown, without_clause}
 use Rattle.gp_sat.specs.Sound.{IsSound}
+use Rattle.gp_sat.specs.Looking.{IsTrueLit}
 use Rattle.gp_sat.specs.SolverLaws.{attached_within, free_at, grown_at}
 use Rattle.gp_search.specs.declared.engine.Engine.{Engine}
-use Rattle.gp_search.specs.Inside.{all_kinds, IsPlain, IsMarked, IsStored, IsKeeping, IsPassing, IsGraphOf, IsWhole, IsTurning, IsIdle, IsBlank}
+use Rattle.gp_search.specs.declared.engine.Level.{Level}
+use Rattle.gp_search.specs.Bounds.{bounds_along}
+use Rattle.gp_search.specs.Inside.{all_kinds, IsPlain, IsMarked, IsStored, IsKeeping, IsPassing, IsGraphOf, IsWhole, IsTurning, IsIdle, IsBlank, IsTesterOf}
 use Rattle.gp_search.specs.Moves.{retired, IsRetired, IsRoomy, of_clauses}
 use Rattle.gp_search.proofs.LearnedSteps.{clauses_counted, clause_got}
+use Rattle.gp_search.proofs.Taught.{taught_none}
 
 -- a solver that grows has room
 pub grown_roomy : (s : SolverForm) (variables : ℕ) → IsRoomy s (grown s variables) variables
@@ -66,42 +71,59 @@ stored_wider problem query begins log clauses old = record {
   usable = old.usable;
 }
 
--- the engine at the beginning of a turn
-abbrev pub begun : Engine → SolverForm → GraphForm → ℕ → ℕ → ℕ → Engine
-begun engine solver graph begins asserted assumed = record engine { solver = solver; graph = graph; begins = begins; asserted = asserted; assumed = assumed }
+-- an engine at the beginning of a turn
+pub record IsBegunFrom (problem : Problem) (old new : Engine) : Type 0 where
+  pub log : new.log.items ≡ old.log.items
+  pub pure : new.pure.items ≡ old.pure.items
+  pub begins : new.begins ≡ length old.log.items
+  pub learned : new.learned ≡ length old.log.items
+  pub clauses : new.solver.clauses ≡ old.solver.clauses
+  pub values : length old.solver.values ≤ length new.solver.values
+  pub graph : IsGraphOf problem new.graph
+  pub tester : IsTesterOf problem new.tester
 
-pub begun_whole : (problem : Problem) (query : Query) (engine : Engine) (solver : SolverForm) (graph : GraphForm) (begins asserted assumed : ℕ) → LogGrows → IsIdle problem engine → IsValidQuery problem query
-    → length problem.clauses + length engine.log.items + 2 < 2 ^ 32 → begins ≡ length engine.log.items → solver.clauses ≡ engine.solver.clauses → length engine.solver.values ≤ length solver.values → IsGraphOf problem graph
-    → IsWhole problem query (begun engine solver graph begins asserted assumed)
-begun_whole problem query engine solver graph begins asserted assumed grows idle asked few at_end clauses values of_problem =
-    let log : IsPassing problem query.locals engine.log.items (length engine.log.items) = record {
+pub begun_whole : (problem : Problem) (query : Query) (old new : Engine) → LogGrows → IsIdle problem old → IsValidQuery problem query
+    → length problem.clauses + 64 * (length old.log.items + 1) < 2 ^ 32 → IsBegunFrom problem old new → IsWhole problem query new
+begun_whole problem query old new grows idle asked few begun =
+    let log : List LogEntry = old.log.items in
+    let bases : ℕ = length problem.clauses in
+    let names : ℕ = length (all_kinds problem query) in
+    let passing : IsPassing problem query.locals log (length log) (length log) = record {
       began = omega arith;
-      learned = idle.log.learned;
-      passes = grows.next_turn problem [] query.locals engine.log.items (length engine.log.items) idle.log.passes;
+      within = omega arith;
+      small = idle.log.small;
+      learned = λ place entry got late. idle.log.learned place entry got late;
+      passes = grows.next_turn problem [] query.locals log (length log) idle.log.passes;
     } in
-    let stored : IsStored problem (length engine.log.items) (length (all_kinds problem query)) engine.log.items engine.solver.clauses = stored_wider problem query (length engine.log.items) engine.log.items engine.solver.clauses idle.stored in
+    let stored : IsStored problem (length log) names log old.solver.clauses = stored_wider problem query (length log) log old.solver.clauses idle.stored in
     record {
       valid = idle.valid;
       asked = asked;
-      few = omega (arith, few);
-      log = subst (λ (n : ℕ). IsPassing problem query.locals engine.log.items n) (sym at_end) log;
-      stored = subst (λ (n : ℕ). IsStored problem n (length (all_kinds problem query)) engine.log.items solver.clauses) (sym at_end)
-          (subst (λ (cs : List Stored). IsStored problem (length engine.log.items) (length (all_kinds problem query)) engine.log.items cs) (sym clauses) stored);
-      keeping = subst (λ (n : ℕ). IsKeeping (length problem.clauses) n (length engine.log.items) engine.pure.items solver.clauses) (sym at_end)
-          (subst (λ (cs : List Stored). IsKeeping (length problem.clauses) (length engine.log.items) (length engine.log.items) engine.pure.items cs) (sym clauses) idle.keeping);
-      marked = idle.marked;
-      graph = of_problem;
-      variables = omega (arith, values, idle.variables);
+      few = omega (arith, few, ap (λ (es : List LogEntry). length es) begun.log);
+      log = subst (λ (n : ℕ). IsPassing problem query.locals new.log.items new.begins n) (sym begun.learned)
+          (subst (λ (n : ℕ). IsPassing problem query.locals new.log.items n (length log)) (sym begun.begins)
+          (subst (λ (es : List LogEntry). IsPassing problem query.locals es (length log) (length log)) (sym begun.log) passing));
+      stored = subst (λ (n : ℕ). IsStored problem n names new.log.items new.solver.clauses) (sym begun.begins)
+          (subst (λ (es : List LogEntry). IsStored problem (length log) names es new.solver.clauses) (sym begun.log)
+          (subst (λ (cs : List Stored). IsStored problem (length log) names log cs) (sym begun.clauses) stored));
+      keeping = subst (λ (n : ℕ). IsKeeping bases n (length new.log.items) new.pure.items new.solver.clauses) (sym begun.begins)
+          (subst (λ (es : List LogEntry). IsKeeping bases (length log) (length es) new.pure.items new.solver.clauses) (sym begun.log)
+          (subst (λ (bs : List Bool). IsKeeping bases (length log) (length log) bs new.solver.clauses) (sym begun.pure)
+          (subst (λ (cs : List Stored). IsKeeping bases (length log) (length log) old.pure.items cs) (sym begun.clauses) idle.keeping)));
+      marked = subst (λ (es : List LogEntry). IsMarked problem es new.pure.items) (sym begun.log) (subst (λ (bs : List Bool). IsMarked problem log bs) (sym begun.pure) idle.marked);
+      graph = begun.graph;
+      tester = begun.tester;
+      variables = omega (arith, begun.values, idle.variables);
     }
 
 -- a blank solver assigns nothing
 pub blank_free : (s : SolverForm) → IsBlank s → (v : ℕ) → assigned s v ≡ None
 blank_free s blank v = ap (λ (vs : List (Option Assigned)). get_or vs v None) blank.values ∙ free_at (length s.values) v
 
-pub begun_turning : (problem : Problem) (query : Query) (engine : Engine) (solver : SolverForm) (graph : GraphForm) (begins : ℕ) → IsWhole problem query (begun engine solver graph begins 0 0) → IsSound solver
-    → ((v : ℕ) → assigned solver v ≡ None) → solver.trail ≡ [] → solver.level ≡ 0 → graph.kept ≡ [] → length solver.values ≤ graph.room → length (all_kinds problem query) ≤ length solver.values
-    → solver.used ≡ length (all_kinds problem query) → IsTurning problem query (begun engine solver graph begins 0 0)
-begun_turning problem query engine solver graph begins whole sound free trail level kept room enough used = record {
+pub begun_turning : (problem : Problem) (query : Query) (engine : Engine) → IsWhole problem query engine → IsSound engine.solver → ((v : ℕ) → assigned engine.solver v ≡ None) → engine.solver.trail ≡ [] → engine.solver.level ≡ 0
+    → engine.graph.kept ≡ [] → length engine.solver.values ≤ engine.graph.room → length (all_kinds problem query) ≤ length engine.solver.values → engine.solver.used ≡ length (all_kinds problem query)
+    → engine.asserted ≡ 0 → engine.assumed ≡ 0 → engine.next ≡ 0 → engine.levels.items ≡ [] → engine.tester.kinds ≡ all_kinds problem query → engine.learned ≡ length engine.log.items → IsTurning problem query engine
+begun_turning problem query engine whole sound free trail level kept room enough used none_asserted none_assumed none_seen none_begun kinds learned = record {
   whole = whole;
   variables = enough;
   used = used;
@@ -111,20 +133,27 @@ begun_turning problem query engine solver graph begins whole sound free trail le
     below = λ v a is. absurd (clash v a is);
   };
   asserted = record {
-    within = omega arith;
-    kept = kept;
-    present = λ place d _ within. absurd (let none : length solver.trail ≡ 0 = ap (λ (ls : List Lit). length ls) trail in omega (arith, within, none));
+    within = omega (arith, none_asserted);
+    kept = kept ∙ ap (λ (n : ℕ). bounds_along (all_kinds problem query) (take n engine.solver.trail)) (sym none_asserted);
+    present = λ place d _ within. absurd (let none : length engine.solver.trail ≡ 0 = ap (λ (ls : List Lit). length ls) trail in omega (arith, within, none));
     room = omega (arith, room);
   };
   assuming = record {
-    within = omega arith;
+    within = omega (arith, none_assumed);
     decided = λ v a is _ _. absurd (clash v a is);
     all_true = λ above. absurd (omega (arith, above, level));
   };
+  levels = record {
+    counted = ap (λ (ls : List Level). length ls) none_begun ∙ sym level;
+    begun = λ below low. absurd (omega (arith, low, level));
+    passed = subst (λ (n : ℕ). All (IsTrueLit (assigned engine.solver)) (take n query.assumed)) (sym none_seen) (All-nil (IsTrueLit (assigned engine.solver)));
+  };
+  kinds = kinds;
+  taught = taught_none problem query engine.log.items engine.begins engine.learned (omega (arith, learned));
 }
   where
-    clash : (v : ℕ) (a : Assigned) → assigned solver v ≡ Some a → ⊥
-    clash v a is = let none : assigned solver v ≡ None = free v in let wrong : ⊥ = cc in wrong
+    clash : (v : ℕ) (a : Assigned) → assigned engine.solver v ≡ Some a → ⊥
+    clash v a is = let none : assigned engine.solver v ≡ None = free v in let wrong : ⊥ = cc in wrong
 
 -- detaching changes no literals
 detached_lits : (clauses : List Stored) (number : ℕ) → map (λ (stored : Stored). stored.clause) (slice_set clauses number (record { clause = clause_at clauses number; attached = false })) ≡ map (λ (stored : Stored). stored.clause) clauses
@@ -189,7 +218,7 @@ retired_more bases begins place marks old now next from is done = subst (λ (s :
     at false mark = without_mark mark
 
 -- the clause of an entry has the number of its place after those of the problem
-entry_clause : (problem : Problem) (log : List LogEntry) (clauses : List Stored) (other : ℕ) (d : LogEntry) → map (λ (stored : Stored). stored.clause) clauses ≡ logged problem log → other < length log
+pub entry_clause : (problem : Problem) (log : List LogEntry) (clauses : List Stored) (other : ℕ) (d : LogEntry) → map (λ (stored : Stored). stored.clause) clauses ≡ logged problem log → other < length log
     → clause_at clauses (length problem.clauses + other) ≡ (get_or log other d).step.clause
 entry_clause problem log clauses other d same within =
     let number : ℕ = length problem.clauses + other in
@@ -228,7 +257,8 @@ plain_named problem log clauses other entry same got plain =
     entry_clause problem log clauses other entry same within ∙ ap (λ (e : LogEntry). e.step.clause) (get_or_from_slice_get log other entry entry got) in
     subst P (sym clause) (plain.below entry got)
 
-some_entry : (log : List LogEntry) (other : ℕ) → other < length log → (entry : LogEntry) × (slice_get log other ≡ Some entry)
+-- each place of a log has an entry
+pub some_entry : (log : List LogEntry) (other : ℕ) → other < length log → (entry : LogEntry) × (slice_get log other ≡ Some entry)
 some_entry [] other within = absurd (omega arith)
 some_entry (entry ∷ log) zero within = (entry, refl)
 some_entry (entry ∷ log) (suc other) within = some_entry log other (omega arith)
@@ -242,7 +272,13 @@ finished problem query engine solver graph grows whole done undone =
     let lits : map (λ (stored : Stored). stored.clause) solver.clauses ≡ logged problem log = done.lits ∙ whole.stored.lits in
     record {
       valid = whole.valid;
-      log = record { began = omega arith; learned = whole.log.learned; passes = grows.next_turn problem query.locals [] log engine.begins whole.log.passes };
+      log = record {
+        began = omega arith;
+        within = omega arith;
+        small = whole.log.small;
+        learned = λ place entry got late. absurd (omega (arith, slice_get_within log place entry got, late));
+        passes = grows.next_turn problem query.locals [] log engine.begins whole.log.passes;
+      };
       stored = record {
         lits = lits;
         base = λ number within. done.base number within (whole.stored.base number within);
@@ -262,6 +298,7 @@ finished problem query engine solver graph grows whole done undone =
       };
       marked = whole.marked;
       graph = record { points = ap (λ (g : GraphForm). g.points) undone ∙ whole.graph.points; edges = ap (λ (g : GraphForm). g.edges) undone ∙ whole.graph.edges };
+      tester = whole.tester;
       variables = omega (arith, done.variables, whole.variables);
       blank = done.blank;
       kept = ap (λ (g : GraphForm). g.kept) undone;
@@ -301,8 +338,12 @@ same_more old now next solver first second = λ i. record {
   log = (ap (λ (e : Engine). e.log) second ∙ ap (λ (e : Engine). e.log) first) i;
   pure = (ap (λ (e : Engine). e.pure) second ∙ ap (λ (e : Engine). e.pure) first) i;
   begins = (ap (λ (e : Engine). e.begins) second ∙ ap (λ (e : Engine). e.begins) first) i;
+  learned = (ap (λ (e : Engine). e.learned) second ∙ ap (λ (e : Engine). e.learned) first) i;
   asserted = (ap (λ (e : Engine). e.asserted) second ∙ ap (λ (e : Engine). e.asserted) first) i;
   assumed = (ap (λ (e : Engine). e.assumed) second ∙ ap (λ (e : Engine). e.assumed) first) i;
+  next = (ap (λ (e : Engine). e.next) second ∙ ap (λ (e : Engine). e.next) first) i;
+  levels = (ap (λ (e : Engine). e.levels) second ∙ ap (λ (e : Engine). e.levels) first) i;
+  tester = (ap (λ (e : Engine). e.tester) second ∙ ap (λ (e : Engine). e.tester) first) i;
 }
 
 pub undone_more : (old : GraphForm) (now next : Engine) (solver : SolverForm) → now.graph ≡ record old { kept = []; room = now.graph.room } → next ≡ record now { solver = solver } → next.graph ≡ record old { kept = []; room = next.graph.room }
@@ -333,10 +374,10 @@ names_all clauses number names all is =
 
 -- a new engine is idle
 pub new_idle : (problem : Problem) (engine : Engine) → IsValidProblem problem → engine.log.items ≡ [] → engine.pure.items ≡ [] → engine.solver ≡ of_clauses (length problem.kinds) problem.clauses → IsGraphOf problem engine.graph → engine.graph.kept ≡ []
-    → IsIdle problem engine
-new_idle problem engine valid log pure solver graph kept = record {
+    → IsTesterOf problem engine.tester → IsIdle problem engine
+new_idle problem engine valid log pure solver graph kept tester = record {
   valid = valid;
-  log = subst (λ (es : List LogEntry). IsPassing problem [] es (length es)) (sym log) empty_passing;
+  log = subst (λ (es : List LogEntry). IsPassing problem [] es (length es) (length es)) (sym log) empty_passing;
   stored = subst (λ (es : List LogEntry). IsStored problem (length es) (length problem.kinds) es engine.solver.clauses) (sym log)
       (subst (λ (s : SolverForm). IsStored problem 0 (length problem.kinds) [] s.clauses) (sym solver) base_stored);
   keeping = record {
@@ -345,15 +386,18 @@ new_idle problem engine valid log pure solver graph kept = record {
   };
   marked = subst (λ (es : List LogEntry). IsMarked problem es engine.pure.items) (sym log) (subst (λ (bs : List Bool). IsMarked problem [] bs) (sym pure) (record { size = refl; plain = λ place is. absurd (false≢true is) }));
   graph = graph;
+  tester = tester;
   variables = omega (arith, ap (λ (s : SolverForm). length s.values) solver, length-replicate {A = Option Assigned} (length problem.kinds) None);
   blank = subst IsBlank (sym solver) (record { values = ap (λ (n : ℕ). replicate n None) (sym (length-replicate {A = Option Assigned} (length problem.kinds) None)); trail = refl; level = refl });
   kept = kept;
 }
   where
-    empty_passing : IsPassing problem [] [] 0
+    empty_passing : IsPassing problem [] [] 0 0
     empty_passing = record {
       began = omega arith;
-      learned = λ k d within. absurd (omega (arith, within));
+      within = omega arith;
+      small = All-nil (λ (entry : LogEntry). size_of entry ≤ 64);
+      learned = λ place entry got _. absurd (none-some entry got);
       passes = record { earlier = λ place entry got _. absurd (none-some entry got); current = λ place entry got _. absurd (none-some entry got) };
     }
 

@@ -1,14 +1,18 @@
 -- What a search keeps true of its state.
-use Rattle.std.specs.Prelude.{◌≡◌, ℕ, ◌+◌, ◌^◌, ◌<◌, ◌≤◌, ◌⊎◌, Bool, true, false, not, Option, Some, None, List, [], ◌∷◌, ◌++◌, length, map, replicate, take, All, Contains, slice_get, slice_index_or}
+use Rattle.std.specs.Prelude.{◌≡◌, ℕ, ◌+◌, ◌*◌, ◌^◌, ◌<◌, ◌≤◌, ◌⊎◌, Bool, true, false, not, Option, Some, None, List, [], ◌∷◌, ◌++◌, length, map, replicate, take, All, Contains, slice_get, slice_index_or}
 use Rattle.gp_clause.specs.declared.kind.Kind.{Kind}
 use Rattle.gp_clause.specs.declared.lit.Lit.{Lit}
 use Rattle.gp_clause.specs.declared.problem.Problem.{Problem}
 use Rattle.gp_clause.specs.declared.problem.Query.{Query}
-use Rattle.gp_clause.specs.Clause.{NamesBelow}
+use Rattle.gp_clause.specs.Clause.{NamesBelow, IsRising}
 use Rattle.gp_clause.specs.Problem.{IsValidProblem, IsValidQuery}
 use Rattle.gp_derivation.specs.declared.log.LogEntry.{LogEntry}
+use Rattle.gp_derivation.specs.declared.record.Turn.{Turn}
 use Rattle.gp_derivation.specs.Log.{IsLearned, IsPure, LogPasses, logged}
+use Rattle.gp_derivation.specs.Numbering.{size_of}
+use Rattle.gp_derivation.specs.Spent.{LearnsWhatIsNew, LearnsWhatIsTight}
 use Rattle.gp_derivation.specs.Step.{Passes}
+use Rattle.gp_derivation.specs.Tester.{TesterForm}
 use Rattle.gp_difference.specs.Graph.{GraphForm}
 use Rattle.gp_sat.specs.declared.assigned.Assigned.{Assigned}
 use Rattle.gp_sat.specs.Stored.{Stored}
@@ -16,7 +20,9 @@ use Rattle.gp_sat.specs.State.{SolverForm, assigned, clause_at, IsAttached}
 use Rattle.gp_sat.specs.Standing.{IsFalse, IsClosed, Each}
 use Rattle.gp_sat.specs.Sound.{IsSound, true_lit}
 use Rattle.gp_sat.specs.Changes.{HasPresent, IsOfLevel}
+use Rattle.gp_sat.specs.Looking.{IsTrueLit}
 use Rattle.gp_search.specs.declared.engine.Engine.{Engine}
+use Rattle.gp_search.specs.declared.engine.Level.{Level}
 use Rattle.gp_search.specs.Bounds.{bounds_along}
 
 -- the kinds of all variables of a problem and a query
@@ -46,10 +52,13 @@ pub record IsKeeping (bases begins logged : ℕ) (marks : List Bool) (clauses : 
   pub current : (place : ℕ) → begins ≤ place → place < logged → IsAttached clauses (bases + place)
   pub marked : (place : ℕ) → slice_index_or marks place false ≡ true → IsAttached clauses (bases + place)
 
--- all entries of a log were learned, and pass in a turn that begins at a place
-pub record IsPassing (problem : Problem) (locals : List Kind) (log : List LogEntry) (begins : ℕ) : Type 0 where
-  pub began : begins ≤ length log
-  pub learned : All (λ (entry : LogEntry). IsLearned entry.origin) log
+-- all entries of a log pass in a turn that begins at a place, each stands for 64 steps at most, and those from another
+-- place on were learned
+pub record IsPassing (problem : Problem) (locals : List Kind) (log : List LogEntry) (begins from : ℕ) : Type 0 where
+  pub began : begins ≤ from
+  pub within : from ≤ length log
+  pub small : All (λ (entry : LogEntry). size_of entry ≤ 64) log
+  pub learned : (place : ℕ) (entry : LogEntry) → slice_get log place ≡ Some entry → from ≤ place → IsLearned entry.origin
   pub passes : LogPasses problem locals log begins
 
 -- a graph has the points and the edges of a problem
@@ -57,16 +66,23 @@ pub record IsGraphOf (problem : Problem) (graph : GraphForm) : Type 0 where
   pub points : graph.points ≡ problem.points
   pub edges : graph.edges ≡ problem.edges
 
+-- a tester has the points, the edges and the kinds of a problem
+pub record IsTesterOf (problem : Problem) (tester : TesterForm) : Type 0 where
+  pub points : tester.points ≡ problem.points
+  pub edges : tester.edges ≡ problem.edges
+  pub lasting : tester.lasting ≡ problem.kinds
+
 -- what holds of a problem, a query and an engine at every moment of a turn
 pub record IsWhole (problem : Problem) (query : Query) (engine : Engine) : Type 0 where
   pub valid : IsValidProblem problem
   pub asked : IsValidQuery problem query
-  pub few : length problem.clauses + length engine.log.items + 1 < 2 ^ 32
-  pub log : IsPassing problem query.locals engine.log.items engine.begins
+  pub few : length problem.clauses + 64 * (length engine.log.items + 1) < 2 ^ 32
+  pub log : IsPassing problem query.locals engine.log.items engine.begins engine.learned
   pub stored : IsStored problem engine.begins (length (all_kinds problem query)) engine.log.items engine.solver.clauses
   pub keeping : IsKeeping (length problem.clauses) engine.begins (length engine.log.items) engine.pure.items engine.solver.clauses
   pub marked : IsMarked problem engine.log.items engine.pure.items
   pub graph : IsGraphOf problem engine.graph
+  pub tester : IsTesterOf problem engine.tester
   pub variables : length problem.kinds ≤ length engine.solver.values
 
 -- the reasons of assignments are attached, and only variables below the number are assigned
@@ -92,15 +108,52 @@ pub record IsAssuming (assumed : List Lit) (s : SolverForm) (level : ℕ) : Type
   pub decided : (variable : ℕ) (a : Assigned) → assigned s variable ≡ Some a → a.reason ≡ None → a.level ≤ level → Contains assumed (true_lit variable a)
   pub all_true : level < s.level → Each (IsTrueTo s level) assumed
 
+-- a level began at a place of the trail: what was assigned before it is of the levels up to another one, and the rest is
+-- of higher ones
+pub record IsStart (s : SolverForm) (below start : ℕ) : Type 0 where
+  pub within : start ≤ length s.trail
+  pub before : (variable : ℕ) (a : Assigned) → assigned s variable ≡ Some a → a.place < start → a.level ≤ below
+  pub after : (variable : ℕ) (a : Assigned) → assigned s variable ≡ Some a → start ≤ a.place → below < a.level
+
+-- what stood when the level after one began: so many bounds up to there, and assumptions that are true up to that level
+pub record IsBegun (kinds : List Kind) (assumed : List Lit) (s : SolverForm) (below : ℕ) (begun : Level) : Type 0 where
+  pub start : ℕ
+  pub split : IsStart s below start
+  pub bounds : begun.bounds ≡ length (bounds_along kinds (take start s.trail))
+  pub holds : All (IsTrueTo s below) (take begun.next assumed)
+
+-- what stands for no level
+abbrev pub no_level : Level
+no_level = record { bounds = 0; next = 0 }
+
+-- each level up to the present one has what stood when it began, and all assumptions before a place are true
+pub record IsLevelled (kinds : List Kind) (assumed : List Lit) (s : SolverForm) (levels : List Level) (next : ℕ) : Type 0 where
+  pub counted : length levels ≡ s.level
+  pub begun : (below : ℕ) → below < s.level → IsBegun kinds assumed s below (slice_index_or levels below no_level)
+  pub passed : All (IsTrueLit (assigned s)) (take next assumed)
+
+-- a turn whose ticket does not matter
+abbrev pub turn_from : ℕ → ℕ → ℕ → Turn
+turn_from begins learned ends = record { ticket = 0; begins = begins; learned = learned; ends = ends }
+
+-- the clause of each entry that a turn learned rises by variable, is new by one of its literals, and is tight
+pub record IsTaught (problem : Problem) (query : Query) (log : List LogEntry) (turn : Turn) : Type 0 where
+  pub rising : (place : ℕ) (entry : LogEntry) → slice_get log place ≡ Some entry → turn.learned ≤ place → IsRising entry.step.clause
+  pub news : LearnsWhatIsNew problem query log turn
+  pub tight : LearnsWhatIsTight problem query log turn
+
 -- what holds of an engine between the steps of a turn, which decides the variables of the problem and the query alone
 pub record IsTurning (problem : Problem) (query : Query) (engine : Engine) : Type 0 where
   pub whole : IsWhole problem query engine
   pub variables : length (all_kinds problem query) ≤ length engine.solver.values
   pub used : engine.solver.used ≡ length (all_kinds problem query)
+  pub kinds : engine.tester.kinds ≡ all_kinds problem query
   pub sound : IsSound engine.solver
   pub reasoned : IsReasoned (length (all_kinds problem query)) engine.solver
   pub asserted : IsAsserted (all_kinds problem query) engine.solver engine.graph engine.asserted
   pub assuming : IsAssuming query.assumed engine.solver engine.assumed
+  pub levels : IsLevelled (all_kinds problem query) query.assumed engine.solver engine.levels.items engine.next
+  pub taught : IsTaught problem query engine.log.items (turn_from engine.begins engine.learned (length engine.log.items))
 
 -- no variable of a solver is assigned
 pub record IsBlank (s : SolverForm) : Type 0 where
@@ -111,11 +164,12 @@ pub record IsBlank (s : SolverForm) : Type 0 where
 -- what holds of a problem and an engine between turns
 pub record IsIdle (problem : Problem) (engine : Engine) : Type 0 where
   pub valid : IsValidProblem problem
-  pub log : IsPassing problem [] engine.log.items (length engine.log.items)
+  pub log : IsPassing problem [] engine.log.items (length engine.log.items) (length engine.log.items)
   pub stored : IsStored problem (length engine.log.items) (length problem.kinds) engine.log.items engine.solver.clauses
   pub keeping : IsKeeping (length problem.clauses) (length engine.log.items) (length engine.log.items) engine.pure.items engine.solver.clauses
   pub marked : IsMarked problem engine.log.items engine.pure.items
   pub graph : IsGraphOf problem engine.graph
+  pub tester : IsTesterOf problem engine.tester
   pub variables : length problem.kinds ≤ length engine.solver.values
   pub blank : IsBlank engine.solver
   pub kept : engine.graph.kept ≡ []

@@ -1,5 +1,5 @@
 -- What the calls of an engine change, and what they find.
-use Rattle.std.specs.Prelude.{◌≡◌, ℕ, ◌+◌, ◌-◌, ◌<◌, ◌≤◌, Bool, true, false, if◌then◌else◌, nat_lt, Option, Some, None, List, [], ◌∷◌, ◌++◌, length, map, replicate, Contains, slice_index_or}
+use Rattle.std.specs.Prelude.{◌≡◌, ℕ, ◌+◌, ◌-◌, ◌<◌, ◌≤◌, ◌⊎◌, Bool, true, false, if◌then◌else◌, nat_lt, Option, Some, None, List, [], ◌∷◌, ◌++◌, length, map, replicate, Contains, slice_index_or}
 use Rattle.gp_clause.specs.declared.lit.Lit.{Lit}
 use Rattle.gp_clause.specs.declared.problem.Problem.{Problem}
 use Rattle.gp_clause.specs.declared.problem.Query.{Query}
@@ -8,7 +8,10 @@ use Rattle.gp_clause.specs.Valuation.{Meets}
 use Rattle.gp_derivation.specs.declared.log.LogEntry.{LogEntry}
 use Rattle.gp_derivation.specs.declared.step.Step.{Step}
 use Rattle.gp_derivation.specs.Certificate.{Refutes}
-use Rattle.gp_derivation.specs.Log.{LearnedPasses}
+use Rattle.gp_derivation.specs.Log.{LearnedPasses, logged}
+use Rattle.gp_derivation.specs.Spent.{IsNewBy, turned}
+use Rattle.gp_derivation.specs.Step.{named}
+use Rattle.gp_derivation.specs.Tight.{IsTight}
 use Rattle.gp_difference.specs.declared.fault.Asserted.{Asserted}
 use Rattle.gp_difference.specs.declared.fault.Asserted.TheVariants.{Kept, Cycle}
 use Rattle.gp_sat.specs.declared.assigned.Assigned.{Assigned}
@@ -16,7 +19,7 @@ use Rattle.gp_sat.specs.Stored.{Stored}
 use Rattle.gp_queue.specs.Order.{numbers_between, moved_to_front}
 use Rattle.gp_sat.specs.State.{SolverForm, assigned, IsAttached, without_clause, with_literal}
 use Rattle.gp_sat.specs.Standing.{IsFalse, Each}
-use Rattle.gp_sat.specs.Changes.{Backjumps}
+use Rattle.gp_sat.specs.Changes.{Backjumps, IsOfLevel}
 use Rattle.gp_sat.specs.Deciding.{IsNextFree}
 use Rattle.gp_sat.specs.Learning.{HasOnePresent, IsHighestBelow}
 use Rattle.gp_sat.specs.Looking.{IsTrueLit}
@@ -25,13 +28,24 @@ use Rattle.gp_search.specs.declared.turn.Descent.{Descent}
 use Rattle.gp_search.specs.declared.turn.Descent.TheVariants.{Verdict as Ended, Conflict as Stuck}
 use Rattle.gp_search.specs.declared.verdict.Verdict.{Verdict}
 use Rattle.gp_search.specs.declared.verdict.Verdict.TheVariants.{Model, Refuted, Spent}
-use Rattle.gp_search.specs.Inside.{IsConflict, IsBlank, false_lit}
+use Rattle.gp_search.specs.Inside.{all_kinds, turn_from, IsConflict, IsBlank, false_lit}
 
--- the log and its marks, the beginning of the turn and the number of variables stay
+-- the log, the places where the turn begins and begins to learn, and the number of variables stay
 pub record KeepsLog (old new : Engine) : Type 0 where
   pub log : new.log.items ≡ old.log.items
   pub begins : new.begins ≡ old.begins
+  pub learned : new.learned ≡ old.learned
   pub variables : length new.solver.values ≡ length old.solver.values
+
+-- only the place of the next assumption changes
+abbrev pub MovesNext : Engine → Engine → Type 0
+MovesNext old new = new ≡ record old { next = new.next }
+
+-- a literal was decided, which began a level: the bounds of the graph and the place of the next assumption were noted
+pub record BeginsLevel (old new : Engine) (lit : Lit) : Type 0 where
+  pub same : new ≡ record old { solver = new.solver; levels = new.levels }
+  pub solver : new.solver ≡ with_literal old.solver lit (old.solver.level + 1) None
+  pub levels : new.levels.items ≡ old.levels.items ++ record { bounds = length old.graph.kept; next = old.next } ∷ []
 
 -- the log stays, and the trail is as long or longer
 pub record GoesOn (old new : Engine) : Type 0 where
@@ -57,12 +71,36 @@ abbrev pub with_number : List ℕ → Option ℕ → List ℕ
 with_number hints None = hints
 with_number hints (Some number) = hints ++ number ∷ []
 
--- a step that may be logged, all of whose literals are false and just one of the present level, and the level at which it
--- asserts that one
-pub record IsLearnedStep (problem : Problem) (query : Query) (engine : Engine) (step : Step) (level : ℕ) : Type 0 where
+-- a step may be learned at the end of a log in a turn that begins at a place: it passes, is new by a literal, and is tight
+pub record IsLesson (problem : Problem) (query : Query) (log : List LogEntry) (begins : ℕ) (step : Step) : Type 0 where
+  pub passes : LearnedPasses problem query.locals log begins (length log) step
+  pub lit : Lit
+  pub is_new : IsNewBy problem query (turned problem log (turn_from begins (length log) (length log)) (length log)) step.clause lit
+  pub tight : IsTight problem.edges (all_kinds problem query) (named (logged problem log) step.hints) step.clause
+
+-- a step that a conflict gave passes at the end of the log, what its hints name is attached, and its literals are false,
+-- just one of them at the present level
+pub record IsStudied (problem : Problem) (query : Query) (engine : Engine) (step : Step) : Type 0 where
   pub passes : LearnedPasses problem query.locals engine.log.items engine.begins (length engine.log.items) step
+  pub attached : (hint : ℕ) → Contains step.hints hint → IsAttached engine.solver.clauses hint
   pub all_false : Each (IsFalse (assigned engine.solver)) step.clause
   pub point : HasOnePresent engine.solver step.clause
+
+-- of two levels the higher one is that of a literal, where that is below the present level
+pub record IsHigher (s : SolverForm) (lit : Lit) (level higher : ℕ) : Type 0 where
+  pub least : level ≤ higher
+  pub own : (a : Assigned) → assigned s lit.variable ≡ Some a → a.level < s.level → a.level ≤ higher
+  pub reached : (higher ≡ level) ⊎ (IsOfLevel s higher lit × (higher < s.level))
+
+-- a step may be learned, all its literals are false, and just one is of the present level
+pub record IsTightened (problem : Problem) (query : Query) (engine : Engine) (step : Step) : Type 0 where
+  pub lesson : IsLesson problem query engine.log.items engine.begins step
+  pub all_false : Each (IsFalse (assigned engine.solver)) step.clause
+  pub point : HasOnePresent engine.solver step.clause
+
+-- such a step, and the level at which it asserts the one literal of the present level
+pub record IsLearnedStep (problem : Problem) (query : Query) (engine : Engine) (step : Step) (level : ℕ) : Type 0 where
+  pub tightened : IsTightened problem query engine step
   pub highest : IsHighestBelow engine.solver step.clause level
   pub below : level < engine.solver.level
 
@@ -81,6 +119,7 @@ pub record LearnsOne (old new : Engine) : Type 0 where
   pub entry : LogEntry
   pub log : new.log.items ≡ old.log.items ++ entry ∷ []
   pub begins : new.begins ≡ old.begins
+  pub learned : new.learned ≡ old.learned
   pub order : new.solver.order ≡ raised entry.step.clause old.solver.order
 
 -- whether a hint names a base clause or an entry with a mark
@@ -115,9 +154,9 @@ pub record IsTruthOf (s : SolverForm) (names : ℕ) (truth : List Bool) : Type 0
   pub same : (variable : ℕ) → variable < names → slice_index_or truth variable false ≡ is_true (assigned s variable)
 
 -- the trail has one literal more, for which there was room
-pub record GoesFurther (old new : Engine) : Type 0 where
-  pub longer : length new.solver.trail ≡ length old.solver.trail + 1
-  pub room : length old.solver.trail < length old.solver.values
+pub record GoesFurther (old new : SolverForm) : Type 0 where
+  pub longer : length new.trail ≡ length old.trail + 1
+  pub room : length old.trail < length old.values
 
 -- the first unassigned variable in the order of decisions was decided
 pub record DecidesNext (old new : SolverForm) : Type 0 where

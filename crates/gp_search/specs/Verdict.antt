@@ -9,7 +9,7 @@ use Rattle.gp_derivation.specs.declared.log.LogEntry.{LogEntry}
 use Rattle.gp_derivation.specs.declared.record.Turn.{Turn}
 use Rattle.gp_derivation.specs.Certificate.{Refutes}
 use Rattle.gp_derivation.specs.Log.{IsLearned, LogPasses}
-use Rattle.gp_derivation.specs.Spent.{IsSpent}
+use Rattle.gp_derivation.specs.Spent.{IsSpentOn}
 use Rattle.gp_search.specs.declared.verdict.Verdict.{Verdict}
 use Rattle.gp_search.specs.declared.verdict.Verdict.TheVariants.{Model, Refuted, Spent}
 
@@ -47,10 +47,20 @@ pub record IsUsedUp (problem : Problem) (query : Query) (budget : ℕ) (old new 
   pub from_old : from ≡ length old
   pub to_new : to ≡ length new
   pub counted : to ≡ from + budget
-  pub spent : (ticket : ℕ) → IsSpent problem query new budget (turn_of ticket from to)
+  pub spent : (ticket : ℕ) → IsSpentOn problem query new budget (turn_of ticket from to) from to
 
 -- what each verdict says of the problem, the query and the log
 abbrev pub IsDue : Problem → Query → ℕ → List LogEntry → List LogEntry → Verdict → Type 0
 IsDue problem query budget old new (Model valuation) = Meets problem query valuation
 IsDue problem query budget old new (Refuted certificate) = Refutes problem query certificate
 IsDue problem query budget old new (Spent from to) = IsUsedUp problem query budget old new from to
+
+-- a verdict is a model or a certificate
+abbrev pub IsConclusive : Verdict → Type 0
+IsConclusive (Model valuation) = Unit {0}
+IsConclusive (Refuted certificate) = Unit {0}
+IsConclusive (Spent from to) = ⊥
+
+-- a verdict is conclusive where the budget is 3 to the number of variables or more
+abbrev pub ConcludesInTime : Problem → Query → ℕ → Verdict → Type 0
+ConcludesInTime problem query budget verdict = 3 ^ (length problem.kinds + length query.locals) ≤ budget → IsConclusive verdict

@@ -4,30 +4,33 @@ ghost use Rattle.gp_clause.specs.Valuation.{Meets};
 ghost use Rattle.gp_derivation.specs.Certificate.{Refutes};
 ghost use Rattle.gp_derivation.specs.Log.{LearnedPasses};
 ghost use Rattle.gp_sat.specs.State.{assigned};
-ghost use Rattle.gp_sat.specs.Standing.{IsFalse};
+ghost use Rattle.gp_sat.specs.Learning.{IsFinal};
+ghost use Rattle.gp_sat.specs.Standing.{IsFalse, Each};
 ghost use Rattle.gp_search.specs.Inside.{IsTurning, IsConflict, IsSettled, all_kinds};
 ghost use Rattle.gp_search.specs.Moves.{IsAllAssigned, IsAllTrue, IsTruthOf};
 
 use crate::engine::{Conflict, Engine};
-use crate::learning::add_number;
+use crate::lesson::add_number;
 use gp_clause::{Clause, Lit, Problem, Query, Row, Valuation, true_or_false};
 use gp_derivation::{Certificate, Step, cone, cone_checks};
+use gp_sat::Learned;
 use std::alloc::AllocError;
 
 impl Engine {
     // The certificate of a conflict while every decision is an assumption.
     pub(crate) fn refute(
-        &self,
+        &mut self,
         problem: &Problem,
         query: &Query,
         conflict: &Conflict,
     ) -> Result<Certificate, AllocError>
-        requires turning { IsTurning problem.now query.now self.now }
-        requires conflict { IsConflict problem.now query.now self.now.solver conflict.now.lits.items conflict.now.number }
-        requires low { self.now.solver.level ≤ self.now.assumed }
-        ensures { IfOk result (Refutes problem.now query.now) }
+        requires turning { IsTurning problem.now query.now self.old }
+        requires conflict { IsConflict problem.now query.now self.old.solver conflict.now.lits.items conflict.now.number }
+        requires low { self.old.solver.level ≤ self.old.assumed }
+        ensures same { self.new ≡ self.old }
+        ensures refutes { IfOk result (Refutes problem.now query.now) }
     {
-        let learned = self.solver.analyse_final(conflict.lits.as_slice())?;
+        let learned = self.analyse_final(conflict.lits.as_slice())?;
         let step = Step {
             clause: learned.clause,
             hints: add_number(learned.hints, conflict.number)?,
@@ -37,18 +40,19 @@ impl Engine {
 
     // The certificate of an assumption that is false while every decision is an assumption.
     pub(crate) fn refute_assumption(
-        &self,
+        &mut self,
         problem: &Problem,
         query: &Query,
         lit: Lit,
     ) -> Result<Certificate, AllocError>
-        requires turning { IsTurning problem.now query.now self.now }
+        requires turning { IsTurning problem.now query.now self.old }
         requires assumed { Contains query.now.assumed lit }
-        requires fell { IsFalse (assigned self.now.solver) lit }
-        requires low { self.now.solver.level ≤ self.now.assumed }
-        ensures { IfOk result (Refutes problem.now query.now) }
+        requires fell { IsFalse (assigned self.old.solver) lit }
+        requires low { self.old.solver.level ≤ self.old.assumed }
+        ensures same { self.new ≡ self.old }
+        ensures refutes { IfOk result (Refutes problem.now query.now) }
     {
-        let learned = self.solver.analyse_final(&[lit])?;
+        let learned = self.analyse_final(&[lit])?;
         let mut lits = learned.clause.into_vec();
         lits.push(lit.negated())?;
         let step = Step {
@@ -56,6 +60,15 @@ impl Engine {
             hints: learned.hints,
         };
         self.certify(problem, query, &step)
+    }
+
+    // The negated decisions that a conflict rests on.
+    fn analyse_final(&mut self, conflict: &[Lit]) -> Result<Learned, AllocError>
+        requires { Each (IsFalse (assigned self.old.solver)) conflict.now }
+        ensures same { self.new ≡ self.old }
+        ensures learned { IfOk result (IsFinal self.old.solver conflict.now) }
+    {
+        self.solver.analyse_final(conflict)
     }
 
     // The cone of a step that has negated assumptions alone.

@@ -1,12 +1,14 @@
-ghost use Rattle.std.specs.Prelude.{◌≡◌, ◌+◌, ◌<◌, ◌≤◌, length, IfOk, OnOk, MatchOption, None, Contains, IsTrue, ◌↔◌};
+ghost use Rattle.std.specs.Prelude.{◌≡◌, ◌+◌, ◌<◌, ◌≤◌, length, IfOk, OnOk, OnErr, MatchOption, None, Contains, IsTrue, ◌↔◌};
 ghost use Rattle.gp_sat.specs.State.{assigned};
 ghost use Rattle.gp_sat.specs.Deciding.{IsNextFree, IsFull};
 ghost use Rattle.gp_sat.specs.Looking.{IsTrueLit};
+ghost use Rattle.gp_sat.specs.Sound.{IsSound};
+ghost use Rattle.gp_sat.specs.Standing.{IsClosed};
 ghost use Rattle.gp_search.specs.Inside.{IsTurning, IsSettled, all_kinds};
-ghost use Rattle.gp_search.specs.Moves.{IsAllTrue, IsOpen, KeepsLog, IsFound, GoesFurther, DecidesNext};
+ghost use Rattle.gp_search.specs.Moves.{IsAllTrue, IsOpen, KeepsLog, IsFound, GoesFurther, DecidesNext, MovesNext, BeginsLevel};
 
 use crate::bounds::phase;
-use crate::engine::Engine;
+use crate::engine::{Engine, Level};
 use crate::verdict::Verdict;
 use gp_clause::{Lit, Problem, Query};
 use std::alloc::AllocError;
@@ -23,7 +25,7 @@ impl Engine {
         requires settled { IsSettled self.old }
         ensures turning { IsTurning problem.now query.now self.new }
         ensures same { KeepsLog self.old self.new }
-        ensures found { IfOk result (λ found. MatchOption found (GoesFurther self.old self.new) (IsFound problem.now query.now)) }
+        ensures found { IfOk result (λ found. MatchOption found (GoesFurther self.old.solver self.new.solver) (IsFound problem.now query.now)) }
     {
         match self.open_assumption(problem, query) {
             Some(lit) => self.assume(problem, query, lit),
@@ -31,18 +33,20 @@ impl Engine {
         }
     }
 
-    // The first assumption that is not true. Above the levels of the assumptions all are true.
-    fn open_assumption(&self, problem: &Problem, query: &Query) -> Option<Lit>
-        requires { IsTurning problem.now query.now self.now }
-        ensures { MatchOption result (IsAllTrue query.now.assumed self.now.solver) (IsOpen query.now.assumed self.now.solver) }
+    // The first assumption that is not true. It looks at those alone that were not seen to be true.
+    fn open_assumption(&mut self, problem: &Problem, query: &Query) -> Option<Lit>
+        requires { IsTurning problem.now query.now self.old }
+        ensures turning { IsTurning problem.now query.now self.new }
+        ensures same { MovesNext self.old self.new }
+        ensures open { MatchOption result (IsAllTrue query.now.assumed self.new.solver) (IsOpen query.now.assumed self.new.solver) }
     {
-        if self.assumed < self.solver.level() {
-            return None;
-        }
-        for lit in query.assumed.as_slice() {
-            if !self.is_true(*lit) {
-                return Some(*lit);
+        let assumed = query.assumed.as_slice();
+        while self.next < assumed.len() {
+            let lit = assumed[self.next];
+            if !self.is_true(lit) {
+                return Some(lit);
             }
+            self.next += 1;
         }
         None
     }
@@ -70,15 +74,34 @@ impl Engine {
         requires next { IsOpen query.now.assumed self.old.solver lit }
         ensures turning { IsTurning problem.now query.now self.new }
         ensures same { KeepsLog self.old self.new }
-        ensures found { IfOk result (λ found. MatchOption found (GoesFurther self.old self.new) (IsFound problem.now query.now)) }
+        ensures found { IfOk result (λ found. MatchOption found (GoesFurther self.old.solver self.new.solver) (IsFound problem.now query.now)) }
     {
         if self.solver.value(lit.variable).is_some() {
             let certificate = self.refute_assumption(problem, query, lit)?;
             return Ok(Some(Verdict::Refuted(certificate)));
         }
-        self.solver.decide(lit);
+        self.begin_level(problem, query, lit)?;
         self.assumed = self.solver.level();
         Ok(None)
+    }
+
+    // Decides a literal, on a trail all bounds of which the graph has.
+    fn begin_level(&mut self, problem: &Problem, query: &Query, lit: Lit) -> Result<(), AllocError>
+        requires turning { IsTurning problem.now query.now self.old }
+        requires settled { IsSettled self.old }
+        requires named { lit.variable < length self.old.solver.values }
+        requires free { assigned self.old.solver lit.variable ≡ None }
+        ensures ok { OnOk result (BeginsLevel self.old self.new lit) }
+        ensures sound { OnOk result (IsSound self.new.solver) }
+        ensures turning { OnErr result (IsTurning problem.now query.now self.new) }
+        ensures same { OnErr result (KeepsLog self.old self.new) }
+    {
+        self.levels.push(Level {
+            bounds: self.graph.mark(),
+            next: self.next,
+        })?;
+        self.solver.decide(lit);
+        Ok(())
     }
 
     // Decides the first variable in the order of decisions, or gives the model where none is left.
@@ -89,13 +112,13 @@ impl Engine {
         ensures turning { IsTurning problem.now query.now self.new }
         ensures same { KeepsLog self.old self.new }
         ensures first { IfOk result (λ found. MatchOption found (DecidesNext self.old.solver self.new.solver) (λ _. IsFull self.old.solver)) }
-        ensures found { IfOk result (λ found. MatchOption found (GoesFurther self.old self.new) (IsFound problem.now query.now)) }
+        ensures found { IfOk result (λ found. MatchOption found (GoesFurther self.old.solver self.new.solver) (IsFound problem.now query.now)) }
     {
         match self.free_variable() {
             None => Ok(Some(Verdict::Model(self.model(problem, query)?))),
             Some(variable) => {
                 let positive = phase(problem, query, self.graph.places(), variable);
-                self.solver.decide(Lit { variable, positive });
+                self.begin_level(problem, query, Lit { variable, positive })?;
                 Ok(None)
             }
         }

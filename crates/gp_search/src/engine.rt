@@ -5,14 +5,15 @@ ghost use Rattle.gp_search.specs.Inside.{IsIdle, IsGraphOf};
 ghost use Rattle.gp_search.specs.Moves.{of_clauses};
 
 use gp_clause::{Lit, Problem, keeping_leaves_no_cycle};
-use gp_derivation::LogEntry;
+use gp_derivation::{LogEntry, Tester};
 use gp_difference::{Graph, GraphFault};
 use gp_sat::Solver;
 use std::alloc::{AllocError, Global};
 
 // The state of a search. The clauses of the solver have the numbers that hints have: those of the problem, and then the
-// entries of the log. An entry that rests on the problem alone is marked as pure. In a turn, which begins at a place of
-// the log, the graph keeps the bounds of so many literals of the trail, and the decisions up to a level are assumptions.
+// entries of the log. An entry that rests on the problem alone is marked as pure. A turn begins at a place of the log, and
+// learns from another one on. In it the graph keeps the bounds of so many literals of the trail, the decisions up to a
+// level are assumptions, and all assumptions before the next one are true. One tester serves all turns.
 #[derive(Debug, Drop)]
 pub(crate) struct Engine {
     pub(crate) solver: Solver,
@@ -20,8 +21,19 @@ pub(crate) struct Engine {
     pub(crate) log: Vec<LogEntry>,
     pub(crate) pure: Vec<bool>,
     pub(crate) begins: usize,
+    pub(crate) learned: usize,
     pub(crate) asserted: usize,
     pub(crate) assumed: u32,
+    pub(crate) next: usize,
+    pub(crate) levels: Vec<Level>,
+    pub(crate) tester: Tester,
+}
+
+// What stood when a level began: how many bounds the graph had, and the place of the next assumption.
+#[derive(Debug, Clone, Copy)]
+pub(crate) struct Level {
+    pub(crate) bounds: u32,
+    pub(crate) next: usize,
 }
 
 // A false clause, and its number where it is one of the solver.
@@ -45,8 +57,12 @@ impl Engine {
             log: Vec::new(alloc),
             pure: Vec::new(alloc),
             begins: 0,
+            learned: 0,
             asserted: 0,
             assumed: 0,
+            next: 0,
+            levels: Vec::new(alloc),
+            tester: Tester::new(alloc, problem, &[])?,
         })
     }
 }

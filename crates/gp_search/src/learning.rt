@@ -1,23 +1,15 @@
-ghost use Rattle.std.specs.Prelude.{◌≡◌, ◌+◌, ◌<◌, ◌^◌, ◌≤◌, length, All, IfOk, OnOk, OnErr, IsTrue};
-ghost use Rattle.gp_derivation.specs.Log.{LearnedPasses};
+ghost use Rattle.std.specs.Prelude.{◌≡◌, ◌+◌, ◌*◌, ◌<◌, ◌^◌, ◌≤◌, length, All, OnOk, OnErr, IsTrue};
 ghost use Rattle.gp_sat.specs.Changes.{MayAttach};
 ghost use Rattle.gp_sat.specs.Sound.{IsSound};
 ghost use Rattle.gp_search.specs.Inside.{IsTurning, IsConflict};
-ghost use Rattle.gp_search.specs.Moves.{IsLearnedStep, IsBackAt, KeepsLog, LearnsOne, with_number, raised, RestsOnMarked, is_marked};
+ghost use Rattle.gp_search.specs.Moves.{IsLesson, IsBackAt, KeepsLog, LearnsOne, raised, RestsOnMarked, is_marked};
 
-use crate::bounds::count_bounds;
 use crate::engine::{Conflict, Engine};
-use gp_clause::{Lit, Problem, Query, Row};
+use crate::lesson::LearnedStep;
+use gp_clause::{Lit, Problem, Query};
 use gp_derivation::{LogEntry, Origin, Step, log_grows};
 use gp_sat::Solver;
 use std::alloc::AllocError;
-
-// A step to log, and the level at which its clause asserts a literal.
-#[derive(Debug, Drop)]
-pub(crate) struct LearnedStep {
-    step: Step,
-    level: u32,
-}
 
 impl Engine {
     // Learns from a conflict above the assumptions.
@@ -30,36 +22,15 @@ impl Engine {
         requires turning { IsTurning problem.now query.now self.old }
         requires conflict { IsConflict problem.now query.now self.old.solver conflict.now.lits.items conflict.now.number }
         requires above { self.old.assumed < self.old.solver.level }
-        requires few { length problem.now.clauses + length self.old.log.items + 2 < 2 ^ 32 }
+        requires few { length problem.now.clauses + 64 * (length self.old.log.items + 2) < 2 ^ 32 }
         ensures turning { IsTurning problem.now query.now self.new }
         ensures ok { OnOk result (LearnsOne self.old self.new) }
         ensures err { OnErr result (KeepsLog self.old self.new) }
     {
         let LearnedStep { step, level } = self.learned_step(problem, query, conflict)?;
         self.back_to(problem, query, level);
-        self.keep(problem, query, step)
-    }
-
-    // What the analysis of a conflict gives, with the number of the conflict's clause among the hints.
-    fn learned_step(
-        &self,
-        problem: &Problem,
-        query: &Query,
-        conflict: &Conflict,
-    ) -> Result<LearnedStep, AllocError>
-        requires turning { IsTurning problem.now query.now self.now }
-        requires conflict { IsConflict problem.now query.now self.now.solver conflict.now.lits.items conflict.now.number }
-        requires above { self.now.assumed < self.now.solver.level }
-        ensures { IfOk result (λ learned_step. IsLearnedStep problem.now query.now self.now learned_step.step learned_step.level) }
-    {
-        let learned = self.solver.analyse(conflict.lits.as_slice())?;
-        Ok(LearnedStep {
-            step: Step {
-                clause: learned.clause,
-                hints: add_number(learned.hints, conflict.number)?,
-            },
-            level: learned.level,
-        })
+        self.keep(problem, query, step)?;
+        Ok(())
     }
 
     // Takes back the levels above one, and their bounds.
@@ -69,20 +40,21 @@ impl Engine {
         ensures turning { IsTurning problem.now query.now self.new }
         ensures back { IsBackAt self.old self.new level }
     {
+        let begun = self.levels[level as usize];
+        self.levels.truncate(level as usize);
         self.solver.backjump(level);
-        let trail = self.solver.trail();
-        self.asserted = self.asserted.min(trail.len());
-        let mark = count_bounds(problem, query, &trail[..self.asserted]);
-        self.graph.undo_to(mark);
+        self.graph.undo_to(begun.bounds);
+        self.asserted = self.solver.trail().len();
         self.assumed = self.assumed.min(level);
+        self.next = begun.next;
     }
 
     // Logs a step under the next number, attaches its clause, and raises the variables of it.
     fn keep(&mut self, problem: &Problem, query: &Query, step: Step) -> Result<(), AllocError>
         requires turning { IsTurning problem.now query.now self.old }
-        requires passes { LearnedPasses problem.now query.now.locals self.old.log.items self.old.begins (length self.old.log.items) step }
+        requires lesson { IsLesson problem.now query.now self.old.log.items self.old.begins step }
         requires may { MayAttach self.old.solver step.clause }
-        requires few { length problem.now.clauses + length self.old.log.items + 2 < 2 ^ 32 }
+        requires few { length problem.now.clauses + 64 * (length self.old.log.items + 2) < 2 ^ 32 }
         ensures turning { IsTurning problem.now query.now self.new }
         ensures ok { OnOk result (LearnsOne self.old self.new) }
         ensures err { OnErr result (KeepsLog self.old self.new) }
@@ -143,15 +115,4 @@ fn names_marked(marks: &[bool], bases: usize, hint: u32) -> bool
         Some(mark) => *mark,
         None => false,
     }
-}
-
-// Hints, and beside them a number if there is one.
-pub(crate) fn add_number(hints: Row<u32>, number: Option<u32>) -> Result<Row<u32>, AllocError>
-    ensures { IfOk result (λ all. all ≡ with_number hints number) }
-{
-    let mut hints = hints;
-    if let Some(number) = number {
-        hints.push(number)?;
-    }
-    Ok(hints)
 }

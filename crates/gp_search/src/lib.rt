@@ -2,7 +2,8 @@
 // query, with a certificate that refutes the query, or with as many learned clauses as the query's budget allows. The
 // assumptions of a query are its first decisions. The solver's trail and the difference graph go along: each literal of
 // the trail that bounds two places is a bound of the graph, and a negative cycle is a conflict of such literals. What is
-// learned at a query is logged with its hints, and what rests on the problem alone serves the queries after it.
+// learned at a query is made tight and logged with its hints, and what rests on the problem alone serves the queries
+// after it. A step costs what it adds or takes back, and a query's end what the query touched.
 #![tactic(auto)]
 
 mod answering;
@@ -10,9 +11,8 @@ mod bounds;
 mod deciding;
 mod engine;
 mod learning;
+mod lesson;
 mod search;
-#[cfg(test)]
-mod tests;
 mod theory;
 mod turn;
 mod verdict;

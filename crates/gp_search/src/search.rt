@@ -1,6 +1,6 @@
 ghost use Rattle.std.specs.Prelude.{◌≡◌, ◌≤◌, [], IfOk};
 ghost use Rattle.gp_clause.specs.Problem.{IsValidProblem, IsValidQuery};
-ghost use Rattle.gp_search.specs.Verdict.{IsSolvable, HasRoom, Learns, IsDue};
+ghost use Rattle.gp_search.specs.Verdict.{IsSolvable, HasRoom, Learns, IsDue, ConcludesInTime};
 
 use crate::engine::Engine;
 use crate::verdict::Verdict;
@@ -65,6 +65,7 @@ impl<'a> Search<'a> {
         ensures problem { self.new.problem ≡ self.old.problem }
         ensures log { Learns self.old.problem query.now budget self.old.log self.new.log }
         ensures verdict { IfOk result (IsDue self.old.problem query.now budget self.old.log self.new.log) }
+        ensures enough { IfOk result (ConcludesInTime self.old.problem query.now budget) }
     {
         let verdict = self.engine.turn(self.problem, query, budget);
         self.engine.finish(self.problem, query);

@@ -1,12 +1,12 @@
-ghost use Rattle.std.specs.Prelude.{◌≡◌, ◌+◌, ◌<◌, ◌≤◌, ◌^◌, length, IfOk, OnOk, OnErr};
+ghost use Rattle.std.specs.Prelude.{◌≡◌, ◌+◌, ◌*◌, ◌<◌, ◌≤◌, ◌^◌, length, IfOk, OnOk, OnErr};
 ghost use Rattle.gp_clause.specs.Problem.{IsValidQuery};
 ghost use Rattle.gp_search.specs.Inside.{IsTurning, IsWhole, IsIdle};
 ghost use Rattle.gp_search.specs.Moves.{KeepsLog, IsEnded, IsGrown, IsRoomy, retired};
-ghost use Rattle.gp_search.specs.Verdict.{IsDue};
+ghost use Rattle.gp_search.specs.Verdict.{IsDue, ConcludesInTime};
 
 use crate::engine::{Conflict, Engine};
 use crate::verdict::Verdict;
-use gp_clause::{Problem, Query};
+use gp_clause::{Problem, Query, clauses_are_few};
 use gp_derivation::log_grows;
 use gp_sat::Solver;
 use std::alloc::AllocError;
@@ -28,11 +28,13 @@ impl Engine {
     ) -> Result<Verdict, AllocError>
         requires idle { IsIdle problem.now self.old }
         requires valid { IsValidQuery problem.now query.now }
-        requires few { length problem.now.clauses + length self.old.log.items + budget + 2 < 2 ^ 32 }
+        requires few { length problem.now.clauses + 64 * (length self.old.log.items + budget + 1) < 2 ^ 32 }
         ensures whole { IsWhole problem.now query.now self.new }
         ensures begins { self.new.begins ≡ length self.old.log.items }
+        ensures learned { self.new.learned ≡ length self.old.log.items }
         ensures grown { IsGrown budget self.old self.new }
         ensures verdict { IfOk result (IsDue problem.now query.now budget self.old.log.items self.new.log.items) }
+        ensures enough { IfOk result (ConcludesInTime problem.now query.now budget) }
     {
         self.begin(problem, query)?;
         self.run(problem, query, budget)
@@ -42,12 +44,16 @@ impl Engine {
     fn run(&mut self, problem: &Problem, query: &Query, budget: u64) -> Result<Verdict, AllocError>
         requires turning { IsTurning problem.now query.now self.old }
         requires start { self.old.begins ≡ length self.old.log.items }
-        requires few { length problem.now.clauses + length self.old.log.items + budget + 2 < 2 ^ 32 }
+        requires learned { self.old.learned ≡ length self.old.log.items }
+        requires few { length problem.now.clauses + 64 * (length self.old.log.items + budget + 1) < 2 ^ 32 }
         ensures turning { IsTurning problem.now query.now self.new }
         ensures begins { self.new.begins ≡ self.old.begins }
+        ensures learned { self.new.learned ≡ self.old.learned }
         ensures grown { IsGrown budget self.old self.new }
         ensures verdict { IfOk result (IsDue problem.now query.now budget self.old.log.items self.new.log.items) }
+        ensures enough { IfOk result (ConcludesInTime problem.now query.now budget) }
     {
+        clauses_are_few();
         for _ in 0..budget {
             match self.descend(problem, query)? {
                 Descent::Verdict(verdict) => return Ok(verdict),
@@ -57,7 +63,7 @@ impl Engine {
         match self.descend(problem, query)? {
             Descent::Verdict(verdict) => Ok(verdict),
             Descent::Conflict(_) => Ok(Verdict::Spent {
-                from: self.begins as u32,
+                from: self.learned as u32,
                 to: self.log.len() as u32,
             }),
         }
@@ -68,16 +74,21 @@ impl Engine {
     fn begin(&mut self, problem: &Problem, query: &Query) -> Result<(), AllocError>
         requires idle { IsIdle problem.now self.old }
         requires valid { IsValidQuery problem.now query.now }
-        requires few { length problem.now.clauses + length self.old.log.items + 2 < 2 ^ 32 }
+        requires few { length problem.now.clauses + 64 * (length self.old.log.items + 1) < 2 ^ 32 }
         ensures whole { IsWhole problem.now query.now self.new }
         ensures begins { self.new.begins ≡ length self.old.log.items }
+        ensures learned { self.new.learned ≡ length self.old.log.items }
         ensures same { self.new.log.items ≡ self.old.log.items }
         ensures turning { OnOk result (IsTurning problem.now query.now self.new) }
     {
         log_grows();
         self.begins = self.log.len();
+        self.learned = self.begins;
         self.asserted = 0;
         self.assumed = 0;
+        self.next = 0;
+        self.levels.clear();
+        self.tester.set_locals(query.locals.as_slice())?;
         let variables = (problem.kinds.len() + query.locals.len()) as u32;
         grow(&mut self.solver, variables)?;
         self.solver.set_used(variables);

@@ -12,6 +12,7 @@ mod event_id;
 mod fault;
 mod file_name;
 mod holders;
+mod laws;
 mod manifest;
 mod marks;
 mod numbers;
@@ -27,6 +28,7 @@ pub use content::{ContentFault, content_of};
 pub use event_id::{event_id_of, event_ids_read_exactly, put_event_id};
 pub use fault::RecordingFault;
 pub use file_name::FileName;
+pub use laws::{manifests_are_spelled, windows_are_formed};
 pub use manifest::{
     MOST_EPOCHS, MOST_FORMAT, MOST_THREADS, Manifest, ManifestFault, StartValue, read_manifest,
 };

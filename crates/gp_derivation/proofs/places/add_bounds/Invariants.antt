@@ -1,7 +1,3 @@
-use Rattle.std.proofs.Common.{◌≡◌, ◌+◌, ◌≤◌, length, take}
-use Rattle.gp_clause.specs.Walk.{HasNegativeCycle}
-use Rattle.gp_difference.specs.Bounds.{edges_of}
-use Rattle.gp_derivation.specs.Places.{bounds_at}
 use Rattle.gp_derivation.proofs.Bounding.{IsBounded}
 use Rattle.gp_derivation.proofs.places.add_bounds.Given as goal
 

@@ -1,10 +1,13 @@
-use Rattle.std.proofs.lemmas.Cmp.{nat_list_cmp_total}
-use Rattle.gp_replay.proofs.Starts.{add_all_in_order, put_all_in_order}
+use Rattle.gp_replay.proofs.Starts.{held_as_told, holders_as_told, read_as_told, readers_as_told, values_as_told}
 use Rattle.gp_replay.proofs.laws.begins_as_told.Goals as goal
 
 pub returns : goal.returns
-returns c = record {
-  values = λ window rising. put_all_in_order nat_list_cmp_total window.start_values rising;
-  holders = λ window rising. put_all_in_order nat_list_cmp_total window.holders rising;
-  readers = λ window rising. add_all_in_order window.readers rising;
-}
+returns c =
+    let formed = c.windows_are_formed.ensures in
+    record {
+      values = λ window is. values_as_told window (formed window is);
+      holders = λ window is. holders_as_told window (formed window is);
+      readers = λ window is. readers_as_told window (formed window is);
+      holds = λ window is lock thread. held_as_told window (formed window is) lock thread;
+      reads = λ window is lock thread. read_as_told window (formed window is) lock thread;
+    }

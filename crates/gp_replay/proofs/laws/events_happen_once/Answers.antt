@@ -1,7 +1,7 @@
 use Rattle.std.proofs.Common.{length}
 use Rattle.std.proofs.lemmas.List.{length-replicate}
 use Rattle.gp_replay.specs.Step.{start_state}
-use Rattle.gp_replay.proofs.Counts.{run_is_distinct}
+use Rattle.gp_replay.specs.CountLaws.{run_is_distinct}
 use Rattle.gp_replay.proofs.laws.events_happen_once.Goals as goal
 
 pub returns : goal.returns

@@ -1,5 +1,5 @@
 use Rattle.gp_replay.specs.Step.{start_state}
-use Rattle.gp_replay.proofs.Holders.{holder_acquired, holds_is_holder}
+use Rattle.gp_replay.specs.HolderLaws.{holder_acquired, holds_is_holder}
 use Rattle.gp_replay.proofs.laws.holders_acquired.Goals as goal
 
 pub returns : goal.returns

@@ -1,4 +1,4 @@
-use Rattle.gp_replay.proofs.Orders.{joined_last}
+use Rattle.gp_replay.specs.OrderLaws.{joined_last}
 use Rattle.gp_replay.proofs.laws.joins_come_last.Goals as goal
 
 pub returns : goal.returns

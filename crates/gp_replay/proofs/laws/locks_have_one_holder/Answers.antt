@@ -1,7 +1,7 @@
 use Rattle.std.proofs.Common.{ℕ, ◌≡◌, sym, ◌∙◌}
 use Rattle.std.specs.Prelude.{Option, Some}
 use Rattle.gp_replay.specs.Step.{start_state}
-use Rattle.gp_replay.proofs.Holders.{holds_is_holder}
+use Rattle.gp_replay.specs.HolderLaws.{holds_is_holder}
 use Rattle.gp_replay.proofs.laws.locks_have_one_holder.Goals as goal
 
 pub returns : goal.returns

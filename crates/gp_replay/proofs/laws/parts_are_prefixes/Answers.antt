@@ -1,4 +1,4 @@
-use Rattle.gp_replay.proofs.Parts.{prefix_from_start}
+use Rattle.gp_replay.specs.PartLaws.{prefix_from_start}
 use Rattle.gp_replay.proofs.laws.parts_are_prefixes.Goals as goal
 
 pub returns : goal.returns

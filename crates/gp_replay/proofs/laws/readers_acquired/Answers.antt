@@ -1,5 +1,5 @@
 use Rattle.gp_replay.specs.Step.{start_state}
-use Rattle.gp_replay.proofs.Sharing.{reader_acquired, sharer_is_reader}
+use Rattle.gp_replay.specs.SharingLaws.{reader_acquired, sharer_is_reader}
 use Rattle.gp_replay.proofs.laws.readers_acquired.Goals as goal
 
 pub returns : goal.returns

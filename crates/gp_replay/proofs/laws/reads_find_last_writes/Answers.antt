@@ -1,5 +1,5 @@
 use Rattle.gp_replay.specs.Step.{start_state}
-use Rattle.gp_replay.proofs.Values.{read_in_run}
+use Rattle.gp_replay.specs.ValueLaws.{read_in_run}
 use Rattle.gp_replay.proofs.laws.reads_find_last_writes.Goals as goal
 
 pub returns : goal.returns

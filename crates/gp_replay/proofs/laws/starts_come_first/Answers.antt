@@ -1,4 +1,4 @@
-use Rattle.gp_replay.proofs.Orders.{started_first}
+use Rattle.gp_replay.specs.OrderLaws.{started_first}
 use Rattle.gp_replay.proofs.laws.starts_come_first.Goals as goal
 
 pub returns : goal.returns

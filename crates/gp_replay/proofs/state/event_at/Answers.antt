@@ -1,4 +1,4 @@
-use Rattle.gp_replay.proofs.Sizes.{found_is_small}
+use Rattle.gp_replay.specs.SizeLaws.{found_is_small}
 use Rattle.gp_replay.proofs.state.event_at.Goals as goal
 
 pub returns-clause-small : goal.returns-clause-small

@@ -1,5 +1,4 @@
-use Rattle.std.proofs.Common.{◌≡◌, sym, ◌∙◌, ap, subst, ℕ, ◌+◌, ◌≤◌, Option, Some, None, length, get_or, arith}
-use Rattle.gp_sat.specs.declared.assigned.Assigned.{Assigned}
+use Rattle.std.proofs.Common.{◌≡◌, subst, ℕ, ◌+◌, Option, Some, None, length, get_or, arith}
 use Rattle.gp_sat.specs.Deciding.{IsPlaced}
 use Rattle.gp_sat.proofs.Consisting.{placed_next, placed_end, placed_far, placed_in, below_order}
 use Rattle.gp_sat.proofs.kernel.next_open.Goals as goal

@@ -1,4 +1,4 @@
-use Rattle.std.proofs.Common.{◌≡◌, ap, ℕ, ◌+◌, ◌-◌, ◌<◌, List, length, arith}
+use Rattle.std.proofs.Common.{ap, ℕ, ◌<◌, List, length, arith}
 use Rattle.gp_sat.specs.Stored.{Stored}
 use Rattle.gp_clause.specs.declared.lit.Lit.{Lit}
 use Rattle.gp_sat.specs.State.{SolverForm}

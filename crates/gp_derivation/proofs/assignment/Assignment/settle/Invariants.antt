@@ -1,9 +1,11 @@
-use Rattle.std.proofs.Common.{◌≡◌, length}
-use Rattle.gp_derivation.specs.Assignment.{IsClosing, unassigned}
+use Rattle.std.proofs.Common.{◌-◌, length, take}
+use Rattle.gp_derivation.specs.Assignment.{IsClosing}
+use Rattle.gp_derivation.specs.Counting.{AreCounted, Extends}
 use Rattle.gp_derivation.proofs.assignment.Assignment.settle.Given as goal
 
-abbrev pub invariant-settling : goal.invariant-settling
-invariant-settling l = IsClosing l.fn.self.trail.items l.clauses l.self × (length l.self.values.items ≡ length l.fn.self.values.items)
+abbrev pub invariant-loop-cursor : goal.invariant-loop-cursor
+invariant-loop-cursor l =
+    Extends l.fn.self l.self × IsClosing l.fn.self.trail.items l.clauses l.self × AreCounted (take l.cursor l.self.trail.items) l.self.values.items l.clauses l.left
 
-abbrev pub decreases-settling : goal.decreases-settling
-decreases-settling l = unassigned l.self.values.items
+abbrev pub decreases-loop-cursor : goal.decreases-loop-cursor
+decreases-loop-cursor l = length l.self.values.items - l.cursor

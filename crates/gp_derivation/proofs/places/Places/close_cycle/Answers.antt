@@ -1,4 +1,4 @@
-use Rattle.std.proofs.Common.{Bool, refl, subst, sym, List, ◌++◌, All, Contains}
+use Rattle.std.proofs.Common.{Bool, refl, subst, ◌++◌, Contains}
 use Rattle.std.proofs.lemmas.List.Elements.{All-weaker, All-contains_itself, Contains-append_left}
 use Rattle.std.specs.Prelude.{MatchBool, ◌≡◌}
 use Rattle.gp_clause.specs.Walk.{HasNegativeCycle}

@@ -1,6 +1,6 @@
 -- The first reader from the lock on tells.
 use Rattle.std.proofs.Common.{◌∙◌}
-use Rattle.gp_replay.proofs.ReaderSets.{first_tells, none_tells}
+use Rattle.gp_replay.specs.ReaderLaws.{first_tells, none_tells}
 use Rattle.gp_replay.proofs.readers.Readers.has.Goals as goal
 
 pub returns-in-Some : goal.returns-in-Some

@@ -2,7 +2,7 @@
 use Rattle.std.proofs.Common.{◌∙◌}
 use Rattle.std.specs.BTreeMap.{is_at}
 use Rattle.gp_window.specs.Holders.{holder_cmp}
-use Rattle.gp_replay.proofs.ReaderSets.{removed_is_filtered}
+use Rattle.gp_replay.specs.ReaderLaws.{removed_is_filtered}
 use Rattle.gp_replay.proofs.readers.Readers.remove.Goals as goal
 
 pub returns : goal.returns

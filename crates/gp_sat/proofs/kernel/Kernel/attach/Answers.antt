@@ -1,11 +1,11 @@
-use Rattle.std.proofs.Common.{◌≡◌, sym, subst, ◌+◌, ◌<◌, ◌^◌, true, List, [], ◌∷◌, ◌++◌, length}
+use Rattle.std.proofs.Common.{sym, subst, ◌+◌, ◌<◌, ◌^◌, true, List, [], ◌∷◌, ◌++◌, length}
 use Rattle.gp_clause.specs.Clause.{NamesBelow}
 use Rattle.gp_sat.specs.Stored.{Stored}
 use Rattle.gp_sat.specs.Changes.{MayAttach}
 use Rattle.gp_sat.specs.Consistent.{IsConsistent}
 use Rattle.gp_sat.proofs.Storing.{sound_attached}
 use Rattle.gp_sat.proofs.Consisting.{consistent_clauses}
-use Rattle.std.specs.Vec.{vec_len, vec_capacity, with_items}
+use Rattle.std.specs.Vec.{vec_capacity}
 use Rattle.gp_sat.specs.State.{SolverForm}
 use Rattle.gp_sat.proofs.kernel.Kernel.attach.Goals as goal
 

@@ -1,12 +1,12 @@
-use Rattle.std.proofs.Common.{◌≡◌, ◌≢◌, refl, sym, ◌∙◌, ap, subst, ℕ, ◌<◌, ◌≤◌, Option, None, List, length, get_or, arith}
+use Rattle.std.proofs.Common.{◌≡◌, ◌≢◌, sym, ◌∙◌, ap, subst, ℕ, ◌<◌, ◌≤◌, Option, None, List, length, get_or, arith}
 use Rattle.std.proofs.lemmas.List.{with_items_is}
 use Rattle.gp_clause.specs.declared.lit.Lit.{Lit}
 use Rattle.gp_sat.specs.declared.assigned.Assigned.{Assigned}
-use Rattle.gp_sat.specs.State.{assigned, cleared}
+use Rattle.gp_sat.specs.State.{assigned}
 use Rattle.gp_sat.specs.Changes.{Backjumps}
 use Rattle.gp_sat.specs.Levels.{IsEndOf}
-use Rattle.gp_sat.proofs.Consisting.{IsTakenBack, trail_named, cut_parts, back_parts, clear_parts}
-use Rattle.std.specs.Vec.{vec_len, vec_capacity, with_items}
+use Rattle.gp_sat.proofs.Consisting.{IsTakenBack, trail_named, cut_parts, back_parts}
+use Rattle.std.specs.Vec.{vec_capacity, with_items}
 use Rattle.gp_sat.specs.State.{SolverForm}
 use Rattle.gp_sat.proofs.kernel.Kernel.backjump.Goals as goal
 

@@ -1,12 +1,7 @@
-use Rattle.std.proofs.Common.{◌≡◌, refl, sym, ◌∙◌, ap, subst, ℕ, ◌+◌, ◌<◌, Some, None, List, [], ◌∷◌, ◌++◌, length, inl, inr, arith}
-use Rattle.gp_clause.specs.declared.lit.Lit.{Lit}
-use Rattle.gp_sat.specs.State.{assigned, clause_at, IsAttached, with_literal}
-use Rattle.gp_sat.specs.Sound.{IsSound}
+use Rattle.std.proofs.Common.{◌≡◌, refl, sym, ◌∙◌, ap, subst, ℕ, ◌+◌, ◌<◌, None, [], ◌∷◌, ◌++◌, length, inr, arith}
+use Rattle.gp_sat.specs.State.{assigned}
 use Rattle.gp_sat.specs.Standing.{IsClosed}
-use Rattle.gp_sat.specs.Looking.{IsUnit}
-use Rattle.gp_sat.specs.Changes.{MayAdd, Propagates}
-use Rattle.std.proofs.lemmas.List.{length-set, length_push}
-use Rattle.gp_sat.proofs.Adding.{may_decide, may_force, laid_is, sound_more, propagates_one}
+use Rattle.gp_sat.proofs.Adding.{may_decide}
 use Rattle.gp_sat.proofs.Consisting.{HasRoom, has_room, consistent_laid}
 use Rattle.std.specs.Vec.{vec_len, vec_capacity}
 use Rattle.gp_sat.specs.State.{SolverForm}

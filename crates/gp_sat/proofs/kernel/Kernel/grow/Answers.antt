@@ -1,4 +1,4 @@
-use Rattle.std.proofs.Common.{◌≡◌, refl, sym, ◌∙◌, ap, subst, ℕ, ◌-◌, ◌<◌, ◌≤◌, Option, None, List, ◌++◌, length, get_or, arith}
+use Rattle.std.proofs.Common.{◌≡◌, sym, ◌∙◌, ap, subst, ℕ, ◌-◌, ◌<◌, ◌≤◌, Option, None, List, ◌++◌, length, get_or, arith}
 use Rattle.std.specs.Prelude.{replicate, slice_get}
 use Rattle.std.proofs.lemmas.List.{length-append, length-replicate}
 use Rattle.std.proofs.lemmas.List.FromFn.{length-range_with_len}
@@ -9,7 +9,7 @@ use Rattle.gp_sat.specs.Sound.{IsSound}
 use Rattle.gp_sat.specs.Consistent.{IsConsistent}
 use Rattle.gp_sat.proofs.Storing.{sound_grown, sound_ordered}
 use Rattle.gp_sat.proofs.Consisting.{consistent_grown}
-use Rattle.std.specs.Vec.{vec_len, vec_capacity}
+use Rattle.std.specs.Vec.{vec_capacity}
 use Rattle.gp_sat.specs.State.{SolverForm}
 use Rattle.gp_sat.proofs.kernel.Kernel.grow.Goals as goal
 use Rattle.gp_sat.specs.SolverLaws.{trail_counts, grown_at}

@@ -1,4 +1,4 @@
-use Rattle.std.proofs.Common.{◌≡◌, ◌∙◌, ap, ◌≤◌, Option, None, List, ◌++◌, arith}
+use Rattle.std.proofs.Common.{◌∙◌, ap, Option, None, List, ◌++◌, arith}
 use Rattle.std.specs.Prelude.{replicate}
 use Rattle.std.specs.Vec.{vec_capacity}
 use Rattle.gp_sat.specs.declared.assigned.Assigned.{Assigned}

@@ -1,10 +1,8 @@
-use Rattle.std.proofs.Common.{◌≡◌, sym, subst, ℕ, ◌<◌, Option, None, List, length, get_or, IfSome, arith}
+use Rattle.std.proofs.Common.{◌≡◌, sym, subst, ℕ, ◌<◌, Option, None, List, length, get_or, IfSome}
 use Rattle.gp_sat.specs.declared.assigned.Assigned.{Assigned}
-use Rattle.gp_sat.specs.State.{assigned}
 use Rattle.gp_sat.specs.Deciding.{IsPlaced, IsPassed}
 use Rattle.gp_sat.proofs.Consisting.{consistent_placed, free_at_place}
-use Rattle.std.specs.Vec.{vec_len, vec_capacity, with_items}
-use Rattle.gp_sat.specs.State.{SolverForm}
+use Rattle.std.specs.Vec.{vec_capacity}
 use Rattle.gp_sat.proofs.kernel.Kernel.next_free.Goals as goal
 
 pub next_open-place-requires-clause-placed : goal.next_open-place-requires-clause-placed

@@ -5,7 +5,7 @@ use Rattle.gp_sat.specs.State.{clause_at}
 use Rattle.gp_sat.specs.Consistent.{IsConsistent}
 use Rattle.gp_sat.proofs.Storing.{sound_retired}
 use Rattle.gp_sat.proofs.Consisting.{consistent_clauses}
-use Rattle.std.specs.Vec.{vec_len, vec_capacity, with_items}
+use Rattle.std.specs.Vec.{vec_capacity}
 use Rattle.gp_sat.specs.State.{SolverForm}
 use Rattle.gp_sat.proofs.kernel.Kernel.retire.Goals as goal
 

@@ -1,166 +1,96 @@
-use Rattle.std.proofs.Common.{◌≡◌, sym, ◌∙◌, ap, subst, ℕ, ◌+◌, ◌<◌, Bool, true, false, Some, List, [], ◌∷◌, ◌++◌, length, get_or, arith}
+use Rattle.std.proofs.Common.{◌≡◌, sym, ◌∙◌, ap, subst, ℕ, Bool, List, [], ◌∷◌, ◌++◌, length, arith}
 use Rattle.gp_clause.specs.declared.lit.Lit.{Lit}
-use Rattle.gp_sat.specs.declared.assigned.Assigned.{Assigned}
-use Rattle.gp_sat.specs.Stored.{Stored}
-use Rattle.gp_sat.specs.State.{SolverForm, assigned, clause_at, no_clause}
-use Rattle.gp_sat.specs.Sound.{IsSound}
-use Rattle.std.specs.Prelude.{Contains}
-use Rattle.std.specs.Vec.{with_items}
-use Rattle.std.proofs.lemmas.List.{get_or_default, with_items_is}
 use Rattle.gp_clause.specs.Lit.{opposite}
-use Rattle.gp_sat.specs.Sound.{true_lit}
-use Rattle.gp_sat.specs.Marking.{IsMarked, IsLowest, IsLowestOf, Marks, StopsAt, GoesOn}
-use Rattle.gp_sat.specs.Walking.{IsWalked, IsSearched}
-use Rattle.gp_sat.proofs.Marked.{at_place, read_place}
 use Rattle.gp_sat.specs.declared.analysis.Stop.{Stop}
-use Rattle.gp_sat.proofs.Leading.{searched_unmarked, searched_stops, searched_follows, lowest_marked}
-use Rattle.gp_sat.proofs.Visiting.{Stands, visit_unmarked, visit_stops, visit_follows}
+use Rattle.gp_sat.specs.State.{SolverForm, clause_at}
+use Rattle.gp_sat.specs.Standing.{Each}
+use Rattle.gp_sat.specs.Sound.{IsSound, true_lit}
+use Rattle.gp_sat.specs.Marking.{Marks, StopsAt, GoesOn, Follows}
+use Rattle.gp_sat.specs.Queueing.{IsAssigned, IsMarkedOrBefore}
+use Rattle.gp_sat.specs.Walking.{IsWalked, IsSearched}
+use Rattle.gp_sat.proofs.Marked.{read_place}
+use Rattle.gp_sat.proofs.Leading.{searched_stops, searched_follows, lowest_marked}
+use Rattle.gp_sat.proofs.Visiting.{Stands, IsFollowing, following, marked_lit, visit_stops, visit_follows}
 use Rattle.gp_sat.proofs.kernel.Kernel.visit.Goals as goal
-
--- what the test of a mark says
-off_test : (mark b : Bool) → b ≡ mark → b ≡ false → mark ≡ true → ⊥
-off_test mark b is off on = cc
-
-pub returns-then-not-is_marked-clause-walked : goal.returns-then-not-is_marked-clause-walked
-returns-then-not-is_marked-clause-walked c =
-    let s : SolverForm = c.args.self.now in
-    let sound : IsSound s = subst (λ (t : SolverForm). IsSound t) c.self.view_is c.self.invariant.sound in
-    let lit : Lit = c.index-lit.result.now in
-    let at : (a : Assigned) × (assigned s lit.variable ≡ Some a) × (a.place ≡ c.args.place) × (true_lit lit.variable a ≡ lit) = at_place s sound c.args.place lit c.requires.within
-    (read_place s c.self.inside.trail.items c.args.place lit (ap (λ (t : SolverForm). t.trail) c.self.view_is) c.requires.within c.index-lit.ensures) in
-    let stands : Stands s c.args.place lit.variable at.0 = record { is = at.1; there = at.2 } in
-    visit_unmarked s c.args.stop c.args.place c.args.walk.now.marks.items c.args.walk.now.lits.items c.args.walk.now.hints.items lit.variable at.0 sound stands
-    (off_test _ c.is_marked.result (c.is_marked.ensures ∙ ap (λ (ms : List Bool). get_or ms lit.variable false) c.as_slice.ensures.value) c.if-not-is_marked.true) c.requires.walked
 
 pub lits-lits-requires : goal.lits-lits-requires
 lits-lits-requires c =
     let s : SolverForm = c.args.self.now in
     let sound : IsSound s = subst (λ (t : SolverForm). IsSound t) c.self.view_is c.self.invariant.sound in
-    let lit : Lit = c.index-lit.result.now in
-    let at : (a : Assigned) × (assigned s lit.variable ≡ Some a) × (a.place ≡ c.args.place) × (true_lit lit.variable a ≡ lit) = at_place s sound c.args.place lit c.requires.within
-    (read_place s c.self.inside.trail.items c.args.place lit (ap (λ (t : SolverForm). t.trail) c.self.view_is) c.requires.within c.index-lit.ensures) in
-    let stands : Stands s c.args.place lit.variable at.0 = record { is = at.1; there = at.2 } in
-    let goes : (at.0.reason ≡ Some c.in-Some.number) × GoesOn s c.args.stop c.args.walk.now.marks.items at.0 =
-    subst (λ (ms : List Bool). (at.0.reason ≡ Some c.in-Some.number) × GoesOn s c.args.stop ms at.0) c.as_slice-2.ensures.value (c.in-Some.ensures lit.variable at.0 at.1 at.2) in
-    let given : c.in-Some.number < length s.clauses = (sound.explained.forced lit.variable at.0 c.in-Some.number at.1 goes.0).0 in
-    omega (arith, given, ap (λ (t : SolverForm). length t.clauses) c.self.view_is)
+    let f : IsFollowing s c.args.stop c.args.marking.now.marks.items c.args.place c.in-Some.number = following s c.args.stop c.args.marking.now.marks.items c.args.place c.in-Some.number sound c.requires.marked
+    (subst (λ (ms : List Bool). Follows s c.args.stop ms c.args.place c.in-Some.number) c.as_slice.ensures.value c.in-Some.ensures) in
+    omega (arith, f.given, ap (λ (t : SolverForm). length t.clauses) c.self.view_is)
 
-pub mark_all-requires : goal.mark_all-requires
-mark_all-requires c =
+pub mark_all-requires-clause-assigned : goal.mark_all-requires-clause-assigned
+mark_all-requires-clause-assigned c =
     let s : SolverForm = c.args.self.now in
     let sound : IsSound s = subst (λ (t : SolverForm). IsSound t) c.self.view_is c.self.invariant.sound in
-    let lit : Lit = c.index-lit.result.now in
-    let at : (a : Assigned) × (assigned s lit.variable ≡ Some a) × (a.place ≡ c.args.place) × (true_lit lit.variable a ≡ lit) = at_place s sound c.args.place lit c.requires.within
-    (read_place s c.self.inside.trail.items c.args.place lit (ap (λ (t : SolverForm). t.trail) c.self.view_is) c.requires.within c.index-lit.ensures) in
-    let stands : Stands s c.args.place lit.variable at.0 = record { is = at.1; there = at.2 } in
-    let goes : (at.0.reason ≡ Some c.in-Some.number) × GoesOn s c.args.stop c.args.walk.now.marks.items at.0 =
-    subst (λ (ms : List Bool). (at.0.reason ≡ Some c.in-Some.number) × GoesOn s c.args.stop ms at.0) c.as_slice-2.ensures.value (c.in-Some.ensures lit.variable at.0 at.1 at.2) in
-    let given : c.in-Some.number < length s.clauses = (sound.explained.forced lit.variable at.0 c.in-Some.number at.1 goes.0).0 in
+    let f : IsFollowing s c.args.stop c.args.marking.now.marks.items c.args.place c.in-Some.number = following s c.args.stop c.args.marking.now.marks.items c.args.place c.in-Some.number sound c.requires.marked
+    (subst (λ (ms : List Bool). Follows s c.args.stop ms c.args.place c.in-Some.number) c.as_slice.ensures.value c.in-Some.ensures) in
     let clause : c.lits-lits.result.now ≡ clause_at s.clauses c.in-Some.number = c.lits-lits.ensures.lits ∙ ap (λ (t : SolverForm). clause_at t.clauses c.in-Some.number) c.self.view_is in
-    λ other is.
-    let named : other.variable < length s.values = sound.named c.in-Some.number other (subst (λ (xs : List Lit). Contains xs other) clause is) in
-    omega (arith, named, c.requires.walked.size, ap (λ (ms : List Bool). length ms) c.as_mut_slice.ensures.value)
+    subst (λ (xs : List Lit). Each (IsAssigned s) xs) (sym clause) f.assigned_all
 
 pub returns-in_ok-push-in-None-clause-walked : goal.returns-in_ok-push-in-None-clause-walked
 returns-in_ok-push-in-None-clause-walked c =
     let s : SolverForm = c.args.self.now in
     let sound : IsSound s = subst (λ (t : SolverForm). IsSound t) c.self.view_is c.self.invariant.sound in
     let lit : Lit = c.index-lit.result.now in
-    let at : (a : Assigned) × (assigned s lit.variable ≡ Some a) × (a.place ≡ c.args.place) × (true_lit lit.variable a ≡ lit) = at_place s sound c.args.place lit c.requires.within
+    let is : lit ≡ true_lit c.requires.marked.0 c.requires.marked.1 = marked_lit s c.args.marking.now.marks.items c.args.place lit sound c.requires.marked
     (read_place s c.self.inside.trail.items c.args.place lit (ap (λ (t : SolverForm). t.trail) c.self.view_is) c.requires.within c.index-lit.ensures) in
-    let stands : Stands s c.args.place lit.variable at.0 = record { is = at.1; there = at.2 } in
-    let marked : IsMarked c.args.walk.now.marks.items lit.variable = sym (c.is_marked.ensures ∙ ap (λ (ms : List Bool). get_or ms lit.variable false) c.as_slice.ensures.value) ∙ c.if-not-is_marked.false in
-    let stops : StopsAt s c.args.stop c.args.walk.now.marks.items at.0 =
-    subst (λ (ms : List Bool). StopsAt s c.args.stop ms at.0) c.as_slice-2.ensures.value (c.in-None.ensures lit.variable at.0 at.1 at.2) in
-    let pushed : c.push.new.self.items ≡ c.args.walk.now.lits.items ++ opposite (true_lit lit.variable at.0) ∷ [] =
-    c.in_ok-push-in-None.ensures.items ∙ ap (λ (l : Lit). c.args.walk.now.lits.items ++ l ∷ []) (c.negated.ensures ∙ ap opposite (sym at.3)) in
-    subst (λ (xs : List Lit). IsWalked s c.args.stop c.args.place c.args.walk.now.marks.items xs c.args.walk.now.hints.items) (sym pushed)
-    (visit_stops s c.args.stop c.args.place c.args.walk.now.marks.items c.args.walk.now.lits.items c.args.walk.now.hints.items lit.variable at.0 sound stands marked stops c.requires.walked)
-
-pub returns-in_ok-push-in-Some-clause-walked : goal.returns-in_ok-push-in-Some-clause-walked
-returns-in_ok-push-in-Some-clause-walked c =
-    let s : SolverForm = c.args.self.now in
-    let sound : IsSound s = subst (λ (t : SolverForm). IsSound t) c.self.view_is c.self.invariant.sound in
-    let lit : Lit = c.index-lit.result.now in
-    let at : (a : Assigned) × (assigned s lit.variable ≡ Some a) × (a.place ≡ c.args.place) × (true_lit lit.variable a ≡ lit) = at_place s sound c.args.place lit c.requires.within
-    (read_place s c.self.inside.trail.items c.args.place lit (ap (λ (t : SolverForm). t.trail) c.self.view_is) c.requires.within c.index-lit.ensures) in
-    let stands : Stands s c.args.place lit.variable at.0 = record { is = at.1; there = at.2 } in
-    let marked : IsMarked c.args.walk.now.marks.items lit.variable = sym (c.is_marked.ensures ∙ ap (λ (ms : List Bool). get_or ms lit.variable false) c.as_slice.ensures.value) ∙ c.if-not-is_marked.false in
-    let goes : (at.0.reason ≡ Some c.in-Some.number) × GoesOn s c.args.stop c.args.walk.now.marks.items at.0 =
-    subst (λ (ms : List Bool). (at.0.reason ≡ Some c.in-Some.number) × GoesOn s c.args.stop ms at.0) c.as_slice-2.ensures.value (c.in-Some.ensures lit.variable at.0 at.1 at.2) in
-    let given : c.in-Some.number < length s.clauses = (sound.explained.forced lit.variable at.0 c.in-Some.number at.1 goes.0).0 in
-    let clause : c.lits-lits.result.now ≡ clause_at s.clauses c.in-Some.number = c.lits-lits.ensures.lits ∙ ap (λ (t : SolverForm). clause_at t.clauses c.in-Some.number) c.self.view_is in
-    let more : Marks c.args.walk.now.marks.items c.mark_all.new.marks (clause_at s.clauses c.in-Some.number) =
-    subst (λ (xs : List Lit). Marks c.args.walk.now.marks.items c.mark_all.new.marks xs) clause
-    (subst (λ (ms : List Bool). Marks ms c.mark_all.new.marks c.lits-lits.result.now) c.as_mut_slice.ensures.value c.mark_all.ensures) in
-    let written : (with_items c.args.walk.now.marks c.mark_all.new.marks).items ≡ c.mark_all.new.marks = with_items_is c.args.walk.now.marks c.mark_all.new.marks (omega (arith, more.size)) in
-    subst (λ (ms : List Bool). IsWalked s c.args.stop c.args.place ms c.args.walk.now.lits.items c.push-in-Some.new.self.items) (sym written)
-    (subst (λ (ns : List ℕ). IsWalked s c.args.stop c.args.place c.mark_all.new.marks c.args.walk.now.lits.items ns) (sym c.in_ok-push-in-Some.ensures.items)
-    (visit_follows s c.args.stop c.args.place c.args.walk.now.marks.items c.mark_all.new.marks c.args.walk.now.lits.items c.args.walk.now.hints.items lit.variable at.0 c.in-Some.number
-    sound stands marked goes.0 goes.1 c.requires.present more c.requires.walked))
-
-pub returns-then-not-is_marked-clause-searched : goal.returns-then-not-is_marked-clause-searched
-returns-then-not-is_marked-clause-searched c =
-    let s : SolverForm = c.args.self.now in
-    let sound : IsSound s = subst (λ (t : SolverForm). IsSound t) c.self.view_is c.self.invariant.sound in
-    let lit : Lit = c.index-lit.result.now in
-    let at : (a : Assigned) × (assigned s lit.variable ≡ Some a) × (a.place ≡ c.args.place) × (true_lit lit.variable a ≡ lit) = at_place s sound c.args.place lit c.requires.within
-    (read_place s c.self.inside.trail.items c.args.place lit (ap (λ (t : SolverForm). t.trail) c.self.view_is) c.requires.within c.index-lit.ensures) in
-    let stands : Stands s c.args.place lit.variable at.0 = record { is = at.1; there = at.2 } in
-    λ first conflict searched. searched_unmarked s conflict c.args.place c.args.walk.now.marks.items c.args.walk.now.lits.items c.args.walk.now.hints.items lit.variable at.0 sound stands
-    (off_test _ c.is_marked.result (c.is_marked.ensures ∙ ap (λ (ms : List Bool). get_or ms lit.variable false) c.as_slice.ensures.value) c.if-not-is_marked.true)
-    (subst (λ (t : Stop). IsWalked s t (c.args.place + 1) c.args.walk.now.marks.items c.args.walk.now.lits.items c.args.walk.now.hints.items) first c.requires.walked) searched
+    let stands : Stands s c.args.place c.requires.marked.0 c.requires.marked.1 = record { is = c.requires.marked.2; there = c.requires.marked.3 } in
+    let stops : StopsAt s c.args.stop c.args.marking.now.marks.items c.requires.marked.1 =
+    subst (λ (ms : List Bool). StopsAt s c.args.stop ms c.requires.marked.1) c.as_slice.ensures.value (c.in-None.ensures c.requires.marked.0 c.requires.marked.1 c.requires.marked.2 c.requires.marked.3) in
+    let pushed : c.push.new.self.items ≡ c.args.walk.now.lits.items ++ opposite (true_lit c.requires.marked.0 c.requires.marked.1) ∷ [] =
+    c.in_ok-push-in-None.ensures.items ∙ ap (λ (l : Lit). c.args.walk.now.lits.items ++ l ∷ []) (c.negated.ensures ∙ ap opposite is) in
+    subst (λ (xs : List Lit). IsWalked s c.args.stop c.args.place c.args.marking.now.marks.items xs c.args.walk.now.hints.items) (sym pushed)
+    (visit_stops s c.args.stop c.args.place c.args.marking.now.marks.items c.args.walk.now.lits.items c.args.walk.now.hints.items c.requires.marked.0 c.requires.marked.1 sound stands c.requires.marked.4 stops c.requires.walked)
 
 pub returns-in_ok-push-in-None-clause-searched : goal.returns-in_ok-push-in-None-clause-searched
 returns-in_ok-push-in-None-clause-searched c =
     let s : SolverForm = c.args.self.now in
     let sound : IsSound s = subst (λ (t : SolverForm). IsSound t) c.self.view_is c.self.invariant.sound in
     let lit : Lit = c.index-lit.result.now in
-    let at : (a : Assigned) × (assigned s lit.variable ≡ Some a) × (a.place ≡ c.args.place) × (true_lit lit.variable a ≡ lit) = at_place s sound c.args.place lit c.requires.within
+    let is : lit ≡ true_lit c.requires.marked.0 c.requires.marked.1 = marked_lit s c.args.marking.now.marks.items c.args.place lit sound c.requires.marked
     (read_place s c.self.inside.trail.items c.args.place lit (ap (λ (t : SolverForm). t.trail) c.self.view_is) c.requires.within c.index-lit.ensures) in
-    let stands : Stands s c.args.place lit.variable at.0 = record { is = at.1; there = at.2 } in
-    let pushed : c.push.new.self.items ≡ c.args.walk.now.lits.items ++ opposite (true_lit lit.variable at.0) ∷ [] =
-    c.in_ok-push-in-None.ensures.items ∙ ap (λ (l : Lit). c.args.walk.now.lits.items ++ l ∷ []) (c.negated.ensures ∙ ap opposite (sym at.3)) in
-    λ first conflict searched. subst (λ (xs : List Lit). IsSearched s conflict c.args.place c.args.walk.now.marks.items xs) (sym pushed)
-    (searched_stops s conflict c.args.place c.args.walk.now.marks.items c.args.walk.now.lits.items lit.variable at.0 sound stands searched)
+    let stands : Stands s c.args.place c.requires.marked.0 c.requires.marked.1 = record { is = c.requires.marked.2; there = c.requires.marked.3 } in
+    let pushed : c.push.new.self.items ≡ c.args.walk.now.lits.items ++ opposite (true_lit c.requires.marked.0 c.requires.marked.1) ∷ [] =
+    c.in_ok-push-in-None.ensures.items ∙ ap (λ (l : Lit). c.args.walk.now.lits.items ++ l ∷ []) (c.negated.ensures ∙ ap opposite is) in
+    λ first conflict searched. subst (λ (xs : List Lit). IsSearched s conflict c.args.place c.args.marking.now.marks.items xs) (sym pushed)
+    (searched_stops s conflict c.args.place c.args.marking.now.marks.items c.args.walk.now.lits.items c.requires.marked.0 c.requires.marked.1 sound stands searched)
 
-pub returns-in_ok-push-in-Some-clause-searched : goal.returns-in_ok-push-in-Some-clause-searched
-returns-in_ok-push-in-Some-clause-searched c =
+pub returns-in_ok-mark_all-in-Some-clause-walked : goal.returns-in_ok-mark_all-in-Some-clause-walked
+returns-in_ok-mark_all-in-Some-clause-walked c =
     let s : SolverForm = c.args.self.now in
     let sound : IsSound s = subst (λ (t : SolverForm). IsSound t) c.self.view_is c.self.invariant.sound in
-    let lit : Lit = c.index-lit.result.now in
-    let at : (a : Assigned) × (assigned s lit.variable ≡ Some a) × (a.place ≡ c.args.place) × (true_lit lit.variable a ≡ lit) = at_place s sound c.args.place lit c.requires.within
-    (read_place s c.self.inside.trail.items c.args.place lit (ap (λ (t : SolverForm). t.trail) c.self.view_is) c.requires.within c.index-lit.ensures) in
-    let stands : Stands s c.args.place lit.variable at.0 = record { is = at.1; there = at.2 } in
-    let marked : IsMarked c.args.walk.now.marks.items lit.variable = sym (c.is_marked.ensures ∙ ap (λ (ms : List Bool). get_or ms lit.variable false) c.as_slice.ensures.value) ∙ c.if-not-is_marked.false in
-    let goes : (at.0.reason ≡ Some c.in-Some.number) × GoesOn s c.args.stop c.args.walk.now.marks.items at.0 =
-    subst (λ (ms : List Bool). (at.0.reason ≡ Some c.in-Some.number) × GoesOn s c.args.stop ms at.0) c.as_slice-2.ensures.value (c.in-Some.ensures lit.variable at.0 at.1 at.2) in
-    let given : c.in-Some.number < length s.clauses = (sound.explained.forced lit.variable at.0 c.in-Some.number at.1 goes.0).0 in
+    let f : IsFollowing s c.args.stop c.args.marking.now.marks.items c.args.place c.in-Some.number = following s c.args.stop c.args.marking.now.marks.items c.args.place c.in-Some.number sound c.requires.marked
+    (subst (λ (ms : List Bool). Follows s c.args.stop ms c.args.place c.in-Some.number) c.as_slice.ensures.value c.in-Some.ensures) in
     let clause : c.lits-lits.result.now ≡ clause_at s.clauses c.in-Some.number = c.lits-lits.ensures.lits ∙ ap (λ (t : SolverForm). clause_at t.clauses c.in-Some.number) c.self.view_is in
-    let more : Marks c.args.walk.now.marks.items c.mark_all.new.marks (clause_at s.clauses c.in-Some.number) =
-    subst (λ (xs : List Lit). Marks c.args.walk.now.marks.items c.mark_all.new.marks xs) clause
-    (subst (λ (ms : List Bool). Marks ms c.mark_all.new.marks c.lits-lits.result.now) c.as_mut_slice.ensures.value c.mark_all.ensures) in
-    let written : (with_items c.args.walk.now.marks c.mark_all.new.marks).items ≡ c.mark_all.new.marks = with_items_is c.args.walk.now.marks c.mark_all.new.marks (omega (arith, more.size)) in
-    λ first conflict searched. subst (λ (ms : List Bool). IsSearched s conflict c.args.place ms c.args.walk.now.lits.items) (sym written)
-    (searched_follows s conflict c.args.place c.args.walk.now.marks.items c.mark_all.new.marks c.args.walk.now.lits.items lit.variable at.0 c.in-Some.number sound stands marked goes.0
-    (subst (λ (t : Stop). GoesOn s t c.args.walk.now.marks.items at.0) first goes.1) (c.requires.present first) more searched)
+    let more : Marks c.args.marking.now.marks.items c.mark_all.new.marking.marks.items (clause_at s.clauses c.in-Some.number) =
+    subst (λ (xs : List Lit). Marks c.args.marking.now.marks.items c.mark_all.new.marking.marks.items xs) clause c.in_ok-mark_all-in-Some.ensures.marked in
+    subst (λ (ns : List ℕ). IsWalked s c.args.stop c.args.place c.mark_all.new.marking.marks.items c.args.walk.now.lits.items ns) (sym c.in_ok-push-in-Some.ensures.items)
+    (visit_follows s c.args.stop c.args.place c.args.marking.now.marks.items c.mark_all.new.marking.marks.items c.args.walk.now.lits.items c.args.walk.now.hints.items f.variable f.value c.in-Some.number
+    sound f.stands f.marked f.reason f.goes c.requires.present more c.requires.walked)
 
-pub returns-in_ok-push-in-Some-clause-lowest : goal.returns-in_ok-push-in-Some-clause-lowest
-returns-in_ok-push-in-Some-clause-lowest c =
+pub returns-in_ok-mark_all-in-Some-clause-queued : goal.returns-in_ok-mark_all-in-Some-clause-queued
+returns-in_ok-mark_all-in-Some-clause-queued c =
     let s : SolverForm = c.args.self.now in
     let sound : IsSound s = subst (λ (t : SolverForm). IsSound t) c.self.view_is c.self.invariant.sound in
-    let lit : Lit = c.index-lit.result.now in
-    let at : (a : Assigned) × (assigned s lit.variable ≡ Some a) × (a.place ≡ c.args.place) × (true_lit lit.variable a ≡ lit) = at_place s sound c.args.place lit c.requires.within
-    (read_place s c.self.inside.trail.items c.args.place lit (ap (λ (t : SolverForm). t.trail) c.self.view_is) c.requires.within c.index-lit.ensures) in
-    let stands : Stands s c.args.place lit.variable at.0 = record { is = at.1; there = at.2 } in
-    let marked : IsMarked c.args.walk.now.marks.items lit.variable = sym (c.is_marked.ensures ∙ ap (λ (ms : List Bool). get_or ms lit.variable false) c.as_slice.ensures.value) ∙ c.if-not-is_marked.false in
-    let goes : (at.0.reason ≡ Some c.in-Some.number) × GoesOn s c.args.stop c.args.walk.now.marks.items at.0 =
-    subst (λ (ms : List Bool). (at.0.reason ≡ Some c.in-Some.number) × GoesOn s c.args.stop ms at.0) c.as_slice-2.ensures.value (c.in-Some.ensures lit.variable at.0 at.1 at.2) in
-    let given : c.in-Some.number < length s.clauses = (sound.explained.forced lit.variable at.0 c.in-Some.number at.1 goes.0).0 in
+    let f : IsFollowing s c.args.stop c.args.marking.now.marks.items c.args.place c.in-Some.number = following s c.args.stop c.args.marking.now.marks.items c.args.place c.in-Some.number sound c.requires.marked
+    (subst (λ (ms : List Bool). Follows s c.args.stop ms c.args.place c.in-Some.number) c.as_slice.ensures.value c.in-Some.ensures) in
     let clause : c.lits-lits.result.now ≡ clause_at s.clauses c.in-Some.number = c.lits-lits.ensures.lits ∙ ap (λ (t : SolverForm). clause_at t.clauses c.in-Some.number) c.self.view_is in
-    let more : Marks c.args.walk.now.marks.items c.mark_all.new.marks (clause_at s.clauses c.in-Some.number) =
-    subst (λ (xs : List Lit). Marks c.args.walk.now.marks.items c.mark_all.new.marks xs) clause
-    (subst (λ (ms : List Bool). Marks ms c.mark_all.new.marks c.lits-lits.result.now) c.as_mut_slice.ensures.value c.mark_all.ensures) in
-    let written : (with_items c.args.walk.now.marks c.mark_all.new.marks).items ≡ c.mark_all.new.marks = with_items_is c.args.walk.now.marks c.mark_all.new.marks (omega (arith, more.size)) in
-    let of_lits : IsLowestOf s (clause_at s.clauses c.in-Some.number) c.args.walk.now.lowest c.lowest_of-walk.result = subst (λ (xs : List Lit). IsLowestOf s xs c.args.walk.now.lowest c.lowest_of-walk.result) clause c.lowest_of-walk.ensures in
-    subst (λ (ms : List Bool). IsLowest s ms c.lowest_of-walk.result) (sym written) (lowest_marked s c.args.walk.now.marks.items c.mark_all.new.marks (clause_at s.clauses c.in-Some.number) c.args.walk.now.lowest c.lowest_of-walk.result more c.requires.lowest of_lits)
+    c.in_ok-mark_all-in-Some.ensures.queued c.args.place (subst (λ (xs : List Lit). Each (IsMarkedOrBefore s c.args.place c.args.marking.now.marks.items) xs) (sym clause) f.before) c.requires.queued
+
+pub returns-in_ok-mark_all-in-Some-clause-searched : goal.returns-in_ok-mark_all-in-Some-clause-searched
+returns-in_ok-mark_all-in-Some-clause-searched c =
+    let s : SolverForm = c.args.self.now in
+    let sound : IsSound s = subst (λ (t : SolverForm). IsSound t) c.self.view_is c.self.invariant.sound in
+    let f : IsFollowing s c.args.stop c.args.marking.now.marks.items c.args.place c.in-Some.number = following s c.args.stop c.args.marking.now.marks.items c.args.place c.in-Some.number sound c.requires.marked
+    (subst (λ (ms : List Bool). Follows s c.args.stop ms c.args.place c.in-Some.number) c.as_slice.ensures.value c.in-Some.ensures) in
+    let clause : c.lits-lits.result.now ≡ clause_at s.clauses c.in-Some.number = c.lits-lits.ensures.lits ∙ ap (λ (t : SolverForm). clause_at t.clauses c.in-Some.number) c.self.view_is in
+    let more : Marks c.args.marking.now.marks.items c.mark_all.new.marking.marks.items (clause_at s.clauses c.in-Some.number) =
+    subst (λ (xs : List Lit). Marks c.args.marking.now.marks.items c.mark_all.new.marking.marks.items xs) clause c.in_ok-mark_all-in-Some.ensures.marked in
+    λ first conflict searched. searched_follows s conflict c.args.place c.args.marking.now.marks.items c.mark_all.new.marking.marks.items c.args.walk.now.lits.items f.variable f.value c.in-Some.number sound f.stands f.marked f.reason
+    (subst (λ (t : Stop). GoesOn s t c.args.marking.now.marks.items f.value) first f.goes) (c.requires.present first) more searched
+
+pub returns-in_ok-mark_all-in-Some-clause-lowest : goal.returns-in_ok-mark_all-in-Some-clause-lowest
+returns-in_ok-mark_all-in-Some-clause-lowest c = lowest_marked c.args.self.now c.args.marking.now.marks.items c.mark_all.new.marking.marks.items c.lits-lits.result.now c.args.walk.now.lowest c.lowest_of-walk.result c.in_ok-mark_all-in-Some.ensures.marked c.requires.lowest c.lowest_of-walk.ensures

@@ -1,11 +1,16 @@
+use Rattle.std.proofs.Common.{ap, length}
+use Rattle.gp_sat.specs.State.{SolverForm}
 use Rattle.gp_sat.specs.Stepping.{IsReady}
 use Rattle.gp_sat.proofs.Outer.{ready_ordered}
+use Rattle.gp_sat.proofs.Wholes.{whole}
 use Rattle.gp_sat.proofs.solver.Solver.set_used.Goals as goal
 
 pub invariant_of-self : goal.invariant_of-self
-invariant_of-self c = ready_ordered c.self.inside.kernel c.set_used.new.self c.self.inside.watches (c.self.inside.kernel.order) (c.args.count) c.set_used.ensures c.self.invariant
+invariant_of-self c =
+    whole c.self.inside.kernel c.set_used.new.self c.self.inside.watches c.self.inside.watches c.self.inside.marking (ap (λ (t : SolverForm). length t.values) c.set_used.ensures) c.self.invariant
+    (ready_ordered c.self.inside.kernel c.set_used.new.self c.self.inside.watches (c.self.inside.kernel.order) (c.args.count) c.set_used.ensures c.self.invariant.ready)
 
 pub returns-clause-sound : goal.returns-clause-sound
 returns-clause-sound c =
-    let ready : IsReady c.set_used.new.self c.self.inside.watches = ready_ordered c.self.inside.kernel c.set_used.new.self c.self.inside.watches (c.self.inside.kernel.order) (c.args.count) c.set_used.ensures c.self.invariant in
+    let ready : IsReady c.set_used.new.self c.self.inside.watches = ready_ordered c.self.inside.kernel c.set_used.new.self c.self.inside.watches (c.self.inside.kernel.order) (c.args.count) c.set_used.ensures c.self.invariant.ready in
     ready.idle.sound

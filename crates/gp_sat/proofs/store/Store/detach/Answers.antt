@@ -1,4 +1,4 @@
-use Rattle.std.proofs.Common.{◌≡◌, ◌∙◌, ap, ◌<◌, false, List, length, arith}
+use Rattle.std.proofs.Common.{◌∙◌, ap, ◌<◌, false, List, length, arith}
 use Rattle.std.specs.Prelude.{slice_set}
 use Rattle.std.proofs.lemmas.List.{length-map}
 use Rattle.gp_sat.specs.Stored.{Stored}

@@ -1,4 +1,4 @@
-use Rattle.std.proofs.Common.{◌≡◌, refl, ◌∙◌, ap, true, List, [], ◌∷◌, ◌++◌, arith}
+use Rattle.std.proofs.Common.{◌∙◌, ap, true, List, [], ◌∷◌, ◌++◌, arith}
 use Rattle.gp_clause.specs.declared.lit.Lit.{Lit}
 use Rattle.gp_sat.specs.declared.store.Range.{Range}
 use Rattle.gp_sat.specs.Stored.{Stored}

@@ -1,7 +1,8 @@
 use Rattle.std.proofs.Common.{refl, ◌∙◌, ap, subst, Bool, List, [], ◌∷◌, ◌++◌}
 use Rattle.gp_derivation.specs.declared.log.LogEntry.{LogEntry}
 use Rattle.gp_search.specs.Moves.{RestsOnMarked, raised}
-use Rattle.gp_search.proofs.Logging.{logged_more, entry_of}
+use Rattle.gp_search.proofs.Logging.{logged_more}
+use Rattle.gp_search.proofs.Taught.{entry_of}
 use Rattle.gp_search.proofs.engine.Engine.keep.Goals as goal
 
 pub returns-clause-turning : goal.returns-clause-turning
@@ -15,7 +16,11 @@ returns-clause-turning c =
       log = c.push_reserved-2.ensures.items ∙ ap (λ (es : List LogEntry). es ++ entry_of c.args.step ∷ []) c.reserve.ensures.items;
       pure = c.push_reserved.ensures.items ∙ ap (λ (bs : List Bool). bs ++ c.is_pure-pure.result ∷ []) c.reserve-2.ensures.items;
       begins = refl;
+      learned = refl;
+      tester = refl;
       asserted = refl;
       assumed = refl;
+      levels = refl;
+      next = refl;
     })
-    (λ is. subst P c.reserve-2.ensures.items (c.is_pure-pure.ensures is)) c.requires.passes c.requires.few
+    (λ is. subst P c.reserve-2.ensures.items (c.is_pure-pure.ensures is)) c.requires.lesson c.lits.ensures.rising c.requires.few

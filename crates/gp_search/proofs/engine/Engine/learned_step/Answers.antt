@@ -1,21 +1,37 @@
-use Rattle.std.proofs.Common.{sym, subst, ℕ, List, length, arith}
+use Rattle.std.proofs.Common.{◌≡◌, ◌∙◌, sym, subst, ◌<◌, List, length, All, arith}
 use Rattle.gp_clause.specs.declared.lit.Lit.{Lit}
-use Rattle.gp_derivation.specs.Log.{LearnedPasses}
-use Rattle.gp_sat.specs.Learning.{IsFirstPoint}
-use Rattle.gp_search.proofs.LearnedSteps.{learned_passes}
+use Rattle.gp_sat.specs.Learning.{IsHighestBelow}
+use Rattle.gp_search.specs.declared.engine.Engine.{Engine}
+use Rattle.gp_search.specs.Inside.{IsTurning}
+use Rattle.gp_search.specs.Moves.{IsStudied, IsTightened}
 use Rattle.gp_search.proofs.Logging.{lesson_below}
+use Rattle.gp_search.proofs.Teaching.{false_within}
 use Rattle.gp_search.proofs.engine.Engine.learned_step.Goals as goal
 
-pub returns : goal.returns
-returns c =
-    let P : List Lit → Type 0 = λ ls. IsFirstPoint c.args.self.now.solver ls c.in_ok-learned.learned in
-    let found : IsFirstPoint c.args.self.now.solver c.args.conflict.now.lits.items c.in_ok-learned.learned = subst P c.as_slice.ensures.value c.in_ok-learned.ensures in
-    let Q : List ℕ → Type 0 = λ hints. LearnedPasses c.args.problem.now c.args.query.now.locals c.args.self.now.log.items c.args.self.now.begins (length c.args.self.now.log.items) (record { clause = c.in_ok-learned.learned.clause; hints = hints }) in
+pub tighten-requires-clause-turning : goal.tighten-requires-clause-turning
+tighten-requires-clause-turning c = subst (λ (e : Engine). IsTurning c.args.problem.now c.args.query.now e) (sym c.study.ensures.same) c.requires.turning
+
+pub tighten-requires-clause-above : goal.tighten-requires-clause-above
+tighten-requires-clause-above c = subst (λ (e : Engine). e.assumed < e.solver.level) (sym c.study.ensures.same) c.requires.above
+
+pub tighten-requires-clause-studied : goal.tighten-requires-clause-studied
+tighten-requires-clause-studied c = subst (λ (e : Engine). IsStudied c.args.problem.now c.args.query.now e c.in_ok-found.found) (sym c.study.ensures.same) c.in_ok-found.ensures.studied
+
+pub highest_below-level-requires : goal.highest_below-level-requires
+highest_below-level-requires c =
+    let P : List Lit → Type 0 = λ ls. All (λ lit. lit.variable < length c.tighten.new.self.solver.values) ls in
+    let Q : Engine → Type 0 = λ e. All (λ lit. lit.variable < length e.solver.values) c.in_ok-step.step.clause in
+    subst P (sym c.lits.ensures.lits) (subst Q (sym c.tighten.ensures.same) (false_within c.study.new.self.solver c.in_ok-step.step.clause c.in_ok-step.ensures.tightened.all_false))
+
+pub returns-clause-step : goal.returns-clause-step
+returns-clause-step c =
+    let same : c.tighten.new.self ≡ c.args.self.now = c.tighten.ensures.same ∙ c.study.ensures.same in
+    let P : List Lit → Type 0 = λ ls. IsHighestBelow c.tighten.new.self.solver ls c.highest_below-level.result in
+    let highest : IsHighestBelow c.args.self.now.solver c.in_ok-step.step.clause c.highest_below-level.result =
+    let Q : Engine → Type 0 = λ e. IsHighestBelow e.solver c.in_ok-step.step.clause c.highest_below-level.result in
+    subst Q same (subst P c.lits.ensures.lits c.highest_below-level.ensures) in
     record {
-      passes = subst Q (sym c.in_ok-add_number.ensures)
-          (learned_passes c.args.problem.now c.args.query.now c.args.self.now c.args.conflict.now.lits.items c.args.conflict.now.number c.in_ok-learned.learned.clause c.in_ok-learned.learned.hints c.requires.turning c.requires.conflict found.learned);
-      all_false = found.learned.all_false;
-      point = found.point;
-      highest = found.level;
-      below = lesson_below c.args.self.now.solver c.in_ok-learned.learned.clause c.in_ok-learned.learned.level (omega (arith, c.requires.above)) found.level;
+      tightened = subst (λ (e : Engine). IsTightened c.args.problem.now c.args.query.now e c.in_ok-step.step) c.study.ensures.same c.in_ok-step.ensures.tightened;
+      highest = highest;
+      below = lesson_below c.args.self.now.solver c.in_ok-step.step.clause c.highest_below-level.result (omega (arith, c.requires.above)) highest;
     }

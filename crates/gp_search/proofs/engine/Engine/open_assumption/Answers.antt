@@ -1,24 +1,29 @@
-use Rattle.std.proofs.Common.{◌<◌, false, arith}
-use Rattle.std.proofs.lemmas.List.Elements.{All-more}
+use Rattle.std.proofs.Common.{refl, ap, subst, ◌+◌, ◌<◌, ◌≤◌, List, All, get_or, length, false, arith}
+use Rattle.std.proofs.lemmas.List.{take_all}
+use Rattle.std.proofs.lemmas.List.Elements.{All-contains}
 use Rattle.gp_clause.specs.declared.lit.Lit.{Lit}
 use Rattle.gp_sat.specs.State.{assigned}
 use Rattle.gp_sat.specs.Looking.{IsTrueLit}
-use Rattle.gp_search.proofs.Choosing.{all_seen}
+use Rattle.gp_search.specs.declared.engine.Engine.{Engine}
+use Rattle.gp_search.proofs.Trails.{passed_next}
 use Rattle.gp_search.proofs.engine.Engine.open_assumption.Goals as goal
 
 -- the literal that stands for none
 abbrev no_lit : Lit
 no_lit = record { variable = 0; positive = false }
 
-pub returns-then-self-level : goal.returns-then-self-level
-returns-then-self-level c = λ lit among.
-    let above : c.args.self.now.assumed < c.args.self.now.solver.level = omega (arith, c.if-self-level.true, c.level.ensures) in
-    let one = c.requires.assuming.all_true above lit among in (one.0, one.1, one.2)
+pub loop-self-preserved : goal.loop-self-preserved
+loop-self-preserved c =
+    let within : c.loop-self.self.next < length c.args.query.now.assumed = omega (arith, c.loop-self-test.true, ap (λ (ls : List Lit). length ls) c.as_slice-assumed.ensures) in
+    let P : List Lit → Type 0 = λ ls. IsTrueLit (assigned c.loop-self.self.solver) (get_or ls c.loop-self.self.next no_lit) in
+    record {
+      turning = passed_next c.args.problem.now c.args.query.now c.loop-self.self no_lit _ c.loop-self.invariant.turning within (subst P c.as_slice-assumed.ensures (c.is_true.ensures.0 c.if-not-is_true.false)) refl;
+      same = ap (λ (e : Engine). record e { next = c.loop-self.self.next + 1 }) c.loop-self.invariant.same;
+    }
 
-pub loop-lit-preserved : goal.loop-lit-preserved
-loop-lit-preserved c =
-    All-more (IsTrueLit (assigned c.args.self.now.solver)) c.as_slice-lit-items.result.now c.loop-lit.lit-index no_lit c.loop-lit-test.true c.loop-lit.invariant
-    (c.is_true.ensures.0 c.if-not-is_true.false)
-
-pub returns : goal.returns
-returns c = all_seen (IsTrueLit (assigned c.args.self.now.solver)) c.args.query.now.assumed c.as_slice-lit-items.result.now c.loop-lit.lit-index c.loop-lit.invariant c.as_slice-lit-items.ensures c.loop-lit-test.false
+pub returns-clause-open : goal.returns-clause-open
+returns-clause-open c = λ lit among.
+    let past : length c.args.query.now.assumed ≤ c.loop-self.self.next = omega (arith, c.loop-self-test.false, ap (λ (ls : List Lit). length ls) c.as_slice-assumed.ensures) in
+    let all : All (IsTrueLit (assigned c.loop-self.self.solver)) c.args.query.now.assumed =
+    let P : List Lit → Type 0 = λ ls. All (IsTrueLit (assigned c.loop-self.self.solver)) ls in subst P (take_all c.loop-self.self.next c.args.query.now.assumed past) c.loop-self.invariant.turning.levels.passed in
+    All-contains (IsTrueLit (assigned c.loop-self.self.solver)) c.args.query.now.assumed lit all among

@@ -1,0 +1,288 @@
+-- Numbers of symbols: a symbol keeps its number, and a literal of a numbered clause is one of the clause.
+use Rattle.std.proofs.Common.{ℕ, zero, suc, ◌≡◌, ◌⊎◌, ◌<◌, ◌+◌, ap, sym, ◌∙◌, refl, subst, inl, inr, List, [], ◌∷◌, ◌++◌, Bool, true, false, arith, eq-eqb, eqb-true, length, length-append}
+use Rattle.std.specs.Prelude.{Some, slice_get, ◌==◌, ◌&&◌, if◌then◌else◌, nat_lt, map, drop}
+use Rattle.std.specs.List.{list_any}
+use Rattle.std.proofs.lemmas.Bool.{and_from, and_parts, cases_Bool, cases_eq, false≢true, ne_eqb}
+use Rattle.gp_clause.specs.declared.lit.Lit.{Lit}
+use Rattle.gp_clause.specs.Lit.{lit_eq}
+use Rattle.gp_constraint.specs.declared.symbol.Symbol.{Symbol}
+use Rattle.gp_constraint.specs.declared.symbol.Symbol.TheVariants.{Executed, Order, Choice, StartChoice, First, Span}
+use Rattle.gp_constraint.specs.declared.symbol.SymbolicLit.{SymbolicLit}
+use Rattle.gp_constraint.specs.HasLaws.{Has, has_left, has_right, parts_back}
+use Rattle.gp_constraint.specs.Numbering.{lits_onto, names_after, names_of, number_of, numbered_lit, point_names, with_lit, with_mention, with_mentions}
+use Rattle.gp_constraint.specs.Symbols.{kind_of, symbol_eq}
+
+-- symbols
+pub symbol_same : (a b : Symbol) → symbol_eq a b ≡ true → a ≡ b
+symbol_same (Executed a) (Executed b) e = ap Executed (eqb-true a b e)
+symbol_same (Order a b) (Order c d) e = let p = and_parts (a == c) (b == d) e in ap (λ n. Order n b) (eqb-true a c p.0) ∙ ap (Order c) (eqb-true b d p.1)
+symbol_same (Choice a b) (Choice c d) e = let p = and_parts (a == c) (b == d) e in ap (λ n. Choice n b) (eqb-true a c p.0) ∙ ap (Choice c) (eqb-true b d p.1)
+symbol_same (StartChoice a) (StartChoice b) e = ap StartChoice (eqb-true a b e)
+symbol_same (First a b) (First c d) e = let p = and_parts (a == c) (b == d) e in ap (λ n. First n b) (eqb-true a c p.0) ∙ ap (First c) (eqb-true b d p.1)
+symbol_same (Span a b c) (Span d f g) e =
+    let p = and_parts (a == d) (b == f && c == g) e in
+    let q = and_parts (b == f) (c == g) p.1 in
+    ap (λ n. Span n b c) (eqb-true a d p.0) ∙ ap (λ n. Span d n c) (eqb-true b f q.0) ∙ ap (Span d f) (eqb-true c g q.1)
+symbol_same _ _ e = absurd cc
+
+pub symbol_itself : (a : Symbol) → symbol_eq a a ≡ true
+symbol_itself (Executed a) = eq-eqb a a refl
+symbol_itself (Order a b) = and_from (a == a) (b == b) (eq-eqb a a refl) (eq-eqb b b refl)
+symbol_itself (Choice a b) = and_from (a == a) (b == b) (eq-eqb a a refl) (eq-eqb b b refl)
+symbol_itself (StartChoice a) = eq-eqb a a refl
+symbol_itself (First a b) = and_from (a == a) (b == b) (eq-eqb a a refl) (eq-eqb b b refl)
+symbol_itself (Span a b c) = and_from (a == a) (b == b && c == c) (eq-eqb a a refl) (and_from (b == b) (c == c) (eq-eqb b b refl) (eq-eqb c c refl))
+
+at_first : (s name : Symbol) (names : List Symbol) → symbol_eq s name ≡ true → number_of (name ∷ names) s ≡ 0
+at_first s name names e = rw e refl
+
+pub after_first : (s name : Symbol) (names : List Symbol) → symbol_eq s name ≡ false → number_of (name ∷ names) s ≡ suc (number_of names s)
+after_first s name names e =
+    let step : number_of (name ∷ names) s ≡ 1 + number_of names s = rw e refl in
+    omega (arith, step)
+
+pub later_has : (s name : Symbol) (names : List Symbol) → symbol_eq s name ≡ false → Has s (name ∷ names) → Has s names
+later_has s name names e (inl same) = absurd (false≢true (sym e ∙ subst (λ n. symbol_eq s n ≡ true) (sym same) (symbol_itself s)))
+later_has s name names e (inr i) = i
+
+-- a symbol stands at its number
+pub name_there : (s : Symbol) (names : List Symbol) → Has s names → slice_get names (number_of names s) ≡ Some s
+name_there s [] i = absurd i
+name_there s (name ∷ names) i =
+    elim (cases_Bool (symbol_eq s name)) [
+      | inl same ↦ rw (at_first s name names same) (ap Some (sym (symbol_same s name same)))
+      | inr differ ↦ rw (after_first s name names differ) (name_there s names (later_has s name names differ i))
+    ]
+
+pub number_within : (s : Symbol) (names : List Symbol) → Has s names → number_of names s < length names
+number_within s [] i = absurd i
+number_within s (name ∷ names) i =
+    elim (cases_Bool (symbol_eq s name)) [
+      | inl same ↦ let here = at_first s name names same in omega (arith, here)
+      | inr differ ↦
+          let there = after_first s name names differ in
+          let rest = number_within s names (later_has s name names differ i) in
+          omega (arith, there, rest)
+    ]
+
+number_kept : (s : Symbol) (names more : List Symbol) → Has s names → number_of (names ++ more) s ≡ number_of names s
+number_kept s [] more i = absurd i
+number_kept s (name ∷ names) more i =
+    elim (cases_Bool (symbol_eq s name)) [
+      | inl same ↦ at_first s name (names ++ more) same ∙ sym (at_first s name names same)
+      | inr differ ↦
+          after_first s name (names ++ more) differ ∙ ap suc (number_kept s names more (later_has s name names differ i))
+          ∙ sym (after_first s name names differ)
+    ]
+
+number_pushed : (s : Symbol) (names : List Symbol) → number_of (names ++ s ∷ []) s ≡ number_of names s
+number_pushed s [] = at_first s s [] (symbol_itself s)
+number_pushed s (name ∷ names) =
+    elim (cases_Bool (symbol_eq s name)) [
+      | inl same ↦ at_first s name (names ++ s ∷ []) same ∙ sym (at_first s name names same)
+      | inr differ ↦ after_first s name (names ++ s ∷ []) differ ∙ ap suc (number_pushed s names) ∙ sym (after_first s name names differ)
+    ]
+
+any_has : (s : Symbol) (names : List Symbol) → list_any (symbol_eq s) names ≡ true → Has s names
+any_has s [] e = cc
+any_has s (name ∷ names) e =
+    elim (cases_Bool (symbol_eq s name)) [
+      | inl same ↦ inl (sym (symbol_same s name same))
+      | inr differ ↦ inr (any_has s names (rw differ at e))
+    ]
+
+-- names grow
+pub record Grows (names more : List Symbol) : Type 0 where
+  pub rest : List Symbol
+  pub is : more ≡ names ++ rest
+
+append_nil : (names : List Symbol) → names ≡ names ++ []
+append_nil [] = refl
+append_nil (name ∷ names) = ap (λ xs. name ∷ xs) (append_nil names)
+
+append_more : (xs ys zs : List Symbol) → (xs ++ ys) ++ zs ≡ xs ++ (ys ++ zs)
+append_more [] ys zs = refl
+append_more (x ∷ xs) ys zs = ap (λ rest. x ∷ rest) (append_more xs ys zs)
+
+pub grows_none : (names : List Symbol) → Grows names names
+grows_none names = record { rest = []; is = append_nil names }
+
+pub grows_on : (a b c : List Symbol) → Grows a b → Grows b c → Grows a c
+grows_on a b c one other = record {
+  rest = one.rest ++ other.rest;
+  is = other.is ∙ ap (λ xs. xs ++ other.rest) one.is ∙ append_more a one.rest other.rest;
+}
+
+pub has_kept : (s : Symbol) (names more : List Symbol) → Grows names more → Has s names → Has s more
+has_kept s names more g i = subst (λ ns. Has s ns) (sym g.is) (has_left s names g.rest i)
+
+pub number_stays : (s : Symbol) (names more : List Symbol) → Grows names more → Has s names → number_of more s ≡ number_of names s
+number_stays s names more g i = ap (λ ns. number_of ns s) g.is ∙ number_kept s names g.rest i
+
+-- what a mention does
+pub record Mentioned (names : List Symbol) (s : Symbol) (after : List Symbol) : Type 0 where
+  pub grows : Grows names after
+  pub there : Has s after
+  pub number : number_of after s ≡ number_of names s
+
+pub mention : (names : List Symbol) (s : Symbol) → Mentioned names s (with_mention names s)
+mention names s =
+    elim (cases_Bool (list_any (symbol_eq s) names)) [
+      | inl old ↦
+          let same : with_mention names s ≡ names = rw old refl in
+          subst (λ ns. Mentioned names s ns) (sym same) (record { grows = grows_none names; there = any_has s names old; number = refl })
+      | inr new ↦
+          let same : with_mention names s ≡ names ++ s ∷ [] = rw new refl in
+          subst (λ ns. Mentioned names s ns) (sym same)
+          (record { grows = record { rest = s ∷ []; is = refl }; there = has_right s names (s ∷ []) (inl refl); number = number_pushed s names })
+    ]
+
+pub after_grows : (names : List Symbol) (lits : List SymbolicLit) → Grows names (names_after names lits)
+after_grows names [] = grows_none names
+after_grows names (lit ∷ lits) =
+    grows_on names (with_mention names lit.symbol) (names_after (with_mention names lit.symbol) lits) (mention names lit.symbol).grows (after_grows (with_mention names lit.symbol) lits)
+
+pub of_grows : (names : List Symbol) (clauses : List (List SymbolicLit)) → Grows names (names_of names clauses)
+of_grows names [] = grows_none names
+of_grows names (clause ∷ clauses) =
+    grows_on names (names_after names clause) (names_of (names_after names clause) clauses) (after_grows names clause) (of_grows (names_after names clause) clauses)
+
+pub mentions_grow : (names symbols : List Symbol) → Grows names (with_mentions names symbols)
+mentions_grow names [] = grows_none names
+mentions_grow names (s ∷ symbols) =
+    grows_on names (with_mention names s) (with_mentions (with_mention names s) symbols) (mention names s).grows (mentions_grow (with_mention names s) symbols)
+
+-- each symbol that is mentioned is a name
+pub mentions_have : (s : Symbol) (names symbols : List Symbol) → Has s symbols → Has s (with_mentions names symbols)
+mentions_have s names [] i = absurd i
+mentions_have s names (first ∷ symbols) (inl same) =
+    has_kept s (with_mention names first) (with_mentions (with_mention names first) symbols) (mentions_grow (with_mention names first) symbols)
+    (subst (λ n. Has n (with_mention names first)) same (mention names first).there)
+mentions_have s names (first ∷ symbols) (inr i) = mentions_have s (with_mention names first) symbols i
+
+-- a literal of a clause is one that was put there
+pub has_with : (l lit : Lit) (lits : List Lit) → Has l (with_lit lits lit) → (lit ≡ l) ⊎ Has l lits
+has_with l lit [] (inl same) = inl same
+has_with l lit [] (inr none) = absurd none
+has_with l lit (head ∷ rest) i =
+    elim (cases_Bool (nat_lt lit.variable head.variable)) [
+      | inl less ↦ (let there : Has l (lit ∷ head ∷ rest) = rw less at i in there)
+      | inr more ↦
+          let told : Has l (if lit_eq lit head then head ∷ rest else head ∷ with_lit rest lit) = rw more at i in
+          elim (cases_Bool (lit_eq lit head)) [
+            | inl same ↦ let there : Has l (head ∷ rest) = rw same at told in inr there
+            | inr differ ↦
+                let there : Has l (head ∷ with_lit rest lit) = rw differ at told in
+                elim there [
+                  | inl here ↦ inr (inl here)
+                  | inr later ↦ elim (has_with l lit rest later) [
+                    | inl is ↦ inl is
+                    | inr old ↦ inr (inr old)
+                  ]
+                ]
+          ]
+    ]
+
+-- a literal of a numbered clause is one of the clause, with the number that its symbol has in the end
+pub record Stems (final : List Symbol) (lits : List SymbolicLit) (l : Lit) : Type 0 where
+  pub lit : SymbolicLit
+  pub own : Has lit lits
+  pub named : Has lit.symbol final
+  pub is : numbered_lit final lit ≡ l
+
+pub with_variable : (n m : ℕ) (positive : Bool) → n ≡ m → ◌≡◌ {A = Lit} (record { variable = n; positive = positive }) (record { variable = m; positive = positive })
+with_variable n m positive same = λ i. record { variable = same i; positive = positive }
+
+pub onto_stems : (final : List Symbol) (l : Lit) (done : List Lit) (names : List Symbol) (lits : List SymbolicLit) → Grows (names_after names lits) final
+    → Has l (lits_onto done names lits) → Has l done ⊎ Stems final lits l
+onto_stems final l done names [] g i = inl i
+onto_stems final l done names (lit ∷ lits) g i =
+    let next : List Symbol = with_mention names lit.symbol in
+    elim (onto_stems final l (with_lit done (numbered_lit names lit)) next lits g i) [
+      | inr s ↦ inr (record { lit = s.lit; own = inr s.own; named = s.named; is = s.is })
+      | inl before ↦ elim (has_with l (numbered_lit names lit) done before) [
+        | inr old ↦ inl old
+        | inl is ↦
+            let m = mention names lit.symbol in
+            let grown : Grows next final = grows_on next (names_after next lits) final (after_grows next lits) g in
+            let same : number_of final lit.symbol ≡ number_of names lit.symbol = number_stays lit.symbol next final grown m.there ∙ m.number in
+            inr (record {
+              lit = lit;
+              own = inl refl;
+              named = has_kept lit.symbol next final grown m.there;
+              is = with_variable (number_of final lit.symbol) (number_of names lit.symbol) lit.positive same ∙ is;
+            })
+      ]
+    ]
+
+-- the kinds of names
+pub kind_there : (names : List Symbol) (k : ℕ) (s : Symbol) → slice_get names k ≡ Some s → slice_get (map kind_of names) k ≡ Some (kind_of s)
+kind_there [] k s e = cc
+kind_there (name ∷ names) zero s e = let same : name ≡ s = cc in ap (λ n. Some (kind_of n)) same
+kind_there (name ∷ names) (suc k) s e = kind_there names k s e
+
+dropped : (names rest : List Symbol) → drop (length names) (names ++ rest) ≡ rest
+dropped [] rest = refl
+dropped (name ∷ names) rest = dropped names rest
+
+map_parts : (names rest : List Symbol) → map kind_of names ++ map kind_of rest ≡ map kind_of (names ++ rest)
+map_parts [] rest = refl
+map_parts (name ∷ names) rest = ap (λ kinds. kind_of name ∷ kinds) (map_parts names rest)
+
+-- the kinds of the first names and of those after them are those of all
+pub all_kinds : (names more : List Symbol) → Grows names more → map kind_of names ++ map kind_of (drop (length names) more) ≡ map kind_of more
+all_kinds names more g =
+    let rest : drop (length names) more ≡ g.rest = ap (drop (length names)) g.is ∙ dropped names g.rest in
+    ap (λ ns. map kind_of names ++ map kind_of ns) rest ∙ map_parts names g.rest ∙ ap (map kind_of) (sym g.is)
+
+-- each point has a name, at its own number
+pub point_named : (k n : ℕ) → k < n → Has (Executed k) (point_names n)
+point_named k zero less = absurd (omega (arith, less))
+point_named k (suc n) less =
+    elim (cases_eq n k) [
+      | inl same ↦ has_right (Executed k) (point_names n) (Executed n ∷ []) (inl (ap Executed same))
+      | inr apart ↦ has_left (Executed k) (point_names n) (Executed n ∷ []) (point_named k n (omega arith))
+    ]
+
+pub size_names : (n : ℕ) → length (point_names n) ≡ n
+size_names zero = refl
+size_names (suc n) =
+    let rest = size_names n in
+    let joined = length-append (point_names n) (Executed n ∷ []) in
+    omega (arith, rest, joined)
+
+new_name : (s : Symbol) (names : List Symbol) → ((name : Symbol) → Has name names → symbol_eq s name ≡ false) → number_of (names ++ s ∷ []) s ≡ length names
+new_name s [] new = at_first s s [] (symbol_itself s)
+new_name s (name ∷ names) new =
+    let step = after_first s name (names ++ s ∷ []) (new name (inl refl)) in
+    let rest = new_name s names (λ other i. new other (inr i)) in
+    omega (arith, step, rest)
+
+points_below : (n : ℕ) (name : Symbol) → Has name (point_names n) → (k : ℕ) × (k < n) × (name ≡ Executed k)
+points_below zero name i = absurd i
+points_below (suc n) name i =
+    elim (parts_back name (point_names n) (Executed n ∷ []) i) [
+      | inl early ↦ let rest = points_below n name early in let less = rest.1 in (rest.0, omega (arith, less), rest.2)
+      | inr last ↦ elim last [
+        | inl same ↦ (n, omega arith, sym same)
+        | inr none ↦ absurd none
+      ]
+    ]
+
+pub point_number : (k n : ℕ) → k < n → number_of (point_names n) (Executed k) ≡ k
+point_number k zero less = absurd (omega (arith, less))
+point_number k (suc n) less =
+    elim (cases_eq n k) [
+      | inl same ↦
+          let new = new_name (Executed n) (point_names n) (λ name i.
+          let p = points_below n name i in
+          let below = p.1 in
+          let apart : (n == p.0) ≡ false = ne_eqb n p.0 (λ e. absurd (omega (arith, e, below))) in
+          subst (λ (s : Symbol). symbol_eq (Executed n) s ≡ false) (sym p.2) apart) in
+          let size = size_names n in
+          let here : number_of (point_names (suc n)) (Executed n) ≡ n = new ∙ size in
+          subst (λ (m : ℕ). number_of (point_names (suc n)) (Executed m) ≡ m) same here
+      | inr apart ↦
+          let below : k < n = omega arith in
+          number_kept (Executed k) (point_names n) (Executed n ∷ []) (point_named k n below) ∙ point_number k n below
+    ]

@@ -1,0 +1,39 @@
+ghost use Rattle.std.specs.Prelude.{◌≡◌, ◌≢◌, Err};
+ghost use Rattle.gp_constraint.specs.Base.{all_families};
+ghost use Rattle.gp_constraint.specs.Adding.{limited};
+
+use crate::adding::SymbolicClauses;
+use crate::fault::Full;
+use crate::held_locks::held_locks;
+use crate::joins::joins;
+use crate::points::Points;
+use crate::program_order::program_order;
+use crate::reads::{choices, reads, start_choices};
+use crate::sections::sections;
+use crate::start_values::StartValues;
+use crate::starts::starts;
+use gp_clause::Row;
+use gp_window::Window;
+use std::alloc::Global;
+
+/// All clauses of a window over symbols. The time is that of the clauses, of the events, and of a look at the writes of
+/// its variable for each read and at the takes of its lock for each take.
+pub fn all_families(
+    alloc: Global,
+    window: &Window,
+    points: &Points,
+) -> Result<SymbolicClauses, Full>
+    ensures { result ≢ Err Full.Memory → result ≡ limited (all_families window.now points.now) }
+{
+    let mut clauses = Row::new(alloc);
+    program_order(alloc, &mut clauses, points.as_slice())?;
+    starts(alloc, &mut clauses, window, points)?;
+    joins(alloc, &mut clauses, window, points)?;
+    let values = StartValues::new(alloc, window)?;
+    reads(alloc, &mut clauses, &values, points)?;
+    choices(alloc, &mut clauses, points)?;
+    start_choices(alloc, &mut clauses, &values, points)?;
+    sections(alloc, &mut clauses, points)?;
+    held_locks(alloc, &mut clauses, window, points)?;
+    Ok(clauses)
+}

@@ -1,0 +1,44 @@
+// The constraints of a window, and the query of an instance. Each event of a window is a point, which gets a place in
+// time. First come clauses over symbols: an event is executed; one event is before another; a read sees a write, or the
+// start value; of two sections of a lock the first comes first. A symbol with a constant value, such as the order of two
+// events of one thread, is taken out. Then each symbol becomes a variable, numbered at its first mention. A family of
+// clauses is a file of its own: program order, starts, joins, what a read sees, sections, locks held at the start.
+#![tactic(auto)]
+
+mod action;
+mod adding;
+mod encoded;
+mod families;
+mod fault;
+mod groups;
+mod held_locks;
+mod instance_query;
+mod joins;
+mod laws;
+mod naming;
+mod numbering;
+mod numbering_laws;
+mod numbers;
+mod point;
+mod points;
+mod program_order;
+mod query_names;
+mod reads;
+mod section;
+mod sections;
+mod start_values;
+mod starts;
+mod symbol;
+mod term;
+mod window_base;
+
+pub use action::Action;
+pub use encoded::Encoded;
+pub use fault::{BaseFault, MOST_CLAUSES, MOST_POINTS};
+pub use instance_query::query;
+pub use laws::{answers_mean, problems_are_valid, truths_are_numbered};
+pub use numbering_laws::{points_come_first, rising_lists_stay};
+pub use point::Point;
+pub use symbol::{Symbol, SymbolicLit};
+pub use term::Term;
+pub use window_base::base;

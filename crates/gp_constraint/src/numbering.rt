@@ -1,0 +1,129 @@
+ghost use Rattle.std.specs.Prelude.{◌≡◌, ◌≤◌, [], length, IfOk, IfSome, OnOk, MatchOption};
+ghost use Rattle.std.specs.List.{insert};
+ghost use Rattle.gp_clause.specs.Clause.{IsRising};
+ghost use Rattle.gp_constraint.specs.Numbering.{lits_onto, names_after, names_of, numbered, with_lit};
+ghost use Rattle.gp_constraint.specs.Signed.{AreSigned};
+
+use crate::naming::Names;
+use crate::symbol::SymbolicLit;
+use gp_clause::{Clause, Lit, Row};
+use std::alloc::{AllocError, Global};
+use std::marker::Model;
+
+/// Literals in their places. A literal of a greater variable than all before, as a fresh symbol has, goes to the end
+/// without a search.
+#[derive(Drop)]
+struct Placed {
+    lits: Vec<Lit>,
+    /// Above all variables.
+    above: u64,
+}
+
+impl Model for Placed {
+    ghost use Rattle.std.specs.Prelude.{List};
+    ghost use Rattle.gp_clause.specs.declared.lit.Lit.{Lit};
+    ghost use Rattle.gp_constraint.specs.Placed.{AreBelow};
+
+    ghost Value = { List Lit };
+
+    ghost view = { λ placed. placed.lits.items };
+
+    ghost invariant = { λ placed. AreBelow placed.above placed.lits.items };
+}
+
+impl Placed {
+    fn new(alloc: Global) -> Placed
+        ensures { result ≡ [] }
+    {
+        Placed {
+            lits: Vec::new(alloc),
+            above: 0,
+        }
+    }
+
+    fn put(&mut self, lit: Lit) -> Result<(), AllocError>
+        ensures { OnOk result (self.new ≡ with_lit self.old lit) }
+    {
+        if u64::from(lit.variable) >= self.above {
+            self.above = u64::from(lit.variable) + 1;
+            self.lits.push(lit)?;
+            return Ok(());
+        }
+        if let Some(index) = place(self.lits.as_slice(), lit) {
+            self.lits.insert(index, lit)?;
+        }
+        Ok(())
+    }
+
+    fn into_vec(self) -> Vec<Lit>
+        ensures { result.items ≡ self }
+    {
+        let Placed { lits, above: _ } = self;
+        lits
+    }
+}
+
+/// Where a literal goes, unless it is there.
+fn place(lits: &[Lit], lit: Lit) -> Option<usize>
+    ensures place { MatchOption result (with_lit lits.now lit ≡ lits.now) (λ i. with_lit lits.now lit ≡ insert lits.now i lit) }
+    ensures within { IfSome result (λ i. i ≤ length lits.now) }
+{
+    for (i, other) in lits.iter().enumerate() {
+        if lit.variable < other.variable {
+            return Some(i);
+        }
+        if lit == *other {
+            return None;
+        }
+    }
+    Some(lits.len())
+}
+
+/// The literals of a clause by their variables, in their places.
+fn number_lits(
+    alloc: Global,
+    names: &mut Names,
+    clause: &[SymbolicLit],
+) -> Result<Vec<Lit>, AllocError>
+    ensures lits { IfOk result (λ lits. lits.items ≡ lits_onto [] names.old clause.now) }
+    ensures names { OnOk result (names.new ≡ names_after names.old clause.now) }
+{
+    let mut lits = Placed::new(alloc);
+    for lit in clause {
+        let variable = names.number(lit.symbol)?;
+        lits.put(Lit {
+            variable,
+            positive: lit.positive,
+        })?;
+    }
+    Ok(lits.into_vec())
+}
+
+/// Clauses by their variables, each sorted.
+pub fn number_clauses(
+    alloc: Global,
+    names: &mut Names,
+    clauses: &[Row<SymbolicLit>],
+) -> Result<Row<Clause>, AllocError>
+    requires { AreSigned clauses.now }
+    ensures clauses { IfOk result (λ row. row ≡ numbered names.old clauses.now) }
+    ensures names { OnOk result (names.new ≡ names_of names.old clauses.now) }
+{
+    let mut row = Row::new(alloc);
+    for clause in clauses {
+        let lits = number_lits(alloc, names, clause.as_slice())?;
+        row.push(clause_of(lits))?;
+    }
+    Ok(row)
+}
+
+/// The clause of literals whose variables rise.
+fn clause_of(lits: Vec<Lit>) -> Clause
+    requires { IsRising lits.items }
+    ensures { result ≡ lits.items }
+{
+    match Clause::of(lits) {
+        Ok(clause) => clause,
+        Err(_) => unreachable!(),
+    }
+}

@@ -1,0 +1,63 @@
+ghost use Rattle.std.specs.Prelude.{◌≡◌, ◌≤◌, ◌++◌, IfOk, OnOk, flat_map, length};
+ghost use Rattle.gp_constraint.specs.Adding.{Adds};
+ghost use Rattle.gp_constraint.specs.ProgramOrder.{edge_to, linked, program_order};
+
+use crate::adding::{SymbolicClauses, add};
+use crate::fault::{Full, MOST_CLAUSES};
+use crate::point::Point;
+use crate::symbol::Symbol;
+use crate::term::{executed, literal};
+use gp_clause::{Edge, Row};
+use std::alloc::{AllocError, Global};
+
+/// An event is executed only where the one before it in its thread is.
+pub fn program_order(
+    alloc: Global,
+    clauses: &mut SymbolicClauses,
+    points: &[Point],
+) -> Result<(), Full>
+    requires { length clauses.old ≤ MOST_CLAUSES }
+    ensures room { length clauses.new ≤ MOST_CLAUSES }
+    ensures adds { Adds result clauses.old clauses.new (program_order points.now) }
+{
+    for f in points {
+        linked(alloc, clauses, f)?;
+    }
+    Ok(())
+}
+
+fn linked(alloc: Global, clauses: &mut SymbolicClauses, f: &Point) -> Result<(), Full>
+    requires { length clauses.old ≤ MOST_CLAUSES }
+    ensures room { length clauses.new ≤ MOST_CLAUSES }
+    ensures adds { Adds result clauses.old clauses.new (linked f.now) }
+{
+    if f.id.index == 0 {
+        return Ok(());
+    }
+    let previous = literal(Symbol::Executed(f.number.saturating_sub(1)), true);
+    add(alloc, clauses, &[executed(f, false), previous])
+}
+
+/// The edges to the events from those before them in their threads.
+pub fn edges(alloc: Global, points: &[Point]) -> Result<Row<Edge>, AllocError>
+    ensures { IfOk result (λ edges. edges ≡ flat_map edge_to points.now) }
+{
+    let mut edges = Row::new(alloc);
+    for f in points {
+        push_edge(&mut edges, f)?;
+    }
+    Ok(edges)
+}
+
+fn push_edge(edges: &mut Row<Edge>, f: &Point) -> Result<(), AllocError>
+    ensures { OnOk result (edges.new ≡ edges.old ++ edge_to f.now) }
+{
+    if f.id.index == 0 {
+        return Ok(());
+    }
+    edges.push(Edge {
+        a: f.number.saturating_sub(1),
+        b: f.number,
+        c: -1,
+    })
+}

@@ -1,0 +1,51 @@
+ghost use Rattle.std.specs.Prelude.{◌≡◌, ◌≤◌, ◌==◌, ◌&&◌, not, length};
+ghost use Rattle.gp_window.specs.Starts.{is_among};
+ghost use Rattle.gp_constraint.specs.Adding.{Adds};
+ghost use Rattle.gp_constraint.specs.Starts.{start_of, starts};
+
+use crate::adding::{SymbolicClauses, needs};
+use crate::fault::{Full, MOST_CLAUSES};
+use crate::point::Point;
+use crate::points::Points;
+use gp_window::{Window, is_among};
+use std::alloc::Global;
+
+/// A thread that is not started when the window begins has a first event only after its start.
+pub fn starts(
+    alloc: Global,
+    clauses: &mut SymbolicClauses,
+    window: &Window,
+    points: &Points,
+) -> Result<(), Full>
+    requires { length clauses.old ≤ MOST_CLAUSES }
+    ensures room { length clauses.new ≤ MOST_CLAUSES }
+    ensures adds { Adds result clauses.old clauses.new (starts window.now points.now) }
+{
+    for f in points.as_slice() {
+        start_of(alloc, clauses, window, points, f)?;
+    }
+    Ok(())
+}
+
+fn start_of(
+    alloc: Global,
+    clauses: &mut SymbolicClauses,
+    window: &Window,
+    points: &Points,
+    f: &Point,
+) -> Result<(), Full>
+    requires { length clauses.old ≤ MOST_CLAUSES }
+    ensures room { length clauses.new ≤ MOST_CLAUSES }
+    ensures adds { Adds result clauses.old clauses.new (start_of window.now points.now f.now) }
+{
+    if !wants_start(window, f) {
+        return Ok(());
+    }
+    needs(alloc, clauses, f, points.start_of(f.id.thread))
+}
+
+fn wants_start(window: &Window, f: &Point) -> bool
+    ensures { result ≡ (f.now.id.index == 0 && not (is_among window.now.started f.now.id.thread)) }
+{
+    f.id.index == 0 && !is_among(window.started(), f.id.thread)
+}

@@ -1,0 +1,36 @@
+ghost use Rattle.std.specs.Prelude.{◌≡◌, ◌+◌, ◌++◌, length, IfOk, All, Contains};
+ghost use Rattle.gp_clause.specs.Clause.{NamesBelow};
+ghost use Rattle.gp_clause.specs.Problem.{IsValidProblem, IsValidQuery};
+ghost use Rattle.gp_derivation.specs.Log.{logged};
+ghost use Rattle.gp_derivation.specs.Step.{Passes, named};
+ghost use Rattle.gp_derivation.specs.Tight.{IsTight};
+
+use crate::log::LogEntry;
+use crate::step::Step;
+use crate::tester::Tester;
+use gp_clause::{Problem, Query};
+use std::alloc::{AllocError, Global};
+
+/// A step with the same hints and some of the literals of its clause. It makes a tester, which `Tester::tighten` does
+/// not.
+pub fn tight(
+    alloc: Global,
+    problem: &Problem,
+    query: &Query,
+    log: &[LogEntry],
+    step: Step,
+) -> Result<Step, AllocError>
+    requires valid { IsValidProblem problem.now }
+    requires asked { IsValidQuery problem.now query.now }
+    requires within { All (NamesBelow (length problem.now.kinds + length query.now.locals)) (named (logged problem.now log.now) step.hints) }
+    requires passes { Passes problem.now.edges (problem.now.kinds ++ query.now.locals) (named (logged problem.now log.now) step.hints) step.clause }
+    ensures hints { IfOk result (λ left. left.hints ≡ step.hints) }
+    ensures some { IfOk result (λ left. All (Contains step.clause) left.clause) }
+    ensures passes { IfOk result (λ left. Passes problem.now.edges (problem.now.kinds ++ query.now.locals) (named (logged problem.now log.now) step.hints) left.clause) }
+    ensures tight { IfOk result (λ left. IsTight problem.now.edges (problem.now.kinds ++ query.now.locals) (named (logged problem.now log.now) step.hints) left.clause) }
+{
+    let mut tester = Tester::new(alloc, problem, query.locals.as_slice())?;
+    let Step { clause, hints } = step;
+    let clause = tester.tighten(problem, log, hints.as_slice(), clause)?;
+    Ok(Step { clause, hints })
+}

@@ -1,0 +1,133 @@
+ghost use Rattle.std.specs.Prelude.{◌≡◌, ◌<◌, length, All, IfOk};
+ghost use Rattle.gp_sat.specs.State.{assigned};
+ghost use Rattle.gp_sat.specs.Changes.{HasPresent};
+ghost use Rattle.gp_sat.specs.Learning.{IsFirstPoint, IsHighestBelow};
+ghost use Rattle.gp_sat.specs.Standing.{IsFalse, Each};
+ghost use Rattle.gp_search.specs.Inside.{IsTurning, IsConflict};
+ghost use Rattle.gp_search.specs.Moves.{IsStudied, IsTightened, IsHigher, IsLearnedStep, with_number};
+
+use crate::engine::{Conflict, Engine};
+use gp_clause::{Lit, Problem, Query, Row, closure_is_least};
+use gp_derivation::Step;
+use gp_sat::Learned;
+use std::alloc::AllocError;
+
+// A step to log, and the level at which its clause asserts a literal.
+#[derive(Debug, Drop)]
+pub(crate) struct LearnedStep {
+    pub(crate) step: Step,
+    pub(crate) level: u32,
+}
+
+impl Engine {
+    // What the analysis of a conflict gives, with the number of the conflict's clause among the hints, made tight.
+    pub(crate) fn learned_step(
+        &mut self,
+        problem: &Problem,
+        query: &Query,
+        conflict: &Conflict,
+    ) -> Result<LearnedStep, AllocError>
+        requires turning { IsTurning problem.now query.now self.old }
+        requires conflict { IsConflict problem.now query.now self.old.solver conflict.now.lits.items conflict.now.number }
+        requires above { self.old.assumed < self.old.solver.level }
+        ensures same { self.new ≡ self.old }
+        ensures step { IfOk result (λ learned_step. IsLearnedStep problem.now query.now self.old learned_step.step learned_step.level) }
+    {
+        let found = self.study(problem, query, conflict)?;
+        let step = self.tighten(problem, query, found)?;
+        let level = self.highest_below(step.clause.lits());
+        Ok(LearnedStep { step, level })
+    }
+
+    // What the analysis of a conflict gives, with the number of the conflict's clause among the hints.
+    fn study(
+        &mut self,
+        problem: &Problem,
+        query: &Query,
+        conflict: &Conflict,
+    ) -> Result<Step, AllocError>
+        requires turning { IsTurning problem.now query.now self.old }
+        requires conflict { IsConflict problem.now query.now self.old.solver conflict.now.lits.items conflict.now.number }
+        requires above { self.old.assumed < self.old.solver.level }
+        ensures same { self.new ≡ self.old }
+        ensures studied { IfOk result (IsStudied problem.now query.now self.old) }
+    {
+        let learned = self.analyse(conflict.lits.as_slice())?;
+        Ok(Step {
+            clause: learned.clause,
+            hints: add_number(learned.hints, conflict.number)?,
+        })
+    }
+
+    // The first unique implication point of a conflict.
+    fn analyse(&mut self, conflict: &[Lit]) -> Result<Learned, AllocError>
+        requires above { 0 < self.old.solver.level }
+        requires conflict { Each (IsFalse (assigned self.old.solver)) conflict.now }
+        requires present { HasPresent self.old.solver conflict.now }
+        ensures same { self.new ≡ self.old }
+        ensures learned { IfOk result (IsFirstPoint self.old.solver conflict.now) }
+    {
+        self.solver.analyse(conflict)
+    }
+
+    // A tight part of a step. It keeps the one literal of the present level: below that level the attached clauses and the
+    // places refute nothing.
+    fn tighten(&mut self, problem: &Problem, query: &Query, step: Step) -> Result<Step, AllocError>
+        requires turning { IsTurning problem.now query.now self.old }
+        requires above { self.old.assumed < self.old.solver.level }
+        requires studied { IsStudied problem.now query.now self.old step }
+        ensures same { self.new ≡ self.old }
+        ensures tightened { IfOk result (IsTightened problem.now query.now self.old) }
+    {
+        closure_is_least();
+        let _ = self.graph.places();
+        let Step { clause, hints } = step;
+        let tight = self
+            .tester
+            .tighten(problem, self.log.as_slice(), hints.as_slice(), clause)?;
+        Ok(Step {
+            clause: tight,
+            hints,
+        })
+    }
+
+    // The highest level of the literals below the present level, and 0 where there is none.
+    fn highest_below(&self, lits: &[Lit]) -> u32
+        requires { All (λ lit. lit.variable < length self.now.solver.values) lits.now }
+        ensures { IsHighestBelow self.now.solver lits.now result }
+    {
+        let mut level = 0;
+        for lit in lits {
+            level = self.higher_below(*lit, level);
+        }
+        level
+    }
+
+    // The level of a literal where it is below the present one and above another, else that one.
+    fn higher_below(&self, lit: Lit, level: u32) -> u32
+        requires { lit.variable < length self.now.solver.values }
+        ensures { IsHigher self.now.solver lit level result }
+    {
+        let Some(own) = self.solver.level_of(lit.variable) else {
+            return level;
+        };
+        if own <= level {
+            return level;
+        }
+        if own >= self.solver.level() {
+            return level;
+        }
+        own
+    }
+}
+
+// Hints, and beside them a number if there is one.
+pub(crate) fn add_number(hints: Row<u32>, number: Option<u32>) -> Result<Row<u32>, AllocError>
+    ensures { IfOk result (λ all. all ≡ with_number hints number) }
+{
+    let mut hints = hints;
+    if let Some(number) = number {
+        hints.push(number)?;
+    }
+    Ok(hints)
+}

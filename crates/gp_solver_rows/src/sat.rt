@@ -1,0 +1,359 @@
+ghost use Rattle.std.specs.Prelude.{All, IsTrue};
+ghost use Rattle.gp_clause.specs.Clause.{NamesBelow};
+ghost use Rattle.gp_sat.specs.State.{assigned};
+ghost use Rattle.gp_sat.specs.Standing.{IsFalse, Each};
+ghost use Rattle.gp_sat.specs.Changes.{HasPresent, IsOfLevel};
+
+use crate::fixture::{are_lits, lit, lits_of};
+use gp_clause::{Clause, Lit};
+use gp_sat::{Learned, Propagated, Solver};
+use std::alloc::{AllocError, Global};
+use std::process::Abort;
+use std::test::Fail;
+
+// Whether a clause names variables of a solver alone.
+fn is_named(clause: &Clause, variables: u32) -> bool
+    ensures { IsTrue result → NamesBelow variables clause.now }
+{
+    clause.lits().iter().all(|lit| lit.variable < variables)
+}
+
+fn is_false(solver: &Solver, lit: Lit) -> bool
+    ensures { IsTrue result → IsFalse (assigned solver.now) lit }
+{
+    if lit.variable >= solver.variables() {
+        return false;
+    }
+    match solver.value(lit.variable) {
+        Some(value) => value != lit.positive,
+        None => false,
+    }
+}
+
+fn all_false(solver: &Solver, lits: &[Lit]) -> bool
+    ensures { IsTrue result → All (IsFalse (assigned solver.now)) lits.now }
+{
+    lits.iter().all(|lit| is_false(solver, *lit))
+}
+
+fn are_false(solver: &Solver, lits: &[Lit]) -> bool
+    ensures { IsTrue result → Each (IsFalse (assigned solver.now)) lits.now }
+{
+    all_false(solver, lits)
+}
+
+fn is_present(solver: &Solver, lit: Lit) -> bool
+    ensures { IsTrue result → IsOfLevel solver.now solver.now.level lit }
+{
+    if lit.variable >= solver.variables() {
+        return false;
+    }
+    match solver.level_of(lit.variable) {
+        Some(level) => level == solver.level(),
+        None => false,
+    }
+}
+
+fn has_present(solver: &Solver, lits: &[Lit]) -> bool
+    ensures { IsTrue result → HasPresent solver.now lits.now }
+{
+    for lit in lits {
+        if is_present(solver, *lit) {
+            return true;
+        }
+    }
+    false
+}
+
+fn attach(rt: &impl Abort, solver: &mut Solver, clause: &Clause) -> Result<u32, Fail> {
+    assert!(rt; solver.level() == 0);
+    assert!(rt; solver.clause_count() < 1_000_000);
+    assert!(rt; is_named(clause, solver.variables()));
+    Ok(solver.attach(clause)?)
+}
+
+fn decide(rt: &impl Abort, solver: &mut Solver, word: i32) {
+    let lit = lit(word);
+    match solver.propagate() {
+        Propagated::Quiet => {
+            assert!(rt; lit.variable < solver.variables());
+            assert!(rt; solver.value(lit.variable).is_none());
+            solver.decide(lit);
+        }
+        Propagated::False(number) => assert!(rt; false, "clause {number} is false"),
+    }
+}
+
+fn conflict_at(
+    rt: &impl Abort,
+    alloc: Global,
+    solver: &Solver,
+    number: u32,
+) -> Result<Vec<Lit>, AllocError> {
+    assert!(rt; number < solver.clause_count());
+    Vec::from_slice(alloc, solver.clause(number))
+}
+
+fn analyse(
+    rt: &impl Abort,
+    alloc: Global,
+    solver: &mut Solver,
+    number: u32,
+) -> Result<Learned, Fail> {
+    let conflict = conflict_at(rt, alloc, solver, number)?;
+    assert!(rt; solver.level() > 0);
+    assert!(rt; are_false(solver, &conflict));
+    assert!(rt; has_present(solver, &conflict));
+    Ok(solver.analyse(&conflict)?)
+}
+
+fn analyse_final(
+    rt: &impl Abort,
+    alloc: Global,
+    solver: &mut Solver,
+    number: u32,
+) -> Result<Learned, Fail> {
+    let conflict = conflict_at(rt, alloc, solver, number)?;
+    assert!(rt; are_false(solver, &conflict));
+    Ok(solver.analyse_final(&conflict)?)
+}
+
+// A solver of so many variables with these clauses.
+fn of_clauses(
+    rt: &impl Abort,
+    alloc: Global,
+    variables: u32,
+    clauses: &[&[i32]],
+) -> Result<Solver, Fail> {
+    let mut solver = Solver::new(alloc, variables)?;
+    for words in clauses {
+        let clause = Clause::of(lits_of(alloc, words)?)?;
+        attach(rt, &mut solver, &clause)?;
+    }
+    Ok(solver)
+}
+
+fn is_quiet(solver: &mut Solver) -> bool {
+    solver.propagate() == Propagated::Quiet
+}
+
+fn is_false_at(solver: &mut Solver, number: u32) -> bool {
+    solver.propagate() == Propagated::False(number)
+}
+
+fn has_trail(solver: &Solver, words: &[i32]) -> bool {
+    are_lits(solver.trail(), words)
+}
+
+fn is_next(solver: &mut Solver, variable: Option<u32>) -> bool {
+    solver.next_free() == variable
+}
+
+// Whether this was learned, with these hints in some order.
+fn is_learned(learned: &Learned, words: &[i32], level: u32, hints: &[u32]) -> bool {
+    let given = learned.hints.as_slice();
+    are_lits(learned.clause.lits(), words)
+        && learned.level == level
+        && given.len() == hints.len()
+        && hints.iter().all(|hint| given.contains(hint))
+}
+
+fn go_back(solver: &mut Solver) {
+    solver.backjump(0);
+}
+
+fn raise(rt: &impl Abort, solver: &mut Solver, variable: u32) {
+    assert!(rt; variable < solver.variables());
+    solver.raise(variable);
+}
+
+fn use_first(rt: &impl Abort, solver: &mut Solver, count: u32) {
+    assert!(rt; count <= solver.variables());
+    solver.set_used(count);
+}
+
+fn clear(solver: &mut Solver) {
+    solver.clear();
+}
+
+fn retire(rt: &impl Abort, solver: &mut Solver, number: u32) {
+    assert!(rt; solver.level() == 0);
+    assert!(rt; number < solver.clause_count());
+    solver.retire(number);
+}
+
+fn grow(rt: &impl Abort, solver: &mut Solver, variables: u32) -> Result<(), Fail> {
+    assert!(rt; solver.variables() <= variables);
+    Ok(solver.grow(variables)?)
+}
+
+// Decides the first variable false, learns from the conflict, and goes on with what was learned.
+fn goes_on(rt: &impl Abort, alloc: Global, solver: &mut Solver) -> Result<bool, Fail> {
+    let quiet = is_quiet(solver);
+    decide(rt, solver, -1);
+    let fails = is_false_at(solver, 0);
+    let learned = analyse(rt, alloc, solver, 0)?;
+    go_back(solver);
+    let number = attach(rt, solver, &learned.clause)?;
+    let again = is_quiet(solver);
+    Ok(
+        quiet
+            && fails
+            && again
+            && number == 2
+            && learned.level == 0
+            && are_lits(learned.clause.lits(), &[1])
+            && has_trail(solver, &[1]),
+    )
+}
+
+#[test]
+fn learns_a_unit_and_goes_on(rt: HostRuntime) -> Result<(), Fail> {
+    let mut solver = of_clauses(&rt, rt.alloc(), 2, &[&[1, 2], &[1, -2]])?;
+    assert!(rt; goes_on(&rt, rt.alloc(), &mut solver)?);
+    Ok(())
+}
+
+// Clauses and decisions, the clause that is false then, and what is learned from it, first and finally.
+#[derive(Drop)]
+struct Row<'a> {
+    clauses: &'a [&'a [i32]],
+    decisions: &'a [i32],
+    conflict: u32,
+    lits: &'a [i32],
+    level: u32,
+    hints: &'a [u32],
+    last: &'a [i32],
+}
+
+fn learns(rt: &impl Abort, alloc: Global, row: &Row) -> Result<bool, Fail> {
+    let mut solver = of_clauses(rt, alloc, 4, row.clauses)?;
+    for word in row.decisions {
+        decide(rt, &mut solver, *word);
+    }
+    let fails = is_false_at(&mut solver, row.conflict);
+    let learned = analyse(rt, alloc, &mut solver, row.conflict)?;
+    let last = analyse_final(rt, alloc, &mut solver, row.conflict)?;
+    Ok(
+        fails
+            && is_learned(&learned, row.lits, row.level, row.hints)
+            && are_lits(last.clause.lits(), row.last),
+    )
+}
+
+#[test]
+fn learns_from_conflicts(rt: HostRuntime) -> Result<(), Fail> {
+    let rows = [
+        Row {
+            clauses: &[&[-1, -2, 3], &[-2, -3]],
+            decisions: &[1, 2],
+            conflict: 0,
+            lits: &[-1, -2],
+            level: 1,
+            hints: &[1],
+            last: &[-1, -2],
+        },
+        Row {
+            clauses: &[&[-1, 2], &[-2, 3], &[-2, 4], &[-3, -4]],
+            decisions: &[1],
+            conflict: 3,
+            lits: &[-2],
+            level: 0,
+            hints: &[1, 2],
+            last: &[-1],
+        },
+        Row {
+            clauses: &[&[1], &[-1, -2, 3], &[-2, -3]],
+            decisions: &[2],
+            conflict: 1,
+            lits: &[-2],
+            level: 0,
+            hints: &[2, 0],
+            last: &[-2],
+        },
+    ];
+    for row in &rows {
+        assert!(rt; learns(&rt, rt.alloc(), row)?);
+    }
+    Ok(())
+}
+
+// Finds a false clause, takes everything back, retires the other one, and grows.
+fn starts_again(rt: &impl Abort, alloc: Global, solver: &mut Solver) -> Result<bool, Fail> {
+    let fails = is_false_at(solver, 1);
+    let last = analyse_final(rt, alloc, solver, 1)?;
+    let full = is_next(solver, None);
+    clear(solver);
+    retire(rt, solver, 0);
+    grow(rt, solver, 3)?;
+    let quiet = is_quiet(solver);
+    Ok(
+        fails
+            && full
+            && quiet
+            && last.clause.is_empty()
+            && last.hints.as_slice() == [0].as_slice()
+            && has_trail(solver, &[-1])
+            && is_next(solver, Some(1)),
+    )
+}
+
+#[test]
+fn clears_retires_and_grows(rt: HostRuntime) -> Result<(), Fail> {
+    let mut solver = of_clauses(&rt, rt.alloc(), 1, &[&[1], &[-1]])?;
+    assert!(rt; starts_again(&rt, rt.alloc(), &mut solver)?);
+    Ok(())
+}
+
+const PAIRS: i32 = 400_000;
+
+// The clause of the two variables of a pair.
+fn pair(alloc: Global, number: i32) -> Result<Vec<Lit>, AllocError> {
+    let first = number.saturating_mul(2).saturating_add(1);
+    lits_of(alloc, &[first, first.saturating_add(1)])
+}
+
+// Whether each pair's second literal is forced by its first one.
+fn forces_each(rt: &impl Abort, solver: &mut Solver) -> bool {
+    let mut all = true;
+    for number in 0..PAIRS {
+        let first = number.saturating_mul(2).saturating_add(1);
+        decide(rt, solver, -first);
+        let quiet = is_quiet(solver);
+        let partner = lit(first.saturating_add(1)).variable;
+        assert!(rt; partner < solver.variables());
+        all = all && quiet && solver.value(partner) == Some(true);
+    }
+    all
+}
+
+#[test]
+fn visits_only_what_watches(rt: HostRuntime) -> Result<(), Fail> {
+    let mut solver = Solver::new(rt.alloc(), 800_000)?;
+    for number in 0..PAIRS {
+        let clause = Clause::of(pair(rt.alloc(), number)?)?;
+        attach(&rt, &mut solver, &clause)?;
+    }
+    assert!(rt; forces_each(&rt, &mut solver));
+    Ok(())
+}
+
+// Follows the order of the queue, with a raised variable first, and passes by what is not in use.
+fn follows_the_order(rt: &impl Abort, solver: &mut Solver) -> bool {
+    let first = is_next(solver, Some(0));
+    raise(rt, solver, 2);
+    let raised = is_next(solver, Some(2));
+    decide(rt, solver, -3);
+    let behind = is_next(solver, Some(0));
+    go_back(solver);
+    let again = is_next(solver, Some(2));
+    use_first(rt, solver, 2);
+    first && raised && behind && again && is_next(solver, Some(0))
+}
+
+#[test]
+fn decides_in_the_order_of_the_queue(rt: HostRuntime) -> Result<(), Fail> {
+    let mut solver = Solver::new(rt.alloc(), 3)?;
+    assert!(rt; follows_the_order(&rt, &mut solver));
+    Ok(())
+}

@@ -1,0 +1,10 @@
+pub mod Asked
+pub mod Meaning
+pub mod Possible
+pub mod Witness
+pub mod AnswerTruth
+pub mod ScheduleTruth
+pub mod TruthOfSymbols
+pub mod Complete
+pub mod Placed
+pub mod Answered

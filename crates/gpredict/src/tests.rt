@@ -101,30 +101,70 @@ fn ends<R: AllocGlobal + Threads + Sync>(
     Ok(runs_to(rt, words.as_slice(), files, script, status, text))
 }
 
-/// Whether replaying a schedule in a recording ends with this status and writes this text.
-fn replays_to<R: AllocGlobal + Threads + Sync>(
+/// Whether a task on a recording and the file that the task reads ends with this status and writes this
+/// text.
+fn task_ends<R: AllocGlobal + Threads + Sync>(
     rt: &R,
+    task: &str,
     recorded: [&str; 3],
-    schedule: &str,
+    file: &str,
     status: u8,
     text: &str,
 ) -> Result<bool, AllocError> {
+    let name = if task == LIST { "props" } else { "schedule" };
     let mut files = recording(rt.alloc(), recorded)?;
-    add(&mut files, rt.alloc(), "schedule", schedule)?;
-    ends(rt, REPLAY, files, status, text)
+    add(&mut files, rt.alloc(), name, file)?;
+    ends(rt, task, files, status, text)
 }
 
-/// Whether listing the properties in a recording ends with this status and writes this text.
-fn lists_to<R: AllocGlobal + Threads + Sync>(
+/// A recording and the file that a task reads, and the status and the text that the task ends with.
+type Run<'a> = ([&'a str; 3], &'a str, u8, &'a str);
+
+/// Whether a task ends as told on each of these.
+fn runs_hold<R: AllocGlobal + Threads + Sync>(
     rt: &R,
-    recorded: [&str; 3],
-    properties: &str,
-    status: u8,
-    text: &str,
+    task: &str,
+    runs: &[Run],
 ) -> Result<bool, AllocError> {
-    let mut files = recording(rt.alloc(), recorded)?;
-    add(&mut files, rt.alloc(), "props", properties)?;
-    ends(rt, LIST, files, status, text)
+    let mut hold = true;
+    for run in runs {
+        let (recorded, file, status, text) = *run;
+        hold &= task_ends(rt, task, recorded, file, status, text)?;
+    }
+    Ok(hold)
+}
+
+/// The manifest, the two traces and the file that a task reads.
+type Texts<'a> = [&'a str; 4];
+
+/// Whether a task on these texts, with another one at a place, is refused as told.
+fn is_refused<'a, R: AllocGlobal + Threads + Sync>(
+    rt: &R,
+    task: &str,
+    mut texts: Texts<'a>,
+    place: usize,
+    (changed, told): (&'a str, &'a str),
+) -> Result<bool, AllocError> {
+    if let Some(text) = texts.get_mut(place) {
+        *text = changed;
+    }
+    let [manifest, first, second, file] = texts;
+    task_ends(rt, task, [manifest, first, second], file, 3, told)
+}
+
+/// Whether a task on these texts is refused as told with each of those at a place.
+fn refusals_hold<'a, R: AllocGlobal + Threads + Sync>(
+    rt: &R,
+    task: &str,
+    texts: Texts<'a>,
+    place: usize,
+    rows: &[(&'a str, &'a str)],
+) -> Result<bool, AllocError> {
+    let mut hold = true;
+    for row in rows {
+        hold &= is_refused(rt, task, texts, place, *row)?;
+    }
+    Ok(hold)
 }
 
 /// Adds comments, of lines that end at each multiple of 4,096 bytes, up to this length.
@@ -152,26 +192,35 @@ fn words_end<R: AllocGlobal + Threads + Sync>(
     Ok(runs_to(rt, given.as_slice(), Vec::new(alloc), script, status, text))
 }
 
-fn words_are_read<R: AllocGlobal + Threads + Sync>(rt: &R) -> Result<bool, AllocError> {
-    Ok(
-        words_end(rt, &[], 2, "words\n")?
-            && words_end(rt, &[REPLAY], 2, "words\n")?
-            && words_end(rt, &[LIST], 2, "words\n")?
-            && words_end(rt, &["--task=lists", "d"], 2, "words\n")?
-            && words_end(rt, &["--task=replay ", "d"], 2, "words\n")?
-            && words_end(rt, &["d", REPLAY], 2, "words\n")?
-            && words_end(rt, &[REPLAY, ""], 2, "words\n")?
-            && words_end(rt, &[REPLAY, "-"], 2, "words\n")?
-            && words_end(rt, &[REPLAY, "-d"], 2, "words\n")?
-            && words_end(rt, &[REPLAY, "d", "e"], 2, "words\n")?
-            && words_end(rt, &[REPLAY, "d"], 3, "refused manifest absent\n")?
-            && words_end(rt, &[LIST, "d"], 3, "refused manifest absent\n")?,
-    )
+/// Whether words end as told in each row, where no file is there.
+fn words_hold<R: AllocGlobal + Threads + Sync>(
+    rt: &R,
+    rows: &[(&[&str], u8, &str)],
+) -> Result<bool, AllocError> {
+    let mut hold = true;
+    for (words, status, text) in rows {
+        hold &= words_end(rt, words, *status, text)?;
+    }
+    Ok(hold)
 }
 
 #[test]
 fn other_words_are_refused(rt: HostRuntime) -> Result<(), Fail> {
-    assert!(rt; words_are_read(&rt)?);
+    let rows: [(&[&str], u8, &str); 12] = [
+        (&[], 2, "words\n"),
+        (&[REPLAY], 2, "words\n"),
+        (&[LIST], 2, "words\n"),
+        (&["--task=lists", "d"], 2, "words\n"),
+        (&["--task=replay ", "d"], 2, "words\n"),
+        (&["d", REPLAY], 2, "words\n"),
+        (&[REPLAY, ""], 2, "words\n"),
+        (&[REPLAY, "-"], 2, "words\n"),
+        (&[REPLAY, "-d"], 2, "words\n"),
+        (&[REPLAY, "d", "e"], 2, "words\n"),
+        (&[REPLAY, "d"], 3, "refused manifest absent\n"),
+        (&[LIST, "d"], 3, "refused manifest absent\n"),
+    ];
+    assert!(rt; words_hold(&rt, &rows)?);
     Ok(())
 }
 
@@ -189,11 +238,16 @@ fn folder_ends<R: AllocGlobal + Threads + Sync>(
     words_end(rt, &[REPLAY, name.as_str()], status, text)
 }
 
+fn folder_names_hold<R: AllocGlobal + Threads + Sync>(rt: &R) -> Result<bool, AllocError> {
+    Ok(
+        folder_ends(rt, 4_096, 3, "refused manifest absent\n")?
+            && folder_ends(rt, 4_097, 2, "words\n")?,
+    )
+}
+
 #[test]
 fn a_folder_has_4096_bytes_at_most(rt: HostRuntime) -> Result<(), Fail> {
-    let longest = folder_ends(&rt, 4_096, 3, "refused manifest absent\n")?;
-    let longer = folder_ends(&rt, 4_097, 2, "words\n")?;
-    assert!(rt; longest && longer);
+    assert!(rt; folder_names_hold(&rt)?);
     Ok(())
 }
 

@@ -1,6 +1,7 @@
 // Whole runs of task list.
 use super::{
-    AUTH, Files, LIST, ONE_ROOT, REPLAY, TWO_ROOTS, USE, add, ends, lengthen, lists_to, recording,
+    AUTH, Files, LIST, ONE_ROOT, REPLAY, Run, TWO_ROOTS, USE, add, ends, lengthen, recording,
+    refusals_hold, runs_hold, task_ends,
 };
 use std::alloc::{AllocError, Global};
 use std::test::Fail;
@@ -28,7 +29,8 @@ const ORD: &str = "property ord\nevent a op a\nevent u op u\npattern a@s u@t\n";
 /// Two epochs, in the second of which x begins as 5.
 const TWO_EPOCHS: &str = "gptrace 1\nthreads 2\nepochs 2\nroots 1 2\nvalue 2 x 5\n";
 
-fn instances_are_told<R: AllocGlobal + Threads + Sync>(rt: &R) -> Result<bool, AllocError> {
+#[test]
+fn instances_are_listed(rt: HostRuntime) -> Result<(), Fail> {
     let waits = "start 2\nop auth r\nwrite ready 1\n";
     let ready = "read ready 1\nop use r\n";
     let value = "gptrace 1\nthreads 2\nepochs 1\nroots 1\nvalue 1 ready 1\n";
@@ -36,36 +38,42 @@ fn instances_are_told<R: AllocGlobal + Threads + Sync>(rt: &R) -> Result<bool, A
     let once = "acquire l\nop create c\nop next c\nrelease l\n";
     let update = "acquire l\nop update c\nrelease l\n";
     let joins = "start 2\njoin 2\nop done\n";
-    let mut hold = true;
-    for (recorded, props, text) in [
+
+    let rows: [Run; 11] = [
         (
             [ONE_ROOT, AUTH, USE],
             LATE_AUTH,
+            0,
             "window 1\nproperty late_auth 1\ninstance 0 2.0 1.1\ntotal 1\n",
         ),
         (
             [ONE_ROOT, waits, ready],
             LATE_AUTH,
+            0,
             "window 1\nproperty late_auth 1\ninstance 0 2.1 1.1\ntotal 1\n",
         ),
         (
             [value, waits, ready],
             LATE_AUTH,
+            0,
             "window 1\nproperty late_auth 1\ninstance 0 2.1 1.1\ntotal 1\n",
         ),
         (
             [TWO_ROOTS, twice, update],
             MID,
+            0,
             "window 1\nproperty mid 1\ninstance 0 1.1 2.1 1.4\ntotal 1\n",
         ),
         (
             [TWO_ROOTS, once, update],
             MID,
+            0,
             "window 1\nproperty mid 1\ninstance 0 1.1 2.1 1.2\ntotal 1\n",
         ),
         (
             [TWO_ROOTS, "read x 0\n", "write x 1\n"],
             ADJ,
+            0,
             "window 1\nproperty adj 1\ninstance 0 1.0 2.0\ntotal 1\n",
         ),
         (
@@ -75,16 +83,19 @@ fn instances_are_told<R: AllocGlobal + Threads + Sync>(rt: &R) -> Result<bool, A
                 "acquire l\nwrite x 1\nrelease l\n",
             ],
             ADJ,
+            0,
             "window 1\nproperty adj 1\ninstance 0 1.1 2.1\ntotal 1\n",
         ),
         (
             [TWO_ROOTS, "begin a\nbegin a\nend a\nend a\n", "write x 1\n"],
             SPLIT,
+            0,
             "window 1\nproperty split 2\ninstance 0 1.0 2.0 1.3\ninstance 1 1.1 2.0 1.2\ntotal 2\n",
         ),
         (
             [ONE_ROOT, joins, "exit\n"],
             DONE,
+            0,
             "window 1\nproperty done 1\ninstance 0 1.2\ntotal 1\n",
         ),
         (
@@ -94,54 +105,46 @@ fn instances_are_told<R: AllocGlobal + Threads + Sync>(rt: &R) -> Result<bool, A
                 "acquire l\nop b\nrelease l\n",
             ],
             "property ba\nevent a op a\nevent b op b\npattern b@u a@t\n",
+            0,
             "window 1\nproperty ba 1\ninstance 0 2.1 1.1\ntotal 1\n",
         ),
         (
             [ONE_ROOT, joins, "op e\n"],
             DONE,
+            0,
             "window 1\nproperty done 1\ninstance 0 1.2\ntotal 1\n",
         ),
-    ] {
-        hold &= lists_to(rt, recorded, props, 0, text)?;
-    }
-    Ok(hold)
-}
-
-#[test]
-fn instances_are_listed(rt: HostRuntime) -> Result<(), Fail> {
-    assert!(rt; instances_are_told(&rt)?);
+    ];
+    assert!(rt; runs_hold(&rt, LIST, &rows)?);
     Ok(())
 }
 
-fn windows_are_told<R: AllocGlobal + Threads + Sync>(rt: &R) -> Result<bool, AllocError> {
+#[test]
+fn each_window_has_all_properties(rt: HostRuntime) -> Result<(), Fail> {
     let first = "acquire l\nmark\nop a\nrelease l\n";
     let second = "mark\nacquire l\nread x 5\nop u\n";
-    let mut hold = true;
-    for (recorded, props, text) in [
+
+    let rows: [Run; 3] = [
         (
             [TWO_EPOCHS, first, second],
             ORD,
+            0,
             "window 1\nproperty ord 0\nwindow 2\nproperty ord 1\ninstance 0 1.0 2.2\ntotal 1\n",
         ),
         (
             [TWO_EPOCHS, first, second],
             "property ord\nevent a op a\nevent u op u\npattern u@t a@s\n",
+            0,
             "window 1\nproperty ord 0\nwindow 2\nproperty ord 1\ninstance 0 2.2 1.0\ntotal 1\n",
         ),
         (
             [TWO_EPOCHS, "op a\nop b\nmark\nop a\n", "op a\nmark\n"],
             "property a\nevent e op a\npattern e@t\nproperty ab\nevent e op a\nevent f op b\npattern e@t f@t\n",
+            0,
             "window 1\nproperty a 2\ninstance 0 1.0\ninstance 1 2.0\nproperty ab 1\ninstance 0 1.0 1.1\nwindow 2\nproperty a 1\ninstance 0 1.0\nproperty ab 0\ntotal 4\n",
         ),
-    ] {
-        hold &= lists_to(rt, recorded, props, 0, text)?;
-    }
-    Ok(hold)
-}
-
-#[test]
-fn each_window_has_all_properties(rt: HostRuntime) -> Result<(), Fail> {
-    assert!(rt; windows_are_told(&rt)?);
+    ];
+    assert!(rt; runs_hold(&rt, LIST, &rows)?);
     Ok(())
 }
 
@@ -183,9 +186,16 @@ fn too_many_instances_are_not_listed(rt: HostRuntime) -> Result<(), Fail> {
     Ok(())
 }
 
-fn properties_are_refused<R: AllocGlobal + Threads + Sync>(rt: &R) -> Result<bool, AllocError> {
-    let mut hold = true;
-    for (props, text) in [
+fn long_line_is_refused<R: AllocGlobal + Threads + Sync>(rt: &R) -> Result<bool, AllocError> {
+    let mut long = repeated(rt.alloc(), "#", 4_097)?;
+    long.push_str("\n")?;
+    let text = "refused props 1 longline\n";
+    task_ends(rt, LIST, [ONE_ROOT, AUTH, USE], long.as_str(), 3, text)
+}
+
+#[test]
+fn malformed_properties_are_refused_at_their_line(rt: HostRuntime) -> Result<(), Fail> {
+    let rows: [(&str, &str); 11] = [
         ("", "refused props 1 empty\n"),
         ("property a\npattern\n", "refused props 2 empty\n"),
         ("property a\nproperty b\n", "refused props 2 empty\n"),
@@ -209,44 +219,42 @@ fn properties_are_refused<R: AllocGlobal + Threads + Sync>(rt: &R) -> Result<boo
         ),
         ("property a", "refused props 1 nolastnewline\n"),
         ("property a\nevent \u{e9}\n", "refused props 2 notascii\n"),
-    ] {
-        hold &= lists_to(rt, [ONE_ROOT, AUTH, USE], props, 3, text)?;
-    }
-    Ok(hold)
-}
-
-fn long_line_is_refused<R: AllocGlobal + Threads + Sync>(rt: &R) -> Result<bool, AllocError> {
-    let mut long = repeated(rt.alloc(), "#", 4_097)?;
-    long.push_str("\n")?;
-    let text = "refused props 1 longline\n";
-    lists_to(rt, [ONE_ROOT, AUTH, USE], long.as_str(), 3, text)
-}
-
-#[test]
-fn malformed_properties_are_refused_at_their_line(rt: HostRuntime) -> Result<(), Fail> {
-    assert!(rt; properties_are_refused(&rt)? && long_line_is_refused(&rt)?);
+    ];
+    assert!(rt;
+        refusals_hold(&rt, LIST, [ONE_ROOT, AUTH, USE, ""], 3, &rows)? && long_line_is_refused(&rt)?
+    );
     Ok(())
-}
-
-fn recordings_are_refused<R: AllocGlobal + Threads + Sync>(rt: &R) -> Result<bool, AllocError> {
-    let mut hold = true;
-    for (recorded, text) in [
-        (["", "foo\n", USE], "refused manifest 1 badline\n"),
-        ([ONE_ROOT, AUTH, "foo\n"], "refused t2.trace 1 badword\n"),
-        (
-            [ONE_ROOT, "start 3\n", USE],
-            "refused recording unknownthread 3\n",
-        ),
-        ([ONE_ROOT, AUTH, USE], "refused props 1 badword\n"),
-    ] {
-        hold &= lists_to(rt, recorded, "foo\n", 3, text)?;
-    }
-    Ok(hold)
 }
 
 #[test]
 fn properties_come_after_the_recording(rt: HostRuntime) -> Result<(), Fail> {
-    assert!(rt; recordings_are_refused(&rt)?);
+    let rows: [Run; 4] = [
+        (
+            ["", "foo\n", USE],
+            "foo\n",
+            3,
+            "refused manifest 1 badline\n",
+        ),
+        (
+            [ONE_ROOT, AUTH, "foo\n"],
+            "foo\n",
+            3,
+            "refused t2.trace 1 badword\n",
+        ),
+        (
+            [ONE_ROOT, "start 3\n", USE],
+            "foo\n",
+            3,
+            "refused recording unknownthread 3\n",
+        ),
+        (
+            [ONE_ROOT, AUTH, USE],
+            "foo\n",
+            3,
+            "refused props 1 badword\n",
+        ),
+    ];
+    assert!(rt; runs_hold(&rt, LIST, &rows)?);
     Ok(())
 }
 
@@ -283,11 +291,16 @@ fn length_ends<R: AllocGlobal + Threads + Sync>(
     ends(rt, LIST, files, status, text)
 }
 
+fn lengths_hold<R: AllocGlobal + Threads + Sync>(rt: &R) -> Result<bool, AllocError> {
+    let text = "window 1\nproperty late_auth 1\ninstance 0 2.0 1.1\ntotal 1\n";
+    Ok(
+        length_ends(rt, 262_144, 0, text)?
+            && length_ends(rt, 262_145, 3, "refused props toolong\n")?,
+    )
+}
+
 #[test]
 fn properties_may_have_262144_bytes(rt: HostRuntime) -> Result<(), Fail> {
-    let text = "window 1\nproperty late_auth 1\ninstance 0 2.0 1.1\ntotal 1\n";
-    let longest = length_ends(&rt, 262_144, 0, text)?;
-    let longer = length_ends(&rt, 262_145, 3, "refused props toolong\n")?;
-    assert!(rt; longest && longer);
+    assert!(rt; lengths_hold(&rt)?);
     Ok(())
 }

@@ -1,10 +1,14 @@
 // Whole runs of task replay.
-use super::{AUTH, ONE_ROOT, REPLAY, TWO_ROOTS, USE, add, ends, lengthen, recording, replays_to};
+use super::{
+    AUTH, ONE_ROOT, REPLAY, Run, TWO_ROOTS, USE, add, ends, lengthen, recording, refusals_hold,
+    runs_hold, task_ends,
+};
 use std::alloc::AllocError;
 use std::test::Fail;
 use std::thread::Threads;
 
-fn schedules_end_so<R: AllocGlobal + Threads + Sync>(rt: &R) -> Result<bool, AllocError> {
+#[test]
+fn schedules_are_replayed(rt: HostRuntime) -> Result<(), Fail> {
     let auth = [ONE_ROOT, AUTH, USE];
     let waits = [
         ONE_ROOT,
@@ -24,8 +28,8 @@ fn schedules_end_so<R: AllocGlobal + Threads + Sync>(rt: &R) -> Result<bool, All
         "acquire l\nmark\nop a\nrelease l\n",
         "mark\nacquire l\nread x 5\nop u\n",
     ];
-    let mut hold = true;
-    for (recorded, schedule, status, text) in [
+
+    let rows: [Run; 23] = [
         (auth, "window 1\n1.0 2.0 1.1\n", 0u8, "feasible 3\n"),
         (
             auth,
@@ -54,21 +58,14 @@ fn schedules_end_so<R: AllocGlobal + Threads + Sync>(rt: &R) -> Result<bool, All
         (epochs, "window 2\n2.0\n", 1, "stuck 0 3\n"),
         (epochs, "window 1\n1.0\n", 0, "feasible 1\n"),
         (epochs, "window 3\n", 3, "refused schedule 1 badline\n"),
-    ] {
-        hold &= replays_to(rt, recorded, schedule, status, text)?;
-    }
-    Ok(hold)
-}
-
-#[test]
-fn schedules_are_replayed(rt: HostRuntime) -> Result<(), Fail> {
-    assert!(rt; schedules_end_so(&rt)?);
+    ];
+    assert!(rt; runs_hold(&rt, REPLAY, &rows)?);
     Ok(())
 }
 
-fn manifests_are_refused<R: AllocGlobal + Threads + Sync>(rt: &R) -> Result<bool, AllocError> {
-    let mut hold = true;
-    for (manifest, text) in [
+#[test]
+fn malformed_manifests_are_refused_at_their_line(rt: HostRuntime) -> Result<(), Fail> {
+    let rows: [(&str, &str); 22] = [
         ("", "refused manifest 1 badline\n"),
         (
             "gptrace 1\nthreads 1\nepochs 0\nroots 1\n",
@@ -151,21 +148,26 @@ fn manifests_are_refused<R: AllocGlobal + Threads + Sync>(rt: &R) -> Result<bool
             "refused manifest 3 notascii\n",
         ),
         ("gptrace 3", "refused manifest 1 nolastnewline\n"),
-    ] {
-        hold &= replays_to(rt, [manifest, AUTH, USE], "window 1\n", 3, text)?;
-    }
-    Ok(hold)
-}
-
-#[test]
-fn malformed_manifests_are_refused_at_their_line(rt: HostRuntime) -> Result<(), Fail> {
-    assert!(rt; manifests_are_refused(&rt)?);
+    ];
+    assert!(rt; refusals_hold(&rt, REPLAY, ["", AUTH, USE, "window 1\n"], 0, &rows)?);
     Ok(())
 }
 
-fn traces_are_refused<R: AllocGlobal + Threads + Sync>(rt: &R) -> Result<bool, AllocError> {
-    let mut hold = true;
-    for (trace, text) in [
+/// Whether a root that is alone is refused so.
+fn one_thread_is_refused<R: AllocGlobal + Threads + Sync>(rt: &R) -> Result<bool, AllocError> {
+    let one = "gptrace 1\nthreads 1\nepochs 1\nroots 1\n";
+    let two = "gptrace 1\nthreads 1\nepochs 2\nroots 1\n";
+    let released = "refused t1.trace 2 releaseunheld\n";
+    let unmarked = "refused t1.trace 2 markcount\n";
+    Ok(
+        task_ends(rt, REPLAY, [one, "op a\nrelease l\n", ""], "", 3, released)?
+            && task_ends(rt, REPLAY, [two, "op a\n", ""], "", 3, unmarked)?,
+    )
+}
+
+#[test]
+fn malformed_traces_are_refused_at_their_line(rt: HostRuntime) -> Result<(), Fail> {
+    let rows: [(&str, &str); 21] = [
         ("read x\n", "refused t1.trace 1 badword\n"),
         ("read x -0\n", "refused t1.trace 1 badword\n"),
         ("read x 01\n", "refused t1.trace 1 badword\n"),
@@ -196,33 +198,17 @@ fn traces_are_refused<R: AllocGlobal + Threads + Sync>(rt: &R) -> Result<bool, A
         ("exit\nmark 1\n", "refused t1.trace 2 afterexit\n"),
         ("op a", "refused t1.trace 1 nolastnewline\n"),
         ("op a\nop \u{e9}\n", "refused t1.trace 2 notascii\n"),
-    ] {
-        hold &= replays_to(rt, [ONE_ROOT, trace, USE], "window 1\n", 3, text)?;
-    }
-    Ok(hold)
-}
-
-/// Whether a root that is alone is refused so.
-fn one_thread_is_refused<R: AllocGlobal + Threads + Sync>(rt: &R) -> Result<bool, AllocError> {
-    let one = "gptrace 1\nthreads 1\nepochs 1\nroots 1\n";
-    let two = "gptrace 1\nthreads 1\nepochs 2\nroots 1\n";
-    let released = "refused t1.trace 2 releaseunheld\n";
-    let unmarked = "refused t1.trace 2 markcount\n";
-    Ok(
-        replays_to(rt, [one, "op a\nrelease l\n", ""], "", 3, released)?
-            && replays_to(rt, [two, "op a\n", ""], "", 3, unmarked)?,
-    )
-}
-
-#[test]
-fn malformed_traces_are_refused_at_their_line(rt: HostRuntime) -> Result<(), Fail> {
-    assert!(rt; traces_are_refused(&rt)? && one_thread_is_refused(&rt)?);
+    ];
+    assert!(rt;
+        refusals_hold(&rt, REPLAY, [ONE_ROOT, "", USE, "window 1\n"], 1, &rows)?
+            && one_thread_is_refused(&rt)?
+    );
     Ok(())
 }
 
-fn schedules_are_refused<R: AllocGlobal + Threads + Sync>(rt: &R) -> Result<bool, AllocError> {
-    let mut hold = true;
-    for (schedule, text) in [
+#[test]
+fn malformed_schedules_are_refused_at_their_line(rt: HostRuntime) -> Result<(), Fail> {
+    let rows: [(&str, &str); 19] = [
         ("", "refused schedule 1 badline\n"),
         ("# none\n", "refused schedule 2 badline\n"),
         ("window 0\n", "refused schedule 1 badline\n"),
@@ -245,15 +231,8 @@ fn schedules_are_refused<R: AllocGlobal + Threads + Sync>(rt: &R) -> Result<bool
         ),
         ("foo\nbar\t\n", "refused schedule 2 notascii\n"),
         ("window 1", "refused schedule 1 nolastnewline\n"),
-    ] {
-        hold &= replays_to(rt, [ONE_ROOT, AUTH, USE], schedule, 3, text)?;
-    }
-    Ok(hold)
-}
-
-#[test]
-fn malformed_schedules_are_refused_at_their_line(rt: HostRuntime) -> Result<(), Fail> {
-    assert!(rt; schedules_are_refused(&rt)?);
+    ];
+    assert!(rt; refusals_hold(&rt, REPLAY, [ONE_ROOT, AUTH, USE, ""], 3, &rows)?);
     Ok(())
 }
 
@@ -273,23 +252,27 @@ fn length_ends<R: AllocGlobal + Threads + Sync>(
     ends(rt, REPLAY, files, status, text)
 }
 
-fn lengths_are_limited<R: AllocGlobal + Threads + Sync>(rt: &R) -> Result<bool, AllocError> {
+fn lengths_are_limited<R: AllocGlobal + Threads + Sync>(
+    rt: &R,
+    rows: &[(usize, usize, &str)],
+) -> Result<bool, AllocError> {
     let mut hold = true;
-    for (place, limit, text) in [
-        (0usize, 1_048_576usize, "refused manifest toolong\n"),
-        (1, 2_097_152, "refused t1.trace toolong\n"),
-        (2, 2_097_152, "refused t2.trace toolong\n"),
-        (3, 16_777_216, "refused schedule toolong\n"),
-    ] {
-        hold &= length_ends(rt, place, limit, 0, "feasible 0\n")?;
-        hold &= length_ends(rt, place, limit + 1, 3, text)?;
+    for (place, limit, text) in rows {
+        hold &= length_ends(rt, *place, *limit, 0, "feasible 0\n")?;
+        hold &= length_ends(rt, *place, limit.saturating_add(1), 3, text)?;
     }
     Ok(hold)
 }
 
 #[test]
 fn a_file_may_be_as_long_as_its_limit(rt: HostRuntime) -> Result<(), Fail> {
-    assert!(rt; lengths_are_limited(&rt)?);
+    let rows = [
+        (0, 1_048_576, "refused manifest toolong\n"),
+        (1, 2_097_152, "refused t1.trace toolong\n"),
+        (2, 2_097_152, "refused t2.trace toolong\n"),
+        (3, 16_777_216, "refused schedule toolong\n"),
+    ];
+    assert!(rt; lengths_are_limited(&rt, &rows)?);
     Ok(())
 }
 
@@ -309,10 +292,15 @@ fn line_ends<R: AllocGlobal + Threads + Sync>(
     ends(rt, REPLAY, files, status, text)
 }
 
+fn long_lines_hold<R: AllocGlobal + Threads + Sync>(rt: &R) -> Result<bool, AllocError> {
+    Ok(
+        line_ends(rt, 4_096, 0, "feasible 0\n")?
+            && line_ends(rt, 4_097, 3, "refused t1.trace 1 longline\n")?,
+    )
+}
+
 #[test]
 fn a_line_may_have_4096_bytes(rt: HostRuntime) -> Result<(), Fail> {
-    let longest = line_ends(&rt, 4_096, 0, "feasible 0\n")?;
-    let longer = line_ends(&rt, 4_097, 3, "refused t1.trace 1 longline\n")?;
-    assert!(rt; longest && longer);
+    assert!(rt; long_lines_hold(&rt)?);
     Ok(())
 }

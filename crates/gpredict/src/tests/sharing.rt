@@ -1,8 +1,6 @@
 // Whole runs over recordings with shared locks, which the format of `gptrace 2` admits.
-use super::{TWO_ROOTS, replays_to};
-use std::alloc::AllocError;
+use super::{REPLAY, Run, TWO_ROOTS, refusals_hold, runs_hold};
 use std::test::Fail;
-use std::thread::Threads;
 
 /// Two threads, both roots, one epoch.
 const SHARED: &str = "gptrace 2\nthreads 2\nepochs 1\nroots 1 2\n";
@@ -13,14 +11,15 @@ const SHARED_EPOCHS: &str = "gptrace 2\nthreads 2\nepochs 2\nroots 1 2\n";
 /// A read under a lock that is shared.
 const READER: &str = "racquire l\nread x 0\nrrelease l\n";
 
-fn schedules_end_so<R: AllocGlobal + Threads + Sync>(rt: &R) -> Result<bool, AllocError> {
+#[test]
+fn several_threads_may_share_a_lock(rt: HostRuntime) -> Result<(), Fail> {
     let both_share = "racquire l\nwrite x 1\nrrelease l\n";
     let one_holds = "acquire l\nwrite x 1\nrelease l\n";
     let over_mark = "racquire l\nmark\nop a\nrrelease l\n";
     let shares_later = "mark\nracquire l\nop u\n";
     let holds_later = "mark\nacquire l\nop u\n";
-    let mut hold = true;
-    for (recorded, schedule, status, text) in [
+
+    let rows: [Run; 9] = [
         (
             [SHARED, READER, both_share],
             "window 1\n1.0 2.0\n",
@@ -75,21 +74,14 @@ fn schedules_end_so<R: AllocGlobal + Threads + Sync>(rt: &R) -> Result<bool, All
             0,
             "feasible 3\n",
         ),
-    ] {
-        hold &= replays_to(rt, recorded, schedule, status, text)?;
-    }
-    Ok(hold)
-}
-
-#[test]
-fn several_threads_may_share_a_lock(rt: HostRuntime) -> Result<(), Fail> {
-    assert!(rt; schedules_end_so(&rt)?);
+    ];
+    assert!(rt; runs_hold(&rt, REPLAY, &rows)?);
     Ok(())
 }
 
-fn traces_are_refused<R: AllocGlobal + Threads + Sync>(rt: &R) -> Result<bool, AllocError> {
-    let mut hold = true;
-    for (trace, text) in [
+#[test]
+fn a_lock_is_given_back_as_it_was_taken(rt: HostRuntime) -> Result<(), Fail> {
+    let rows: [(&str, &str); 7] = [
         (
             "racquire l\nracquire l\n",
             "refused t1.trace 2 acquireheld\n",
@@ -112,29 +104,25 @@ fn traces_are_refused<R: AllocGlobal + Threads + Sync>(rt: &R) -> Result<bool, A
             "refused t1.trace 2 releaseunheld\n",
         ),
         ("racquire\n", "refused t1.trace 1 badword\n"),
-    ] {
-        hold &= replays_to(rt, [SHARED, trace, "op a\n"], "window 1\n", 3, text)?;
-    }
-    Ok(hold)
-}
-
-#[test]
-fn a_lock_is_given_back_as_it_was_taken(rt: HostRuntime) -> Result<(), Fail> {
-    assert!(rt; traces_are_refused(&rt)?);
+    ];
+    assert!(rt; refusals_hold(&rt, REPLAY, [SHARED, "", "op a\n", "window 1\n"], 1, &rows)?);
     Ok(())
 }
 
-fn marks_are_checked<R: AllocGlobal + Threads + Sync>(rt: &R) -> Result<bool, AllocError> {
+#[test]
+fn no_lock_is_shared_and_held_over_a_mark(rt: HostRuntime) -> Result<(), Fail> {
     let three = "gptrace 2\nthreads 2\nepochs 3\nroots 1 2\n";
-    let mut hold = true;
-    for (recorded, status, text) in [
+
+    let rows: [Run; 4] = [
         (
             [SHARED_EPOCHS, "racquire l\nmark\n", "racquire l\nmark\n"],
+            "window 1\n",
             0u8,
             "feasible 0\n",
         ),
         (
             [SHARED_EPOCHS, "racquire l\nmark\n", "acquire l\nmark\n"],
+            "window 1\n",
             3,
             "refused recording twoholders l 2\n",
         ),
@@ -144,6 +132,7 @@ fn marks_are_checked<R: AllocGlobal + Threads + Sync>(rt: &R) -> Result<bool, Al
                 "acquire m\nracquire l\nmark\n",
                 "acquire l\nracquire m\nmark\n",
             ],
+            "window 1\n",
             3,
             "refused recording twoholders l 2\n",
         ),
@@ -153,17 +142,11 @@ fn marks_are_checked<R: AllocGlobal + Threads + Sync>(rt: &R) -> Result<bool, Al
                 "racquire m\nmark\nracquire l\nmark\n",
                 "acquire m\nmark\nacquire l\nmark\n",
             ],
+            "window 1\n",
             3,
             "refused recording twoholders m 2\n",
         ),
-    ] {
-        hold &= replays_to(rt, recorded, "window 1\n", status, text)?;
-    }
-    Ok(hold)
-}
-
-#[test]
-fn no_lock_is_shared_and_held_over_a_mark(rt: HostRuntime) -> Result<(), Fail> {
-    assert!(rt; marks_are_checked(&rt)?);
+    ];
+    assert!(rt; runs_hold(&rt, REPLAY, &rows)?);
     Ok(())
 }

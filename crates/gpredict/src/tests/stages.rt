@@ -1,90 +1,11 @@
 // Which of several refusals is told, and that nothing after it is read.
 use super::{
-    AUTH, Files, LIST, ONE_ROOT, REPLAY, Script, TWO_ROOTS, USE, add, ends, recording, replays_to,
-    runs_to, words_of,
+    AUTH, Files, LIST, ONE_ROOT, REPLAY, Run, Script, TWO_ROOTS, USE, add, ends, recording,
+    runs_hold, runs_to, words_of,
 };
 use std::alloc::AllocError;
 use std::test::Fail;
 use std::thread::Threads;
-
-fn refusals_come_in_order<R: AllocGlobal + Threads + Sync>(rt: &R) -> Result<bool, AllocError> {
-    let epochs = "gptrace 1\nthreads 2\nepochs 2\nroots 1 2\n";
-    let mut hold = true;
-    for (manifest, first, second, text) in [
-        (
-            ONE_ROOT,
-            "start 3\n",
-            USE,
-            "refused recording unknownthread 3\n",
-        ),
-        (
-            ONE_ROOT,
-            "join 3\n",
-            USE,
-            "refused recording unknownthread 3\n",
-        ),
-        (
-            ONE_ROOT,
-            "start 0\n",
-            USE,
-            "refused recording unknownthread 0\n",
-        ),
-        (
-            ONE_ROOT,
-            AUTH,
-            "start 1\n",
-            "refused recording startsroot 1\n",
-        ),
-        (
-            ONE_ROOT,
-            "start 2\nstart 2\n",
-            USE,
-            "refused recording twostarts 2\n",
-        ),
-        (
-            TWO_ROOTS,
-            "start 2\n",
-            USE,
-            "refused recording startsroot 2\n",
-        ),
-        (
-            epochs,
-            "acquire l\nmark\n",
-            "acquire l\nmark\n",
-            "refused recording twoholders l 2\n",
-        ),
-        (
-            epochs,
-            "acquire m\nacquire l\nmark\n",
-            "acquire l\nacquire m\nmark\n",
-            "refused recording twoholders l 2\n",
-        ),
-        (
-            epochs,
-            "start 2\nacquire l\nmark\n",
-            "acquire l\nmark\n",
-            "refused recording startsroot 2\n",
-        ),
-        (
-            ONE_ROOT,
-            "start 3\n",
-            "start 2\n",
-            "refused t2.trace 1 nameself\n",
-        ),
-        (ONE_ROOT, "foo\n", "foo\n", "refused t1.trace 1 badword\n"),
-        ("", "foo\n", "foo\n", "refused manifest 1 badline\n"),
-        (ONE_ROOT, AUTH, USE, "refused schedule 1 badline\n"),
-        (
-            epochs,
-            "acquire l\nmark\n",
-            "acquire l\nrelease l\nmark\n",
-            "refused schedule 1 badline\n",
-        ),
-    ] {
-        hold &= replays_to(rt, [manifest, first, second], "", 3, text)?;
-    }
-    Ok(hold)
-}
 
 /// Whether two starts by the first and the third thread are told before the schedule.
 fn two_starts_are_refused<R: AllocGlobal + Threads + Sync>(rt: &R) -> Result<bool, AllocError> {
@@ -97,7 +18,94 @@ fn two_starts_are_refused<R: AllocGlobal + Threads + Sync>(rt: &R) -> Result<boo
 
 #[test]
 fn the_first_refusal_in_order_is_told(rt: HostRuntime) -> Result<(), Fail> {
-    assert!(rt; refusals_come_in_order(&rt)? && two_starts_are_refused(&rt)?);
+    let epochs = "gptrace 1\nthreads 2\nepochs 2\nroots 1 2\n";
+
+    let rows: [Run; 14] = [
+        (
+            [ONE_ROOT, "start 3\n", USE],
+            "",
+            3,
+            "refused recording unknownthread 3\n",
+        ),
+        (
+            [ONE_ROOT, "join 3\n", USE],
+            "",
+            3,
+            "refused recording unknownthread 3\n",
+        ),
+        (
+            [ONE_ROOT, "start 0\n", USE],
+            "",
+            3,
+            "refused recording unknownthread 0\n",
+        ),
+        (
+            [ONE_ROOT, AUTH, "start 1\n"],
+            "",
+            3,
+            "refused recording startsroot 1\n",
+        ),
+        (
+            [ONE_ROOT, "start 2\nstart 2\n", USE],
+            "",
+            3,
+            "refused recording twostarts 2\n",
+        ),
+        (
+            [TWO_ROOTS, "start 2\n", USE],
+            "",
+            3,
+            "refused recording startsroot 2\n",
+        ),
+        (
+            [epochs, "acquire l\nmark\n", "acquire l\nmark\n"],
+            "",
+            3,
+            "refused recording twoholders l 2\n",
+        ),
+        (
+            [
+                epochs,
+                "acquire m\nacquire l\nmark\n",
+                "acquire l\nacquire m\nmark\n",
+            ],
+            "",
+            3,
+            "refused recording twoholders l 2\n",
+        ),
+        (
+            [epochs, "start 2\nacquire l\nmark\n", "acquire l\nmark\n"],
+            "",
+            3,
+            "refused recording startsroot 2\n",
+        ),
+        (
+            [ONE_ROOT, "start 3\n", "start 2\n"],
+            "",
+            3,
+            "refused t2.trace 1 nameself\n",
+        ),
+        (
+            [ONE_ROOT, "foo\n", "foo\n"],
+            "",
+            3,
+            "refused t1.trace 1 badword\n",
+        ),
+        (
+            ["", "foo\n", "foo\n"],
+            "",
+            3,
+            "refused manifest 1 badline\n",
+        ),
+        ([ONE_ROOT, AUTH, USE], "", 3, "refused schedule 1 badline\n"),
+        (
+            [epochs, "acquire l\nmark\n", "acquire l\nrelease l\nmark\n"],
+            "",
+            3,
+            "refused schedule 1 badline\n",
+        ),
+    ];
+    assert!(rt; runs_hold(&rt, REPLAY, &rows)? && two_starts_are_refused(&rt)?);
     Ok(())
 }
 
@@ -123,21 +131,33 @@ fn absence_ends<R: AllocGlobal + Threads + Sync>(
     Ok(runs_to(rt, words.as_slice(), files, script, 3, text))
 }
 
+/// Whether a task is refused so where the file at a place is absent.
+fn is_missed<R: AllocGlobal + Threads + Sync>(
+    rt: &R,
+    task: &str,
+    first: &str,
+    (name, text): (&str, &str),
+    place: usize,
+    told: &str,
+) -> Result<bool, AllocError> {
+    let mut files = recording(rt.alloc(), [ONE_ROOT, first, USE])?;
+    add(&mut files, rt.alloc(), name, text)?;
+    absence_ends(rt, task, files, place, told)
+}
+
 fn absences_are_refused<R: AllocGlobal + Threads + Sync>(rt: &R) -> Result<bool, AllocError> {
-    let mut hold = true;
+    let schedule = ("schedule", "window 1\n");
+    let props = ("props", "property p\n");
+    let mut hold = is_missed(rt, LIST, AUTH, props, 3, "refused props absent\n")?;
     for (place, first, text) in [
         (0usize, "foo\n", "refused manifest absent\n"),
         (1, "foo\n", "refused t1.trace absent\n"),
         (2, "foo\n", "refused t2.trace absent\n"),
         (3, AUTH, "refused schedule absent\n"),
     ] {
-        let mut files = recording(rt.alloc(), [ONE_ROOT, first, USE])?;
-        add(&mut files, rt.alloc(), "schedule", "window 1\n")?;
-        hold &= absence_ends(rt, REPLAY, files, place, text)?;
+        hold &= is_missed(rt, REPLAY, first, schedule, place, text)?;
     }
-    let mut files = recording(rt.alloc(), [ONE_ROOT, AUTH, USE])?;
-    add(&mut files, rt.alloc(), "props", "property p\n")?;
-    Ok(hold && absence_ends(rt, LIST, files, 3, "refused props absent\n")?)
+    Ok(hold)
 }
 
 #[test]

@@ -90,7 +90,7 @@ fn lists<R: AllocGlobal + Threads + Sync>(
 }
 
 fn instances_hold<R: AllocGlobal + Threads + Sync>(rt: &R) -> Result<bool, Fail> {
-    let rows: [(Recorded, &str, &str); 18] = [
+    const ROWS: [(Recorded, &str, &str); 18] = [
         (
             (ONE_ROOT, "start 2\nop auth r\n", "op use r\n"),
             AUTH,
@@ -199,8 +199,8 @@ fn instances_hold<R: AllocGlobal + Threads + Sync>(rt: &R) -> Result<bool, Fail>
         ),
     ];
     let mut hold = true;
-    for (recorded, property, text) in rows {
-        hold &= lists(rt, recorded, property, text)?;
+    for (recorded, property, text) in &ROWS {
+        hold &= lists(rt, *recorded, property, text)?;
     }
     Ok(hold)
 }
@@ -295,8 +295,8 @@ fn matched(
 }
 
 fn matches_hold(alloc: Global, property: &Property) -> Result<bool, AllocError> {
-    let events = [(1u32, 0u32), (2, 0), (3, 0), (4, 0)];
-    let rows: [(&[(u32, u32)], bool); 8] = [
+    const EVENTS: [(u32, u32); 4] = [(1, 0), (2, 0), (3, 0), (4, 0)];
+    const ROWS: [(&[(u32, u32)], bool); 8] = [
         (&[(1, 0), (2, 0), (3, 0), (4, 0)], true),
         (&[(1, 0), (3, 0), (2, 0), (4, 0)], true),
         (&[(1, 0), (5, 0), (3, 0), (2, 0), (5, 1), (4, 0)], true),
@@ -307,8 +307,8 @@ fn matches_hold(alloc: Global, property: &Property) -> Result<bool, AllocError> 
         (&[(1, 0), (2, 0), (3, 0)], false),
     ];
     let mut hold = true;
-    for (schedule, due) in rows {
-        hold &= matched(alloc, property, &events, schedule)? == Some(due);
+    for (schedule, due) in &ROWS {
+        hold &= matched(alloc, property, &EVENTS, schedule)? == Some(*due);
     }
     Ok(hold)
 }

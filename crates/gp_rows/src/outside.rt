@@ -43,9 +43,7 @@ fn scripted(alloc: Global) -> Result<MemoryFolder, AllocError> {
 }
 
 fn scripted_reads_hold(alloc: Global) -> Result<bool, AllocError> {
-    let mut folder = scripted(alloc)?;
-    let mut hold = true;
-    for (name, limit, answer, text) in [
+    const ROWS: [(&str, u64, Result<(), ReadFault>, &str); 8] = [
         ("one", 5, Ok(()), "first"),
         ("two", 2, Err(ReadFault::TooLong), "xyz"),
         ("three", 9, Err(ReadFault::Absent), ""),
@@ -54,7 +52,11 @@ fn scripted_reads_hold(alloc: Global) -> Result<bool, AllocError> {
         ("none", 0, Ok(()), ""),
         ("two", 0, Err(ReadFault::TooLong), "x"),
         ("two", u64::MAX, Ok(()), "xyz"),
-    ] {
+    ];
+    let mut folder = scripted(alloc)?;
+    let mut hold = true;
+    for row in &ROWS {
+        let (name, limit, answer, text) = *row;
         hold &= reads(alloc, &mut folder, (name, limit), answer, text.as_bytes())?;
     }
     Ok(hold)
@@ -110,16 +112,18 @@ fn dir_folder_reads_files_of_the_system(rt: HostRuntime) -> Result<(), Fail> {
 }
 
 fn scripted_puts_hold(alloc: Global) -> Result<bool, AllocError> {
-    let failing = vec![in alloc; (1u64, 3u64), (3, 0), (4, 99)]?;
-    let mut sink = MemorySink::new(alloc, failing);
-    let mut hold = true;
-    for (piece, answer, text) in [
+    const ROWS: [(&str, Result<(), PutFault>, &str); 5] = [
         ("hello", Err(PutFault::Failed), "hel"),
         ("ab", Ok(()), "helab"),
         ("cd", Err(PutFault::Failed), "helab"),
         ("ef", Err(PutFault::Failed), "helabef"),
         ("", Ok(()), "helabef"),
-    ] {
+    ];
+    let failing = vec![in alloc; (1u64, 3u64), (3, 0), (4, 99)]?;
+    let mut sink = MemorySink::new(alloc, failing);
+    let mut hold = true;
+    for row in &ROWS {
+        let (piece, answer, text) = *row;
         hold &= sink.put(piece.as_bytes()) == answer && sink.bytes() == text.as_bytes();
     }
     Ok(hold)
@@ -182,19 +186,21 @@ impl Print for Narrow {
 }
 
 fn narrow_puts_hold(alloc: Global) -> bool {
+    const ROWS: [(&str, Result<(), PutFault>, &str); 5] = [
+        ("three", Err(PutFault::Failed), "th"),
+        ("seven", Err(PutFault::Failed), "thseve"),
+        ("five", Ok(()), "thsevefive"),
+        ("odd", Ok(()), "thsevefiveodd"),
+        ("", Ok(()), "thsevefiveodd"),
+    ];
     let narrow = Narrow {
         written: RefCell::new(Vec::new(alloc)),
         writes: Cell::new(0),
     };
     let mut sink = StdSink::new(&narrow);
     let mut hold = true;
-    for (piece, answer, text) in [
-        ("three", Err(PutFault::Failed), "th"),
-        ("seven", Err(PutFault::Failed), "thseve"),
-        ("five", Ok(()), "thsevefive"),
-        ("odd", Ok(()), "thsevefiveodd"),
-        ("", Ok(()), "thsevefiveodd"),
-    ] {
+    for row in &ROWS {
+        let (piece, answer, text) = *row;
         hold &= sink.put(piece.as_bytes()) == answer && narrow.has(text);
     }
     hold

@@ -32,7 +32,7 @@ fn texts_are_printed(alloc: Global, texts: &[&[u8]]) -> Result<bool, Fail> {
 
 #[test]
 fn properties_are_printed_as_they_are_read(rt: HostRuntime) -> Result<(), Fail> {
-    let texts: [&[u8]; 9] = [
+    const TEXTS: [&[u8]; 9] = [
         b"property late_auth\nevent use op use $o\nevent auth op auth $o\npattern use@u auth@t\n",
         b"property mid\nevent create op create $c\nevent update op update $c\nevent next op next $c\npattern create@t update@u next@t\n",
         b"property adj\nevent r read x *\nevent w write x *\npattern r@t || w@u\n",
@@ -43,7 +43,7 @@ fn properties_are_printed_as_they_are_read(rt: HostRuntime) -> Result<(), Fail> 
         b"property all\nevent a read * -9223372036854775808\nevent b write $v 7\nevent c acquire $l\nevent d release l\nevent e start 4294967295\nevent f start *\nevent g join 0\nevent h join *\nevent i op o a $b * d\nevent j begin $r\nevent k end *\npattern a@t || b@u || c@v || d@w j@t<9 k@t>9\n",
         b"property two\nevent b begin *\nevent e end *\npattern b@s<2 b@t<1 e@s>2 e@t>1\n",
     ];
-    assert!(rt; texts_are_printed(rt.alloc(), &texts)?);
+    assert!(rt; texts_are_printed(rt.alloc(), &TEXTS)?);
     Ok(())
 }
 
@@ -62,7 +62,7 @@ fn is_told(alloc: Global, text: &[u8], fault: Option<PropertyFault>) -> bool {
 
 #[test]
 fn the_first_broken_rule_is_told(rt: HostRuntime) {
-    let rows: [(&[u8], PropertyFault); 43] = [
+    const ROWS: [(&[u8], PropertyFault); 43] = [
         (b"", PropertyFault::Empty(1)),
         (b"# none\n\n", PropertyFault::Empty(3)),
         (b"property a\nevent b op b\n", PropertyFault::Empty(3)),
@@ -198,7 +198,7 @@ fn the_first_broken_rule_is_told(rt: HostRuntime) {
         ),
     ];
     assert!(rt;
-        rows.iter()
+        ROWS.iter()
             .all(|(text, fault)| is_told(rt.alloc(), text, Some(*fault)))
     );
 }

@@ -114,14 +114,15 @@ fn last_states_are_given(rt: HostRuntime) -> Result<(), Fail> {
 }
 
 fn shared_ends_hold<R: AllocGlobal + Threads + Sync>(rt: &R) -> Result<bool, Fail> {
-    let recording = sharing(rt)?;
-    let mut hold = true;
-    for (text, due) in [
-        (b"window 1\n1.0 2.0\n".as_slice(), Due::Shared),
+    const ROWS: [(&[u8], Due); 3] = [
+        (b"window 1\n1.0 2.0\n", Due::Shared),
         (b"window 1\n1.0 2.0 2.1 2.2\n", Due::Stuck),
         (b"window 1\n2.0 2.1 2.2 1.0\n", Due::Stuck),
-    ] {
-        hold &= ends(rt.alloc(), &recording, text, due)?;
+    ];
+    let recording = sharing(rt)?;
+    let mut hold = true;
+    for (text, due) in &ROWS {
+        hold &= ends(rt.alloc(), &recording, text, *due)?;
     }
     Ok(hold)
 }

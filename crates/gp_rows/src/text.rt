@@ -72,16 +72,17 @@ fn is_told(text: &[u8], fault: Option<TextFault>) -> bool {
 }
 
 fn rows_are_read(alloc: Global) -> Result<bool, Fail> {
-    let mut hold = true;
-    for (text, told) in [
-        (b"".as_slice(), b"".as_slice()),
+    const ROWS: [(&[u8], &[u8]); 4] = [
+        (b"", b""),
         (b"\n", b""),
         (
             b"# a b\n\n  read  x   -1 \n   \n #\nexit\n",
             b"3 read x -1\n6 exit\n",
         ),
         (b"!~ #\n", b"1 !~ #\n"),
-    ] {
+    ];
+    let mut hold = true;
+    for (text, told) in &ROWS {
         hold &= is_read(alloc, text, told)?;
     }
     Ok(hold)
@@ -131,7 +132,7 @@ fn is_spelled(row: &Spelled) -> bool {
 
 #[test]
 fn numbers_are_read(rt: HostRuntime) {
-    let rows: [Spelled; 20] = [
+    const ROWS: [Spelled; 20] = [
         (b"0", Some(0), Some(0), Some(0)),
         (b"00", None, None, None),
         (b"01", None, None, None),
@@ -178,7 +179,7 @@ fn numbers_are_read(rt: HostRuntime) {
         ),
         (b"18446744073709551616", None, None, None),
     ];
-    assert!(rt; rows.iter().all(|row| is_spelled(row)));
+    assert!(rt; ROWS.iter().all(|row| is_spelled(row)));
 }
 
 fn numbers(alloc: Global) -> Result<Vec<u8>, AllocError> {
@@ -206,7 +207,7 @@ fn are_in_order() -> bool {
 
 #[test]
 fn names_are_told(rt: HostRuntime) {
-    let rows: [(&[u8], bool); 9] = [
+    const ROWS: [(&[u8], bool); 9] = [
         (b"", false),
         (b"a", true),
         (b"lock_9", true),
@@ -219,7 +220,7 @@ fn names_are_told(rt: HostRuntime) {
     ];
     assert!(rt;
         are_in_order()
-            && rows
+            && ROWS
                 .iter()
                 .all(|(bytes, is_name)| Name::of(bytes).is_some() == *is_name)
     );

@@ -9,7 +9,7 @@ type Row<'a> = (u32, u32, &'a [u8], Option<TraceFault>);
 
 #[test]
 fn faults_are_told(rt: HostRuntime) {
-    let rows: [Row; 36] = [
+    const ROWS: [Row; 36] = [
         (1, 1, b"acquire m\nbegin r\nmark\nexit\n", None),
         (1, 1, b"exit\nmark\n", None),
         (
@@ -117,7 +117,7 @@ fn faults_are_told(rt: HostRuntime) {
         ),
         (2, 0, b"rrelease m\n", Some(TraceFault::ReleaseUnheld(1))),
     ];
-    assert!(rt; rows.iter().all(|row| is_told(rt.alloc(), row)));
+    assert!(rt; ROWS.iter().all(|row| is_told(rt.alloc(), row)));
 }
 
 fn is_told(alloc: Global, row: &Row) -> bool {

@@ -84,8 +84,7 @@ fn is_due(found: &Result<Recording, RecordingFault>, due: Option<(&str, u32)>) -
 }
 
 fn marks_hold<R: AllocGlobal + Threads + Sync>(rt: &R) -> bool {
-    let manifest = "gptrace 2\nthreads 2\nepochs 3\nroots 1 2\n";
-    let rows = [
+    const ROWS: [(&str, &str, Option<(&str, u32)>); 2] = [
         (
             "racquire m\nmark\nmark\n",
             "racquire m\nmark\nmark\nrrelease m\n",
@@ -97,7 +96,8 @@ fn marks_hold<R: AllocGlobal + Threads + Sync>(rt: &R) -> bool {
             Some(("a", 3)),
         ),
     ];
-    rows.iter().all(|(first, second, due)| is_due(&pair_of(rt, manifest, first, second), *due))
+    let manifest = "gptrace 2\nthreads 2\nepochs 3\nroots 1 2\n";
+    ROWS.iter().all(|(first, second, due)| is_due(&pair_of(rt, manifest, first, second), *due))
 }
 
 #[test]

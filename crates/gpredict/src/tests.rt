@@ -206,7 +206,7 @@ fn words_hold<R: AllocGlobal + Threads + Sync>(
 
 #[test]
 fn other_words_are_refused(rt: HostRuntime) -> Result<(), Fail> {
-    let rows: [(&[&str], u8, &str); 12] = [
+    const ROWS: [(&[&str], u8, &str); 12] = [
         (&[], 2, "words\n"),
         (&[REPLAY], 2, "words\n"),
         (&[LIST], 2, "words\n"),
@@ -220,7 +220,7 @@ fn other_words_are_refused(rt: HostRuntime) -> Result<(), Fail> {
         (&[REPLAY, "d"], 3, "refused manifest absent\n"),
         (&[LIST, "d"], 3, "refused manifest absent\n"),
     ];
-    assert!(rt; words_hold(&rt, &rows)?);
+    assert!(rt; words_hold(&rt, &ROWS)?);
     Ok(())
 }
 

@@ -68,9 +68,8 @@ fn a_file_that_could_not_be_read_is_no_answer(rt: HostRuntime) -> Result<(), Fai
 }
 
 fn put_faults_end_so<R: AllocGlobal + Threads + Sync>(rt: &R) -> Result<bool, AllocError> {
-    let mut hold = true;
-    for (task, put, text) in [
-        (REPLAY, (1u64, 0u64), ""),
+    const ROWS: [(&str, (u64, u64), &str); 6] = [
+        (REPLAY, (1, 0), ""),
         (REPLAY, (1, 3), "fea"),
         (REPLAY, (1, 99), "feasible 0\n"),
         (LIST, (1, 0), ""),
@@ -80,7 +79,10 @@ fn put_faults_end_so<R: AllocGlobal + Threads + Sync>(rt: &R) -> Result<bool, Al
             (4, 1),
             "window 1\nproperty late_auth 1\ninstance 0 2.0 1.1\nt",
         ),
-    ] {
+    ];
+    let mut hold = true;
+    for row in &ROWS {
+        let (task, put, text) = *row;
         hold &= put_fault_ends(rt, task, put, text)?;
     }
     Ok(hold)

@@ -31,15 +31,15 @@ const TWO_EPOCHS: &str = "gptrace 1\nthreads 2\nepochs 2\nroots 1 2\nvalue 2 x 5
 
 #[test]
 fn instances_are_listed(rt: HostRuntime) -> Result<(), Fail> {
-    let waits = "start 2\nop auth r\nwrite ready 1\n";
-    let ready = "read ready 1\nop use r\n";
-    let value = "gptrace 1\nthreads 2\nepochs 1\nroots 1\nvalue 1 ready 1\n";
-    let twice = "acquire l\nop create c\nrelease l\nacquire l\nop next c\nrelease l\n";
-    let once = "acquire l\nop create c\nop next c\nrelease l\n";
-    let update = "acquire l\nop update c\nrelease l\n";
-    let joins = "start 2\njoin 2\nop done\n";
+    const WAITS: &str = "start 2\nop auth r\nwrite ready 1\n";
+    const READY: &str = "read ready 1\nop use r\n";
+    const VALUE: &str = "gptrace 1\nthreads 2\nepochs 1\nroots 1\nvalue 1 ready 1\n";
+    const TWICE: &str = "acquire l\nop create c\nrelease l\nacquire l\nop next c\nrelease l\n";
+    const ONCE: &str = "acquire l\nop create c\nop next c\nrelease l\n";
+    const UPDATE: &str = "acquire l\nop update c\nrelease l\n";
+    const JOINS: &str = "start 2\njoin 2\nop done\n";
 
-    let rows: [Run; 11] = [
+    const ROWS: [Run; 11] = [
         (
             [ONE_ROOT, AUTH, USE],
             LATE_AUTH,
@@ -47,25 +47,25 @@ fn instances_are_listed(rt: HostRuntime) -> Result<(), Fail> {
             "window 1\nproperty late_auth 1\ninstance 0 2.0 1.1\ntotal 1\n",
         ),
         (
-            [ONE_ROOT, waits, ready],
+            [ONE_ROOT, WAITS, READY],
             LATE_AUTH,
             0,
             "window 1\nproperty late_auth 1\ninstance 0 2.1 1.1\ntotal 1\n",
         ),
         (
-            [value, waits, ready],
+            [VALUE, WAITS, READY],
             LATE_AUTH,
             0,
             "window 1\nproperty late_auth 1\ninstance 0 2.1 1.1\ntotal 1\n",
         ),
         (
-            [TWO_ROOTS, twice, update],
+            [TWO_ROOTS, TWICE, UPDATE],
             MID,
             0,
             "window 1\nproperty mid 1\ninstance 0 1.1 2.1 1.4\ntotal 1\n",
         ),
         (
-            [TWO_ROOTS, once, update],
+            [TWO_ROOTS, ONCE, UPDATE],
             MID,
             0,
             "window 1\nproperty mid 1\ninstance 0 1.1 2.1 1.2\ntotal 1\n",
@@ -93,7 +93,7 @@ fn instances_are_listed(rt: HostRuntime) -> Result<(), Fail> {
             "window 1\nproperty split 2\ninstance 0 1.0 2.0 1.3\ninstance 1 1.1 2.0 1.2\ntotal 2\n",
         ),
         (
-            [ONE_ROOT, joins, "exit\n"],
+            [ONE_ROOT, JOINS, "exit\n"],
             DONE,
             0,
             "window 1\nproperty done 1\ninstance 0 1.2\ntotal 1\n",
@@ -109,30 +109,30 @@ fn instances_are_listed(rt: HostRuntime) -> Result<(), Fail> {
             "window 1\nproperty ba 1\ninstance 0 2.1 1.1\ntotal 1\n",
         ),
         (
-            [ONE_ROOT, joins, "op e\n"],
+            [ONE_ROOT, JOINS, "op e\n"],
             DONE,
             0,
             "window 1\nproperty done 1\ninstance 0 1.2\ntotal 1\n",
         ),
     ];
-    assert!(rt; runs_hold(&rt, LIST, &rows)?);
+    assert!(rt; runs_hold(&rt, LIST, &ROWS)?);
     Ok(())
 }
 
 #[test]
 fn each_window_has_all_properties(rt: HostRuntime) -> Result<(), Fail> {
-    let first = "acquire l\nmark\nop a\nrelease l\n";
-    let second = "mark\nacquire l\nread x 5\nop u\n";
+    const FIRST: &str = "acquire l\nmark\nop a\nrelease l\n";
+    const SECOND: &str = "mark\nacquire l\nread x 5\nop u\n";
 
-    let rows: [Run; 3] = [
+    const ROWS: [Run; 3] = [
         (
-            [TWO_EPOCHS, first, second],
+            [TWO_EPOCHS, FIRST, SECOND],
             ORD,
             0,
             "window 1\nproperty ord 0\nwindow 2\nproperty ord 1\ninstance 0 1.0 2.2\ntotal 1\n",
         ),
         (
-            [TWO_EPOCHS, first, second],
+            [TWO_EPOCHS, FIRST, SECOND],
             "property ord\nevent a op a\nevent u op u\npattern u@t a@s\n",
             0,
             "window 1\nproperty ord 0\nwindow 2\nproperty ord 1\ninstance 0 2.2 1.0\ntotal 1\n",
@@ -144,7 +144,7 @@ fn each_window_has_all_properties(rt: HostRuntime) -> Result<(), Fail> {
             "window 1\nproperty a 2\ninstance 0 1.0\ninstance 1 2.0\nproperty ab 1\ninstance 0 1.0 1.1\nwindow 2\nproperty a 1\ninstance 0 1.0\nproperty ab 0\ntotal 4\n",
         ),
     ];
-    assert!(rt; runs_hold(&rt, LIST, &rows)?);
+    assert!(rt; runs_hold(&rt, LIST, &ROWS)?);
     Ok(())
 }
 
@@ -195,7 +195,7 @@ fn long_line_is_refused<R: AllocGlobal + Threads + Sync>(rt: &R) -> Result<bool,
 
 #[test]
 fn malformed_properties_are_refused_at_their_line(rt: HostRuntime) -> Result<(), Fail> {
-    let rows: [(&str, &str); 11] = [
+    const ROWS: [(&str, &str); 11] = [
         ("", "refused props 1 empty\n"),
         ("property a\npattern\n", "refused props 2 empty\n"),
         ("property a\nproperty b\n", "refused props 2 empty\n"),
@@ -221,14 +221,14 @@ fn malformed_properties_are_refused_at_their_line(rt: HostRuntime) -> Result<(),
         ("property a\nevent \u{e9}\n", "refused props 2 notascii\n"),
     ];
     assert!(rt;
-        refusals_hold(&rt, LIST, [ONE_ROOT, AUTH, USE, ""], 3, &rows)? && long_line_is_refused(&rt)?
+        refusals_hold(&rt, LIST, [ONE_ROOT, AUTH, USE, ""], 3, &ROWS)? && long_line_is_refused(&rt)?
     );
     Ok(())
 }
 
 #[test]
 fn properties_come_after_the_recording(rt: HostRuntime) -> Result<(), Fail> {
-    let rows: [Run; 4] = [
+    const ROWS: [Run; 4] = [
         (
             ["", "foo\n", USE],
             "foo\n",
@@ -254,7 +254,7 @@ fn properties_come_after_the_recording(rt: HostRuntime) -> Result<(), Fail> {
             "refused props 1 badword\n",
         ),
     ];
-    assert!(rt; runs_hold(&rt, LIST, &rows)?);
+    assert!(rt; runs_hold(&rt, LIST, &ROWS)?);
     Ok(())
 }
 

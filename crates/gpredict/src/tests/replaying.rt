@@ -9,63 +9,63 @@ use std::thread::Threads;
 
 #[test]
 fn schedules_are_replayed(rt: HostRuntime) -> Result<(), Fail> {
-    let auth = [ONE_ROOT, AUTH, USE];
-    let waits = [
+    const AUTHORISED: [&str; 3] = [ONE_ROOT, AUTH, USE];
+    const WAITS: [&str; 3] = [
         ONE_ROOT,
         "start 2\nop auth r\nwrite ready 1\n",
         "read ready 1\nop use r\n",
     ];
-    let writes = [TWO_ROOTS, "write x 1\nread x 1\n", "write x 2\n"];
-    let locks = [
+    const WRITES: [&str; 3] = [TWO_ROOTS, "write x 1\nread x 1\n", "write x 2\n"];
+    const LOCKS: [&str; 3] = [
         TWO_ROOTS,
         "acquire l\nop a\nrelease l\n",
         "acquire l\nop b\nrelease l\n",
     ];
-    let joins = [ONE_ROOT, "start 2\njoin 2\nop done\n", "op e\n"];
-    let exits = [ONE_ROOT, "start 2\njoin 2\nop done\n", "op e\nexit\n"];
-    let epochs = [
+    const JOINS: [&str; 3] = [ONE_ROOT, "start 2\njoin 2\nop done\n", "op e\n"];
+    const EXITS: [&str; 3] = [ONE_ROOT, "start 2\njoin 2\nop done\n", "op e\nexit\n"];
+    const EPOCHS: [&str; 3] = [
         "gptrace 1\nthreads 2\nepochs 2\nroots 1 2\nvalue 2 x 5\n",
         "acquire l\nmark\nop a\nrelease l\n",
         "mark\nacquire l\nread x 5\nop u\n",
     ];
 
-    let rows: [Run; 23] = [
-        (auth, "window 1\n1.0 2.0 1.1\n", 0u8, "feasible 3\n"),
+    const ROWS: [Run; 23] = [
+        (AUTHORISED, "window 1\n1.0 2.0 1.1\n", 0u8, "feasible 3\n"),
         (
-            auth,
+            AUTHORISED,
             "# by hand\nwindow 1\n\n1.0\n 2.0  1.1 \n",
             0,
             "feasible 3\n",
         ),
-        (auth, "window 1\n", 0, "feasible 0\n"),
-        (auth, "window 1\n2.0\n", 1, "stuck 0 2\n"),
-        (auth, "window 1\n1.0 1.0\n", 1, "stuck 1 1\n"),
-        (auth, "window 1\n1.0 1.1 1.2\n", 1, "stuck 2 1\n"),
-        (auth, "window 1\n0.0\n", 1, "stuck 0 1\n"),
-        (auth, "window 1\n3.0\n", 1, "stuck 0 1\n"),
-        (auth, "window 2\n", 3, "refused schedule 1 badline\n"),
-        (waits, "window 1\n1.0 2.0\n", 1, "stuck 1 4\n"),
-        (waits, "window 1\n1.0 1.1 1.2 2.0 2.1\n", 0, "feasible 5\n"),
-        (writes, "window 1\n1.0 2.0 1.1\n", 1, "stuck 2 4\n"),
-        (writes, "window 1\n2.0 1.0 1.1\n", 0, "feasible 3\n"),
-        (locks, "window 1\n1.0 2.0\n", 1, "stuck 1 3\n"),
-        (locks, "window 1\n1.0 1.1 1.2 2.0\n", 0, "feasible 4\n"),
-        (joins, "window 1\n1.0 1.1\n", 1, "stuck 1 5\n"),
-        (joins, "window 1\n1.0 2.0 1.1\n", 1, "stuck 2 5\n"),
-        (exits, "window 1\n1.0 1.1\n", 1, "stuck 1 5\n"),
-        (exits, "window 1\n1.0 2.0 1.1 1.2\n", 0, "feasible 4\n"),
-        (epochs, "window 2\n1.0 1.1 2.0 2.1 2.2\n", 0, "feasible 5\n"),
-        (epochs, "window 2\n2.0\n", 1, "stuck 0 3\n"),
-        (epochs, "window 1\n1.0\n", 0, "feasible 1\n"),
-        (epochs, "window 3\n", 3, "refused schedule 1 badline\n"),
+        (AUTHORISED, "window 1\n", 0, "feasible 0\n"),
+        (AUTHORISED, "window 1\n2.0\n", 1, "stuck 0 2\n"),
+        (AUTHORISED, "window 1\n1.0 1.0\n", 1, "stuck 1 1\n"),
+        (AUTHORISED, "window 1\n1.0 1.1 1.2\n", 1, "stuck 2 1\n"),
+        (AUTHORISED, "window 1\n0.0\n", 1, "stuck 0 1\n"),
+        (AUTHORISED, "window 1\n3.0\n", 1, "stuck 0 1\n"),
+        (AUTHORISED, "window 2\n", 3, "refused schedule 1 badline\n"),
+        (WAITS, "window 1\n1.0 2.0\n", 1, "stuck 1 4\n"),
+        (WAITS, "window 1\n1.0 1.1 1.2 2.0 2.1\n", 0, "feasible 5\n"),
+        (WRITES, "window 1\n1.0 2.0 1.1\n", 1, "stuck 2 4\n"),
+        (WRITES, "window 1\n2.0 1.0 1.1\n", 0, "feasible 3\n"),
+        (LOCKS, "window 1\n1.0 2.0\n", 1, "stuck 1 3\n"),
+        (LOCKS, "window 1\n1.0 1.1 1.2 2.0\n", 0, "feasible 4\n"),
+        (JOINS, "window 1\n1.0 1.1\n", 1, "stuck 1 5\n"),
+        (JOINS, "window 1\n1.0 2.0 1.1\n", 1, "stuck 2 5\n"),
+        (EXITS, "window 1\n1.0 1.1\n", 1, "stuck 1 5\n"),
+        (EXITS, "window 1\n1.0 2.0 1.1 1.2\n", 0, "feasible 4\n"),
+        (EPOCHS, "window 2\n1.0 1.1 2.0 2.1 2.2\n", 0, "feasible 5\n"),
+        (EPOCHS, "window 2\n2.0\n", 1, "stuck 0 3\n"),
+        (EPOCHS, "window 1\n1.0\n", 0, "feasible 1\n"),
+        (EPOCHS, "window 3\n", 3, "refused schedule 1 badline\n"),
     ];
-    assert!(rt; runs_hold(&rt, REPLAY, &rows)?);
+    assert!(rt; runs_hold(&rt, REPLAY, &ROWS)?);
     Ok(())
 }
 
 #[test]
 fn malformed_manifests_are_refused_at_their_line(rt: HostRuntime) -> Result<(), Fail> {
-    let rows: [(&str, &str); 22] = [
+    const ROWS: [(&str, &str); 22] = [
         ("", "refused manifest 1 badline\n"),
         (
             "gptrace 1\nthreads 1\nepochs 0\nroots 1\n",
@@ -149,7 +149,7 @@ fn malformed_manifests_are_refused_at_their_line(rt: HostRuntime) -> Result<(), 
         ),
         ("gptrace 3", "refused manifest 1 nolastnewline\n"),
     ];
-    assert!(rt; refusals_hold(&rt, REPLAY, ["", AUTH, USE, "window 1\n"], 0, &rows)?);
+    assert!(rt; refusals_hold(&rt, REPLAY, ["", AUTH, USE, "window 1\n"], 0, &ROWS)?);
     Ok(())
 }
 
@@ -167,7 +167,7 @@ fn one_thread_is_refused<R: AllocGlobal + Threads + Sync>(rt: &R) -> Result<bool
 
 #[test]
 fn malformed_traces_are_refused_at_their_line(rt: HostRuntime) -> Result<(), Fail> {
-    let rows: [(&str, &str); 21] = [
+    const ROWS: [(&str, &str); 21] = [
         ("read x\n", "refused t1.trace 1 badword\n"),
         ("read x -0\n", "refused t1.trace 1 badword\n"),
         ("read x 01\n", "refused t1.trace 1 badword\n"),
@@ -200,7 +200,7 @@ fn malformed_traces_are_refused_at_their_line(rt: HostRuntime) -> Result<(), Fai
         ("op a\nop \u{e9}\n", "refused t1.trace 2 notascii\n"),
     ];
     assert!(rt;
-        refusals_hold(&rt, REPLAY, [ONE_ROOT, "", USE, "window 1\n"], 1, &rows)?
+        refusals_hold(&rt, REPLAY, [ONE_ROOT, "", USE, "window 1\n"], 1, &ROWS)?
             && one_thread_is_refused(&rt)?
     );
     Ok(())
@@ -208,7 +208,7 @@ fn malformed_traces_are_refused_at_their_line(rt: HostRuntime) -> Result<(), Fai
 
 #[test]
 fn malformed_schedules_are_refused_at_their_line(rt: HostRuntime) -> Result<(), Fail> {
-    let rows: [(&str, &str); 19] = [
+    const ROWS: [(&str, &str); 19] = [
         ("", "refused schedule 1 badline\n"),
         ("# none\n", "refused schedule 2 badline\n"),
         ("window 0\n", "refused schedule 1 badline\n"),
@@ -232,7 +232,7 @@ fn malformed_schedules_are_refused_at_their_line(rt: HostRuntime) -> Result<(), 
         ("foo\nbar\t\n", "refused schedule 2 notascii\n"),
         ("window 1", "refused schedule 1 nolastnewline\n"),
     ];
-    assert!(rt; refusals_hold(&rt, REPLAY, [ONE_ROOT, AUTH, USE, ""], 3, &rows)?);
+    assert!(rt; refusals_hold(&rt, REPLAY, [ONE_ROOT, AUTH, USE, ""], 3, &ROWS)?);
     Ok(())
 }
 
@@ -266,13 +266,13 @@ fn lengths_are_limited<R: AllocGlobal + Threads + Sync>(
 
 #[test]
 fn a_file_may_be_as_long_as_its_limit(rt: HostRuntime) -> Result<(), Fail> {
-    let rows = [
+    const ROWS: [(usize, usize, &str); 4] = [
         (0, 1_048_576, "refused manifest toolong\n"),
         (1, 2_097_152, "refused t1.trace toolong\n"),
         (2, 2_097_152, "refused t2.trace toolong\n"),
         (3, 16_777_216, "refused schedule toolong\n"),
     ];
-    assert!(rt; lengths_are_limited(&rt, &rows)?);
+    assert!(rt; lengths_are_limited(&rt, &ROWS)?);
     Ok(())
 }
 

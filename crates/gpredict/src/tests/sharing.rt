@@ -13,75 +13,75 @@ const READER: &str = "racquire l\nread x 0\nrrelease l\n";
 
 #[test]
 fn several_threads_may_share_a_lock(rt: HostRuntime) -> Result<(), Fail> {
-    let both_share = "racquire l\nwrite x 1\nrrelease l\n";
-    let one_holds = "acquire l\nwrite x 1\nrelease l\n";
-    let over_mark = "racquire l\nmark\nop a\nrrelease l\n";
-    let shares_later = "mark\nracquire l\nop u\n";
-    let holds_later = "mark\nacquire l\nop u\n";
+    const BOTH_SHARE: &str = "racquire l\nwrite x 1\nrrelease l\n";
+    const ONE_HOLDS: &str = "acquire l\nwrite x 1\nrelease l\n";
+    const OVER_MARK: &str = "racquire l\nmark\nop a\nrrelease l\n";
+    const SHARES_LATER: &str = "mark\nracquire l\nop u\n";
+    const HOLDS_LATER: &str = "mark\nacquire l\nop u\n";
 
-    let rows: [Run; 9] = [
+    const ROWS: [Run; 9] = [
         (
-            [SHARED, READER, both_share],
+            [SHARED, READER, BOTH_SHARE],
             "window 1\n1.0 2.0\n",
             0u8,
             "feasible 2\n",
         ),
         (
-            [TWO_ROOTS, READER, both_share],
+            [TWO_ROOTS, READER, BOTH_SHARE],
             "window 1\n1.0 2.0\n",
             3,
             "refused t1.trace 1 badword\n",
         ),
         (
-            [SHARED, READER, one_holds],
+            [SHARED, READER, ONE_HOLDS],
             "window 1\n1.0 2.0\n",
             1,
             "stuck 1 3\n",
         ),
         (
-            [SHARED, READER, one_holds],
+            [SHARED, READER, ONE_HOLDS],
             "window 1\n2.0 1.0\n",
             1,
             "stuck 1 3\n",
         ),
         (
-            [SHARED, READER, one_holds],
+            [SHARED, READER, ONE_HOLDS],
             "window 1\n1.0 1.1 1.2 2.0\n",
             0,
             "feasible 4\n",
         ),
         (
-            [SHARED, READER, both_share],
+            [SHARED, READER, BOTH_SHARE],
             "window 1\n1.0 2.0 1.1 1.2 2.1 2.2\n",
             0,
             "feasible 6\n",
         ),
         (
-            [SHARED_EPOCHS, over_mark, shares_later],
+            [SHARED_EPOCHS, OVER_MARK, SHARES_LATER],
             "window 2\n2.0 2.1 1.0\n",
             0,
             "feasible 3\n",
         ),
         (
-            [SHARED_EPOCHS, over_mark, holds_later],
+            [SHARED_EPOCHS, OVER_MARK, HOLDS_LATER],
             "window 2\n2.0 2.1 1.0\n",
             1,
             "stuck 0 3\n",
         ),
         (
-            [SHARED_EPOCHS, over_mark, holds_later],
+            [SHARED_EPOCHS, OVER_MARK, HOLDS_LATER],
             "window 2\n1.0 1.1 2.0\n",
             0,
             "feasible 3\n",
         ),
     ];
-    assert!(rt; runs_hold(&rt, REPLAY, &rows)?);
+    assert!(rt; runs_hold(&rt, REPLAY, &ROWS)?);
     Ok(())
 }
 
 #[test]
 fn a_lock_is_given_back_as_it_was_taken(rt: HostRuntime) -> Result<(), Fail> {
-    let rows: [(&str, &str); 7] = [
+    const ROWS: [(&str, &str); 7] = [
         (
             "racquire l\nracquire l\n",
             "refused t1.trace 2 acquireheld\n",
@@ -105,15 +105,15 @@ fn a_lock_is_given_back_as_it_was_taken(rt: HostRuntime) -> Result<(), Fail> {
         ),
         ("racquire\n", "refused t1.trace 1 badword\n"),
     ];
-    assert!(rt; refusals_hold(&rt, REPLAY, [SHARED, "", "op a\n", "window 1\n"], 1, &rows)?);
+    assert!(rt; refusals_hold(&rt, REPLAY, [SHARED, "", "op a\n", "window 1\n"], 1, &ROWS)?);
     Ok(())
 }
 
 #[test]
 fn no_lock_is_shared_and_held_over_a_mark(rt: HostRuntime) -> Result<(), Fail> {
-    let three = "gptrace 2\nthreads 2\nepochs 3\nroots 1 2\n";
+    const THREE: &str = "gptrace 2\nthreads 2\nepochs 3\nroots 1 2\n";
 
-    let rows: [Run; 4] = [
+    const ROWS: [Run; 4] = [
         (
             [SHARED_EPOCHS, "racquire l\nmark\n", "racquire l\nmark\n"],
             "window 1\n",
@@ -138,7 +138,7 @@ fn no_lock_is_shared_and_held_over_a_mark(rt: HostRuntime) -> Result<(), Fail> {
         ),
         (
             [
-                three,
+                THREE,
                 "racquire m\nmark\nracquire l\nmark\n",
                 "acquire m\nmark\nacquire l\nmark\n",
             ],
@@ -147,6 +147,6 @@ fn no_lock_is_shared_and_held_over_a_mark(rt: HostRuntime) -> Result<(), Fail> {
             "refused recording twoholders m 2\n",
         ),
     ];
-    assert!(rt; runs_hold(&rt, REPLAY, &rows)?);
+    assert!(rt; runs_hold(&rt, REPLAY, &ROWS)?);
     Ok(())
 }

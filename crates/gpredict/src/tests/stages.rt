@@ -18,9 +18,9 @@ fn two_starts_are_refused<R: AllocGlobal + Threads + Sync>(rt: &R) -> Result<boo
 
 #[test]
 fn the_first_refusal_in_order_is_told(rt: HostRuntime) -> Result<(), Fail> {
-    let epochs = "gptrace 1\nthreads 2\nepochs 2\nroots 1 2\n";
+    const EPOCHS: &str = "gptrace 1\nthreads 2\nepochs 2\nroots 1 2\n";
 
-    let rows: [Run; 14] = [
+    const ROWS: [Run; 14] = [
         (
             [ONE_ROOT, "start 3\n", USE],
             "",
@@ -58,14 +58,14 @@ fn the_first_refusal_in_order_is_told(rt: HostRuntime) -> Result<(), Fail> {
             "refused recording startsroot 2\n",
         ),
         (
-            [epochs, "acquire l\nmark\n", "acquire l\nmark\n"],
+            [EPOCHS, "acquire l\nmark\n", "acquire l\nmark\n"],
             "",
             3,
             "refused recording twoholders l 2\n",
         ),
         (
             [
-                epochs,
+                EPOCHS,
                 "acquire m\nacquire l\nmark\n",
                 "acquire l\nacquire m\nmark\n",
             ],
@@ -74,7 +74,7 @@ fn the_first_refusal_in_order_is_told(rt: HostRuntime) -> Result<(), Fail> {
             "refused recording twoholders l 2\n",
         ),
         (
-            [epochs, "start 2\nacquire l\nmark\n", "acquire l\nmark\n"],
+            [EPOCHS, "start 2\nacquire l\nmark\n", "acquire l\nmark\n"],
             "",
             3,
             "refused recording startsroot 2\n",
@@ -99,13 +99,13 @@ fn the_first_refusal_in_order_is_told(rt: HostRuntime) -> Result<(), Fail> {
         ),
         ([ONE_ROOT, AUTH, USE], "", 3, "refused schedule 1 badline\n"),
         (
-            [epochs, "acquire l\nmark\n", "acquire l\nrelease l\nmark\n"],
+            [EPOCHS, "acquire l\nmark\n", "acquire l\nrelease l\nmark\n"],
             "",
             3,
             "refused schedule 1 badline\n",
         ),
     ];
-    assert!(rt; runs_hold(&rt, REPLAY, &rows)? && two_starts_are_refused(&rt)?);
+    assert!(rt; runs_hold(&rt, REPLAY, &ROWS)? && two_starts_are_refused(&rt)?);
     Ok(())
 }
 
@@ -146,15 +146,17 @@ fn is_missed<R: AllocGlobal + Threads + Sync>(
 }
 
 fn absences_are_refused<R: AllocGlobal + Threads + Sync>(rt: &R) -> Result<bool, AllocError> {
-    let schedule = ("schedule", "window 1\n");
-    let props = ("props", "property p\n");
-    let mut hold = is_missed(rt, LIST, AUTH, props, 3, "refused props absent\n")?;
-    for (place, first, text) in [
-        (0usize, "foo\n", "refused manifest absent\n"),
+    const ROWS: [(usize, &str, &str); 4] = [
+        (0, "foo\n", "refused manifest absent\n"),
         (1, "foo\n", "refused t1.trace absent\n"),
         (2, "foo\n", "refused t2.trace absent\n"),
         (3, AUTH, "refused schedule absent\n"),
-    ] {
+    ];
+    let schedule = ("schedule", "window 1\n");
+    let props = ("props", "property p\n");
+    let mut hold = is_missed(rt, LIST, AUTH, props, 3, "refused props absent\n")?;
+    for row in &ROWS {
+        let (place, first, text) = *row;
         hold &= is_missed(rt, REPLAY, first, schedule, place, text)?;
     }
     Ok(hold)
@@ -189,13 +191,12 @@ fn refusal_ends<R: AllocGlobal + Threads + Sync>(
 }
 
 fn nothing_is_read_after<R: AllocGlobal + Threads + Sync>(rt: &R) -> Result<bool, AllocError> {
-    let mut hold = true;
-    for (task, recorded, file, failing, text) in [
+    const ROWS: [(&str, [&str; 3], &str, u64, &str); 8] = [
         (
             "--task=lists",
             ["foo\n", "foo\n", "foo\n"],
             "props",
-            1u64,
+            1,
             "words\n",
         ),
         (
@@ -247,7 +248,10 @@ fn nothing_is_read_after<R: AllocGlobal + Threads + Sync>(rt: &R) -> Result<bool
             5,
             "refused props 1 badword\n",
         ),
-    ] {
+    ];
+    let mut hold = true;
+    for row in &ROWS {
+        let (task, recorded, file, failing, text) = *row;
         hold &= refusal_ends(rt, task, recorded, file, failing, text)?;
     }
     Ok(hold)

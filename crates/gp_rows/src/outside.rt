@@ -209,10 +209,6 @@ fn narrow_puts_hold(alloc: Global) -> bool {
 #[test]
 fn std_sink_writes_each_byte_of_a_piece(rt: HostRuntime) {
     assert!(rt; narrow_puts_hold(rt.alloc()));
-}
-
-#[test]
-fn a_free_gate_holds_nobody(_rt: HostRuntime) {
     passes(&FreeGate);
 }
 

@@ -8,7 +8,6 @@ use crate::fixture::{
 use gp_clause::{Clause, Edge, Kind, Row};
 use gp_derivation::{
     Certificate, LogEntry, Origin, Step, can_be_numbered, check_certificate, check_shared, cone,
-    tight,
 };
 use std::alloc::Global;
 use std::process::Abort;
@@ -228,15 +227,19 @@ fn all_steps(alloc: Global, rows: Steps) -> Result<Row<Step>, Fail> {
     Ok(all)
 }
 
+fn all_named(variables: usize, steps: &[Step]) -> bool
+    ensures { IsTrue result → All (λ step. NamesBelow variables step.clause) steps.now }
+{
+    steps
+        .iter()
+        .all(|step| are_named(variables, step.clause.lits()))
+}
+
+// Whether all variables of the steps are below the count.
 fn are_within(variables: usize, steps: &[Step]) -> bool
     ensures { IsTrue result → All (NamesBelow variables) (clauses_of steps.now) }
 {
-    for step in steps {
-        if !are_named(variables, step.clause.lits()) {
-            return false;
-        }
-    }
-    true
+    all_named(variables, steps)
 }
 
 // Whether each own step passes over the shared ones, with these locals.
@@ -334,17 +337,5 @@ fn tells_the_first_shared_step_that_fails(rt: HostRuntime) -> Result<(), Fail> {
     for (shared, due) in rows {
         assert!(rt; first_failing(&rt, rt.alloc(), shared)? == due);
     }
-    Ok(())
-}
-
-#[test]
-fn leaves_out_what_can_be_left_out(rt: HostRuntime) -> Result<(), Fail> {
-    let problem = problem_of(rt.alloc(), &TWO)?;
-    let query = query_of(rt.alloc(), &[], &[])?;
-    assert!(rt; is_valid(&problem));
-    assert!(rt; is_asked(&problem, &query));
-    let long = step(rt.alloc(), &[1, 2], &[0, 1])?;
-    let short = tight(rt.alloc(), &problem, &query, &[], long)?;
-    assert!(rt; are_lits(short.clause.lits(), &[1]) && short.hints.as_slice() == [0, 1].as_slice());
     Ok(())
 }

@@ -1,4 +1,4 @@
-ghost use Rattle.std.specs.Prelude.{All, IsTrue};
+ghost use Rattle.std.specs.Prelude.{IsTrue};
 ghost use Rattle.gp_clause.specs.Clause.{NamesBelow};
 ghost use Rattle.gp_sat.specs.State.{assigned};
 ghost use Rattle.gp_sat.specs.Standing.{IsFalse, Each};
@@ -30,16 +30,15 @@ fn is_false(solver: &Solver, lit: Lit) -> bool
     }
 }
 
-fn all_false(solver: &Solver, lits: &[Lit]) -> bool
-    ensures { IsTrue result → All (IsFalse (assigned solver.now)) lits.now }
-{
-    lits.iter().all(|lit| is_false(solver, *lit))
-}
-
 fn are_false(solver: &Solver, lits: &[Lit]) -> bool
     ensures { IsTrue result → Each (IsFalse (assigned solver.now)) lits.now }
 {
-    all_false(solver, lits)
+    for lit in lits {
+        if !is_false(solver, *lit) {
+            return false;
+        }
+    }
+    true
 }
 
 fn is_present(solver: &Solver, lit: Lit) -> bool

@@ -76,6 +76,26 @@ fn has_length(length: usize, due: Option<usize>) -> bool {
 }
 
 // Whether each verdict is the one that is due, and the log as long.
+fn all_due(
+    rt: &impl Abort,
+    alloc: Global,
+    problem: &Problem,
+    search: &mut Search,
+    kept: &[Edge],
+    asked: &[Asked],
+) -> Result<bool, Fail>
+    requires { search.old.problem ≡ problem.now }
+{
+    let mut all = true;
+    for (locals, assumed, budget, due, logged) in asked {
+        let query = query_of(alloc, &LOCALS[..(*locals).min(2)], assumed)?;
+        let verdict = ask(rt, problem, search, &query, *budget)?;
+        all = all && is_due(&verdict, due, kept) && has_length(search.log().len(), *logged);
+    }
+    Ok(all)
+}
+
+// Whether a search over a problem answers what it is asked as it is due.
 fn answers(
     rt: &impl Abort,
     alloc: Global,
@@ -88,12 +108,7 @@ fn answers(
     assert!(rt; is_valid(&problem));
     assert!(rt; is_solvable(start, problem.edges.as_slice()));
     let mut search = Search::new(alloc, &problem)?;
-    let mut all = true;
-    for (locals, assumed, budget, due, logged) in asked {
-        let query = query_of(alloc, &LOCALS[..(*locals).min(2)], assumed)?;
-        let verdict = ask(rt, &problem, &mut search, &query, *budget)?;
-        all = all && is_due(&verdict, due, kept) && has_length(search.log().len(), *logged);
-    }
+    let all = all_due(rt, alloc, &problem, &mut search, kept, asked)?;
     let length = search.log().len();
     Ok(all && search.into_log().len() == length)
 }

@@ -1,0 +1,8 @@
+use Rattle.gp_report.specs.Printed.{window_lines}
+use Rattle.gp_report.proofs.Texts.{one_more}
+use Rattle.gp_report.proofs.printing.put_windows.Goals as goal
+
+pub loop-window-preserved : goal.loop-window-preserved
+loop-window-preserved c =
+    rw c.in_ok-put_window.ensures
+    (one_more (window_lines c.args.format) c.loop-window.text.items _ c.args.windows.now c.window-item.result c.loop-window.window-index c.loop-window-test.true c.window-item.is c.loop-window.invariant)

@@ -1,0 +1,94 @@
+-- The lines of words that tell a report.
+use Rattle.std.specs.Prelude.{ℕ, zero, suc, ◌+◌, ◌==◌, List, [], ◌∷◌, ◌++◌, if◌then◌else◌, length, map, take, drop, codes, decimal, flat_map}
+use Rattle.gp_clause.specs.declared.lit.Lit.{Lit}
+use Rattle.gp_derivation.specs.declared.step.Step.{Step}
+use Rattle.gp_window.specs.EventIds.{event_id_text}
+use Rattle.gp_report.specs.declared.record.Answer.{Answer}
+use Rattle.gp_report.specs.declared.record.Answer.TheVariants.{Found, Impossible, Undecided}
+use Rattle.gp_report.specs.declared.record.Entry.{Entry}
+use Rattle.gp_report.specs.declared.record.PropertyBody.{PropertyBody}
+use Rattle.gp_report.specs.declared.record.PropertyBody.TheVariants.{TooMany, Entries}
+use Rattle.gp_report.specs.declared.record.PropertyRecord.{PropertyRecord}
+use Rattle.gp_report.specs.declared.record.WindowBody.{WindowBody}
+use Rattle.gp_report.specs.declared.record.WindowBody.TheVariants.{TooLarge, Answers}
+use Rattle.gp_report.specs.declared.record.WindowRecord.{WindowRecord}
+use Rattle.gp_report.specs.Entries.{count_of, entries_in, entries_of, is_found, is_impossible, is_undecided}
+use Rattle.gp_report.specs.ReportForm.{ReportForm}
+
+-- words in lines of 100, the last line with what is left; at most so many lines
+abbrev pub lines_up_to : ℕ → List (List ℕ) → List (List (List ℕ))
+lines_up_to zero words = []
+lines_up_to (suc more) [] = []
+lines_up_to (suc more) (word ∷ words) = take 100 (word ∷ words) ∷ lines_up_to more (drop 100 (word ∷ words))
+
+-- a list of words in lines of 100, the last line with what is left; an empty list has no line
+abbrev pub in_lines : List (List ℕ) → List (List (List ℕ))
+in_lines words = lines_up_to (length words) words
+
+-- the number of a literal's variable, from 1, after `-` where the literal is negative
+abbrev pub lit_word : Lit → List ℕ
+lit_word lit = if lit.positive then decimal (lit.variable + 1) else 45 ∷ decimal (lit.variable + 1)
+
+-- how many literals and hints a step has, then the literals, then the hints
+abbrev pub step_lines : Step → List (List (List ℕ))
+step_lines step =
+    (codes "step" ∷ decimal (length step.clause) ∷ decimal (length step.hints) ∷ [])
+    ∷ (in_lines (map lit_word step.clause) ++ in_lines (map decimal step.hints))
+
+-- a schedule, a certificate, or the worker and the entries of its log that it learned in vain
+abbrev pub answer_lines : Answer → List (List (List ℕ))
+answer_lines (Found schedule) =
+    (codes "found" ∷ decimal (length schedule.events) ∷ []) ∷ in_lines (map event_id_text schedule.events)
+answer_lines (Impossible certificate) =
+    (codes "impossible" ∷ decimal (length certificate.steps) ∷ []) ∷ flat_map step_lines certificate.steps
+answer_lines (Undecided worker from to) = (codes "undecided" ∷ decimal worker ∷ decimal from ∷ decimal to ∷ []) ∷ []
+
+-- the line of the instance of this number
+abbrev pub instance_words : ℕ → Entry → List (List ℕ)
+instance_words number entry = codes "instance" ∷ decimal number ∷ map event_id_text entry.events
+
+-- entries, numbered from this number on
+abbrev pub entries_lines : ℕ → List Entry → List (List (List ℕ))
+entries_lines number [] = []
+entries_lines number (entry ∷ entries) =
+    (instance_words number entry ∷ answer_lines entry.answer) ++ entries_lines (number + 1) entries
+
+-- how many entries a property has, or that there are too many
+abbrev pub count_word : PropertyBody → List ℕ
+count_word TooMany = codes "toomany"
+count_word (Entries entries) = decimal (length entries)
+
+-- what is told of a property: its name and how many entries it has, then the entries
+abbrev pub property_lines : PropertyRecord → List (List (List ℕ))
+property_lines property =
+    (codes "property" ∷ property.name ∷ count_word property.body ∷ []) ∷ entries_lines 0 (entries_in property.body)
+
+-- the shared steps, which format 2 tells
+abbrev pub shared_lines : ℕ → List Step → List (List (List ℕ))
+shared_lines format shared =
+    if format == 2 then (codes "shared" ∷ decimal (length shared) ∷ []) ∷ flat_map step_lines shared else []
+
+-- what is told of a window with these shared steps
+abbrev pub window_body_lines : ℕ → List Step → WindowBody → List (List (List ℕ))
+window_body_lines format shared (TooLarge events clauses) = (codes "toolarge" ∷ decimal events ∷ decimal clauses ∷ []) ∷ []
+window_body_lines format shared (Answers properties) = shared_lines format shared ++ flat_map property_lines properties
+
+-- what is told of a window; its workers' records are not
+abbrev pub window_lines : ℕ → WindowRecord → List (List (List ℕ))
+window_lines format window = (codes "window" ∷ decimal window.number ∷ []) ∷ window_body_lines format window.shared window.body
+
+-- how many entries are found, impossible and undecided
+abbrev pub summary_words : List Entry → List (List ℕ)
+summary_words entries =
+    codes "summary" ∷ decimal (count_of is_found entries) ∷ decimal (count_of is_impossible entries) ∷ decimal (count_of is_undecided entries) ∷ []
+
+-- the lines of a report
+abbrev pub report_lines : ReportForm → List (List (List ℕ))
+report_lines report =
+    (codes "gpredict" ∷ decimal report.format ∷ []) ∷ (codes "budget" ∷ decimal report.budget ∷ [])
+    ∷ (flat_map (window_lines report.format) report.windows ++ summary_words (entries_of report.windows) ∷ [])
+
+-- words that follow the first one of a line, a space before each
+abbrev pub after_words : List (List ℕ) → List ℕ
+after_words [] = []
+after_words (word ∷ words) = 32 ∷ (word ++ after_words words)

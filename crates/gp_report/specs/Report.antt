@@ -1,0 +1,60 @@
+-- Which reports a text can tell.
+use Rattle.std.specs.Prelude.{ℕ, ◌≡◌, ◌⊎◌, ◌≤◌, ◌-◌, ◌^◌, List, [], length, map, All}
+use Rattle.gp_clause.specs.Clause.{NamesBelow}
+use Rattle.gp_derivation.specs.declared.step.Step.{Step}
+use Rattle.gp_window.specs.WindowForm.{numbers_from}
+use Rattle.gp_report.specs.declared.record.Answer.{Answer}
+use Rattle.gp_report.specs.declared.record.Answer.TheVariants.{Found, Impossible, Undecided}
+use Rattle.gp_report.specs.declared.record.Entry.{Entry}
+use Rattle.gp_report.specs.declared.record.PropertyBody.{PropertyBody}
+use Rattle.gp_report.specs.declared.record.PropertyBody.TheVariants.{TooMany, Entries}
+use Rattle.gp_report.specs.declared.record.PropertyRecord.{PropertyRecord}
+use Rattle.gp_report.specs.declared.record.TheConstants.{MOST_BUDGET, MOST_ENTRIES, MOST_EVENTS, MOST_WORKERS}
+use Rattle.gp_report.specs.declared.record.WindowBody.{WindowBody}
+use Rattle.gp_report.specs.declared.record.WindowBody.TheVariants.{TooLarge, Answers}
+use Rattle.gp_report.specs.declared.record.WindowRecord.{WindowRecord}
+use Rattle.gp_report.specs.ReportForm.{ReportForm}
+
+-- a step whose literals can be told: variable n is told as n + 1, up to 2^31 - 1
+abbrev pub IsToldStep : Step → Type 0
+IsToldStep step = NamesBelow (2 ^ 31 - 1) step.clause
+
+-- steps that can be told; an undecided answer names one of the workers
+abbrev pub IsToldAnswer : Answer → Type 0
+IsToldAnswer (Found schedule) = Unit {0}
+IsToldAnswer (Impossible certificate) = All IsToldStep certificate.steps
+IsToldAnswer (Undecided worker from to) = (1 ≤ worker) × (worker ≤ MOST_WORKERS)
+
+-- an entry has 1 to 6 events, and an answer that can be told
+pub record IsEntry (entry : Entry) : Type 0 where
+  pub some : 1 ≤ length entry.events
+  pub few : length entry.events ≤ MOST_EVENTS
+  pub answer : IsToldAnswer entry.answer
+
+-- at most 10,000 entries
+abbrev pub IsPropertyBody : PropertyBody → Type 0
+IsPropertyBody TooMany = Unit {0}
+IsPropertyBody (Entries entries) = (length entries ≤ MOST_ENTRIES) × All IsEntry entries
+
+-- what is told of a property
+abbrev pub IsPropertyRecord : PropertyRecord → Type 0
+IsPropertyRecord property = IsPropertyBody property.body
+
+-- what is told of a window with these shared steps: a window that is too large has none
+abbrev pub IsWindowBody : List Step → WindowBody → Type 0
+IsWindowBody shared (TooLarge events clauses) = shared ≡ []
+IsWindowBody shared (Answers properties) = All IsPropertyRecord properties
+
+-- what is told of a window in a report of this format: format 1 has no shared steps
+pub record IsWindowRecord (format : ℕ) (window : WindowRecord) : Type 0 where
+  pub shared : All IsToldStep window.shared
+  pub first_format : format ≡ 1 → window.shared ≡ []
+  pub body : IsWindowBody window.shared window.body
+
+-- a report that a text can tell: format 1 or 2, a budget from 1 to 1,000,000, windows numbered from 1
+pub record IsReport (report : ReportForm) : Type 0 where
+  pub format : (report.format ≡ 1) ⊎ (report.format ≡ 2)
+  pub budget_some : 1 ≤ report.budget
+  pub budget_few : report.budget ≤ MOST_BUDGET
+  pub numbered : map (λ (window : WindowRecord). window.number) report.windows ≡ numbers_from 1 (length report.windows)
+  pub windows : All (IsWindowRecord report.format) report.windows

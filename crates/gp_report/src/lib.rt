@@ -1,0 +1,23 @@
+// Reports: what an analysis answers, and the text that tells it.
+//
+// A report has a record for each window, in order. A window that is too large for its constraints is told with its two
+// numbers; each other one has, property by property, an answer for each instance: a schedule, a certificate, or the part
+// of a worker's log that was learned in vain. The workers' logs are kept beside the answers and are not in the text.
+#![tactic(auto)]
+
+mod checks;
+mod laws;
+mod lines;
+mod printing;
+mod record;
+mod report;
+mod spelled;
+mod tally;
+
+pub use laws::reports_are_plain;
+pub use printing::print_report;
+pub use record::{
+    Answer, Entry, MOST_BUDGET, MOST_ENTRIES, MOST_EVENTS, MOST_WORKERS, PropertyBody,
+    PropertyRecord, WindowBody, WindowRecord,
+};
+pub use report::Report;

@@ -1,0 +1,64 @@
+ghost use Rattle.std.specs.Prelude.{◌≡◌, [], ◌∷◌, ◌++◌, OnOk, map};
+ghost use Rattle.gp_text.specs.Spelling.{joined, spelling};
+ghost use Rattle.gp_report.specs.Printed.{after_words, in_lines};
+
+use crate::spelled::Spelled;
+use std::alloc::AllocError;
+
+// The most words of a list's line.
+const LINE: usize = 100;
+
+// Puts a line of a keyword and words.
+pub(crate) fn put_line<W: Spelled>(
+    text: &mut Vec<u8>,
+    keyword: &[u8],
+    words: &[W],
+) -> Result<(), AllocError>
+    ensures { OnOk result (text.new.items ≡ text.old.items ++ spelling ((keyword.now ∷ map W.word words.now) ∷ [])) }
+{
+    text.extend_from_slice(keyword)?;
+    put_words(text, words)?;
+    text.push(b'\n')?;
+    Ok(())
+}
+
+// Puts words in lines of 100.
+pub(crate) fn put_list<W: Spelled>(text: &mut Vec<u8>, words: &[W]) -> Result<(), AllocError>
+    ensures { OnOk result (text.new.items ≡ text.old.items ++ spelling (in_lines (map W.word words.now))) }
+{
+    for line in words.chunks(LINE) {
+        put_joined(text, line)?;
+        text.push(b'\n')?;
+    }
+    Ok(())
+}
+
+// Puts words with a space between them.
+fn put_joined<W: Spelled>(text: &mut Vec<u8>, words: &[W]) -> Result<(), AllocError>
+    ensures { OnOk result (text.new.items ≡ text.old.items ++ joined (map W.word words.now)) }
+{
+    let Some((first, rest)) = words.split_first() else {
+        return Ok(());
+    };
+    first.put(text)?;
+    put_words(text, rest)
+}
+
+// Puts words that follow the first one of a line.
+pub(crate) fn put_words<W: Spelled>(text: &mut Vec<u8>, words: &[W]) -> Result<(), AllocError>
+    ensures { OnOk result (text.new.items ≡ text.old.items ++ after_words (map W.word words.now)) }
+{
+    for word in words {
+        text.push(b' ')?;
+        word.put(text)?;
+    }
+    Ok(())
+}
+
+// Puts a word that follows the first one of a line.
+pub(crate) fn put_word(text: &mut Vec<u8>, word: &[u8]) -> Result<(), AllocError>
+    ensures { OnOk result (text.new.items ≡ text.old.items ++ after_words (word.now ∷ [])) }
+{
+    text.push(b' ')?;
+    text.extend_from_slice(word)
+}

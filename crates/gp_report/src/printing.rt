@@ -1,0 +1,205 @@
+ghost use Rattle.std.specs.Prelude.{◌≡◌, [], ◌∷◌, ◌++◌, IfOk, OnOk, codes, decimal, flat_map, length, map};
+ghost use Rattle.gp_text.specs.Spelling.{spelling};
+ghost use Rattle.gp_window.specs.EventIds.{event_id_text};
+ghost use Rattle.gp_report.specs.Entries.{entries_of};
+ghost use Rattle.gp_report.specs.Printed.{after_words, answer_lines, count_word, entries_lines, in_lines, instance_words, lit_word, property_lines, report_lines, shared_lines, step_lines, summary_words, window_body_lines, window_lines};
+
+use crate::lines::{put_line, put_list, put_word, put_words};
+use crate::record::{Answer, Entry, PropertyBody, PropertyRecord, WindowBody, WindowRecord};
+use crate::report::Report;
+use crate::tally::tally_of;
+use gp_clause::Lit;
+use gp_derivation::Step;
+use gp_text::Row;
+use gp_window::EventId;
+use std::alloc::{AllocError, Global};
+
+/// The text of a report: its lines of words, with one space between words and a newline after each line.
+pub fn print_report(alloc: Global, report: &Report) -> Result<Row<u8>, AllocError>
+    ensures { IfOk result (λ text. text ≡ spelling (report_lines report.now)) }
+{
+    let mut text = Vec::new(alloc);
+    put_line(&mut text, b"gpredict", &[u64::from(report.format())])?;
+    put_line(&mut text, b"budget", &[report.budget()])?;
+    put_windows(&mut text, report.format(), report.windows())?;
+    put_summary(&mut text, report.windows())?;
+    Ok(Row::from_vec(text))
+}
+
+fn put_windows(text: &mut Vec<u8>, format: u32, windows: &[WindowRecord]) -> Result<(), AllocError>
+    ensures { OnOk result (text.new.items ≡ text.old.items ++ spelling (flat_map (window_lines format) windows.now)) }
+{
+    for window in windows {
+        put_window(text, format, window)?;
+    }
+    Ok(())
+}
+
+fn put_window(text: &mut Vec<u8>, format: u32, window: &WindowRecord) -> Result<(), AllocError>
+    ensures { OnOk result (text.new.items ≡ text.old.items ++ spelling (window_lines format window.now)) }
+{
+    put_line(text, b"window", &[window.number])?;
+    put_window_body(text, format, window.shared.as_slice(), &window.body)
+}
+
+fn put_window_body(
+    text: &mut Vec<u8>,
+    format: u32,
+    shared: &[Step],
+    body: &WindowBody,
+) -> Result<(), AllocError>
+    ensures { OnOk result (text.new.items ≡ text.old.items ++ spelling (window_body_lines format shared.now body.now)) }
+{
+    match body {
+        WindowBody::TooLarge { events, clauses } => {
+            put_line(text, b"toolarge", &[*events, *clauses])
+        }
+        WindowBody::Answers(properties) => {
+            put_answers(text, format, shared, properties.as_slice())
+        }
+    }
+}
+
+#[tactic(auto, using(crate::proofs::Texts::lines_put))]
+fn put_answers(
+    text: &mut Vec<u8>,
+    format: u32,
+    shared: &[Step],
+    properties: &[PropertyRecord],
+) -> Result<(), AllocError>
+    ensures { OnOk result (text.new.items ≡ text.old.items ++ spelling (shared_lines format shared.now ++ flat_map property_lines properties.now)) }
+{
+    put_shared(text, format, shared)?;
+    put_properties(text, properties)
+}
+
+fn put_shared(text: &mut Vec<u8>, format: u32, shared: &[Step]) -> Result<(), AllocError>
+    ensures { OnOk result (text.new.items ≡ text.old.items ++ spelling (shared_lines format shared.now)) }
+{
+    if format != 2 {
+        return Ok(());
+    }
+    put_line(text, b"shared", &[shared.len() as u64])?;
+    put_steps(text, shared)
+}
+
+fn put_properties(text: &mut Vec<u8>, properties: &[PropertyRecord]) -> Result<(), AllocError>
+    ensures { OnOk result (text.new.items ≡ text.old.items ++ spelling (flat_map property_lines properties.now)) }
+{
+    for property in properties {
+        put_property(text, property)?;
+    }
+    Ok(())
+}
+
+fn put_property(text: &mut Vec<u8>, property: &PropertyRecord) -> Result<(), AllocError>
+    ensures { OnOk result (text.new.items ≡ text.old.items ++ spelling (property_lines property.now)) }
+{
+    put_property_line(text, property)?;
+    put_entries(text, property.body.entries())
+}
+
+fn put_property_line(text: &mut Vec<u8>, property: &PropertyRecord) -> Result<(), AllocError>
+    ensures { OnOk result (text.new.items ≡ text.old.items ++ spelling ((codes "property" ∷ property.now.name ∷ count_word property.now.body ∷ []) ∷ [])) }
+{
+    text.extend_from_slice(b"property")?;
+    put_word(text, property.name.as_bytes())?;
+    put_count(text, &property.body)?;
+    text.push(b'\n')?;
+    Ok(())
+}
+
+fn put_count(text: &mut Vec<u8>, body: &PropertyBody) -> Result<(), AllocError>
+    ensures { OnOk result (text.new.items ≡ text.old.items ++ after_words (count_word body.now ∷ [])) }
+{
+    match body {
+        PropertyBody::TooMany => put_word(text, b"toomany"),
+        PropertyBody::Entries(entries) => put_words(text, &[entries.len() as u64]),
+    }
+}
+
+fn put_entries(text: &mut Vec<u8>, entries: &[Entry]) -> Result<(), AllocError>
+    ensures { OnOk result (text.new.items ≡ text.old.items ++ spelling (entries_lines 0 entries.now)) }
+{
+    for (number, entry) in entries.iter().enumerate() {
+        put_entry(text, number as u64, entry)?;
+    }
+    Ok(())
+}
+
+fn put_entry(text: &mut Vec<u8>, number: u64, entry: &Entry) -> Result<(), AllocError>
+    ensures { OnOk result (text.new.items ≡ text.old.items ++ spelling (instance_words number entry.now ∷ answer_lines entry.now.answer)) }
+{
+    put_instance(text, number, entry)?;
+    put_answer(text, &entry.answer)
+}
+
+fn put_instance(text: &mut Vec<u8>, number: u64, entry: &Entry) -> Result<(), AllocError>
+    ensures { OnOk result (text.new.items ≡ text.old.items ++ spelling (instance_words number entry.now ∷ [])) }
+{
+    text.extend_from_slice(b"instance")?;
+    put_words(text, &[number])?;
+    put_words(text, entry.events.as_slice())?;
+    text.push(b'\n')?;
+    Ok(())
+}
+
+fn put_answer(text: &mut Vec<u8>, answer: &Answer) -> Result<(), AllocError>
+    ensures { OnOk result (text.new.items ≡ text.old.items ++ spelling (answer_lines answer.now)) }
+{
+    match answer {
+        Answer::Found(schedule) => put_schedule(text, schedule.events.as_slice()),
+        Answer::Impossible(certificate) => put_certificate(text, certificate.steps.as_slice()),
+        Answer::Undecided { worker, from, to } => {
+            put_line(text, b"undecided", &[*worker, *from, *to])
+        }
+    }
+}
+
+fn put_schedule(text: &mut Vec<u8>, events: &[EventId]) -> Result<(), AllocError>
+    ensures { OnOk result (text.new.items ≡ text.old.items ++ spelling ((codes "found" ∷ decimal (length events.now) ∷ []) ∷ in_lines (map event_id_text events.now))) }
+{
+    put_line(text, b"found", &[events.len() as u64])?;
+    put_list(text, events)
+}
+
+fn put_certificate(text: &mut Vec<u8>, steps: &[Step]) -> Result<(), AllocError>
+    ensures { OnOk result (text.new.items ≡ text.old.items ++ spelling ((codes "impossible" ∷ decimal (length steps.now) ∷ []) ∷ flat_map step_lines steps.now)) }
+{
+    put_line(text, b"impossible", &[steps.len() as u64])?;
+    put_steps(text, steps)
+}
+
+fn put_steps(text: &mut Vec<u8>, steps: &[Step]) -> Result<(), AllocError>
+    ensures { OnOk result (text.new.items ≡ text.old.items ++ spelling (flat_map step_lines steps.now)) }
+{
+    for step in steps {
+        put_step(text, step)?;
+    }
+    Ok(())
+}
+
+fn put_step(text: &mut Vec<u8>, step: &Step) -> Result<(), AllocError>
+    ensures { OnOk result (text.new.items ≡ text.old.items ++ spelling (step_lines step.now)) }
+{
+    let lits = step.clause.lits();
+    let hints = step.hints.as_slice();
+    put_line(text, b"step", &[lits.len() as u64, hints.len() as u64])?;
+    put_lists(text, lits, hints)
+}
+
+#[tactic(auto, using(crate::proofs::Texts::lines_put))]
+fn put_lists(text: &mut Vec<u8>, lits: &[Lit], hints: &[u32]) -> Result<(), AllocError>
+    ensures { OnOk result (text.new.items ≡ text.old.items ++ spelling (in_lines (map lit_word lits.now) ++ in_lines (map decimal hints.now))) }
+{
+    put_list(text, lits)?;
+    put_list(text, hints)
+}
+
+fn put_summary(text: &mut Vec<u8>, windows: &[WindowRecord]) -> Result<(), AllocError>
+    ensures { OnOk result (text.new.items ≡ text.old.items ++ spelling (summary_words (entries_of windows.now) ∷ [])) }
+{
+    let tally = tally_of(windows)?;
+    let counts = [tally.found, tally.impossible, tally.undecided];
+    put_line(text, b"summary", &counts)
+}

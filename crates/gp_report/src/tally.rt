@@ -1,0 +1,74 @@
+ghost use Rattle.std.specs.Prelude.{◌≡◌, ◌+◌, [], ◌∷◌, IfOk};
+ghost use Rattle.gp_report.specs.Entries.{entries_among, entries_of};
+ghost use Rattle.gp_report.specs.Tally.{tally_of, with_entries};
+
+use crate::record::{Answer, Entry, PropertyRecord, WindowRecord};
+use std::alloc::AllocError;
+
+// How many entries are found, impossible and undecided.
+#[derive(Clone, Copy, Debug)]
+pub(crate) struct Tally {
+    pub(crate) found: u64,
+    pub(crate) impossible: u64,
+    pub(crate) undecided: u64,
+}
+
+// Counts the entries of all windows. Entries past 2^64 - 1 of a kind would not fit into memory.
+pub(crate) fn tally_of(windows: &[WindowRecord]) -> Result<Tally, AllocError>
+    ensures { IfOk result (λ tally. tally ≡ tally_of (entries_of windows.now)) }
+{
+    let mut tally = Tally {
+        found: 0,
+        impossible: 0,
+        undecided: 0,
+    };
+    for window in windows {
+        tally = with_properties(tally, window.body.properties())?;
+    }
+    Ok(tally)
+}
+
+fn with_properties(tally: Tally, properties: &[PropertyRecord]) -> Result<Tally, AllocError>
+    ensures { IfOk result (λ new. new ≡ with_entries tally (entries_among properties.now)) }
+{
+    let mut tally = tally;
+    for property in properties {
+        tally = with_entries(tally, property.body.entries())?;
+    }
+    Ok(tally)
+}
+
+fn with_entries(tally: Tally, entries: &[Entry]) -> Result<Tally, AllocError>
+    ensures { IfOk result (λ new. new ≡ with_entries tally entries.now) }
+{
+    let mut tally = tally;
+    for entry in entries {
+        tally = with_entry(tally, entry)?;
+    }
+    Ok(tally)
+}
+
+fn with_entry(tally: Tally, entry: &Entry) -> Result<Tally, AllocError>
+    ensures { IfOk result (λ new. new ≡ with_entries tally (entry.now ∷ [])) }
+{
+    match &entry.answer {
+        Answer::Found(_) => Ok(Tally {
+            found: more(tally.found)?,
+            ..tally
+        }),
+        Answer::Impossible(_) => Ok(Tally {
+            impossible: more(tally.impossible)?,
+            ..tally
+        }),
+        Answer::Undecided { .. } => Ok(Tally {
+            undecided: more(tally.undecided)?,
+            ..tally
+        }),
+    }
+}
+
+fn more(count: u64) -> Result<u64, AllocError>
+    ensures { IfOk result (λ next. next ≡ count + 1) }
+{
+    count.checked_add(1).ok_or(AllocError)
+}

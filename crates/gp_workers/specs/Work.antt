@@ -1,0 +1,43 @@
+-- What the workers of a window answer to its queries.
+use Rattle.std.specs.Prelude.{ℕ, ◌≡◌, ◌+◌, ◌-◌, ◌*◌, ◌≤◌, List, [], ◌∷◌, length, slice_get, All, IsSomeAnd}
+use Rattle.gp_clause.specs.declared.problem.Problem.{Problem}
+use Rattle.gp_clause.specs.declared.problem.Query.{Query}
+use Rattle.gp_clause.specs.Valuation.{Meets}
+use Rattle.gp_derivation.specs.declared.record.WorkerRecord.{WorkerRecord}
+use Rattle.gp_derivation.specs.Certificate.{Refutes}
+use Rattle.gp_derivation.specs.Spent.{HasTurnSpentOn}
+use Rattle.gp_workers.specs.declared.work.WindowWork.{WindowWork}
+use Rattle.gp_workers.specs.declared.work.WorkAnswer.{WorkAnswer}
+use Rattle.gp_workers.specs.declared.work.WorkAnswer.TheVariants.{Model, Refuted, Spent}
+use Rattle.gp_workers.specs.Records.{EachOnce, IsWorkerRecord}
+
+-- the worker of this number, from 1, has a turn with the ticket that is spent on the entries from one number to another
+pub record IsSpentBy (problem : Problem) (query : Query) (budget : ℕ) (workers : List WorkerRecord) (ticket worker from to : ℕ) : Type 0 where
+  pub counts : 1 ≤ worker
+  pub own : IsSomeAnd (slice_get workers (worker - 1)) (λ own. HasTurnSpentOn problem query own ticket budget from to)
+
+-- what an answer to the query with a ticket says
+abbrev pub IsAnswerTo : Problem → Query → ℕ → List WorkerRecord → ℕ → WorkAnswer → Type 0
+IsAnswerTo problem query budget workers ticket (Model valuation) = Meets problem query valuation
+IsAnswerTo problem query budget workers ticket (Refuted certificate) = Refutes problem query certificate
+IsAnswerTo problem query budget workers ticket (Spent worker from to) = IsSpentBy problem query budget workers ticket worker from to
+
+-- answers to queries, one for each in order, the first of which has this ticket
+abbrev pub AnswerEach : Problem → ℕ → List WorkerRecord → ℕ → List Query → List WorkAnswer → Type 0
+AnswerEach problem budget workers ticket [] [] = Unit {0}
+AnswerEach problem budget workers ticket (query ∷ queries) (answer ∷ answers) =
+    IsAnswerTo problem query budget workers ticket answer × AnswerEach problem budget workers (ticket + 1) queries answers
+AnswerEach problem budget workers ticket _ _ = ⊥
+
+-- the work of so many workers on the queries of a window, each with this budget
+pub record IsWork (problem : Problem) (queries : List Query) (count budget : ℕ) (work : WindowWork) : Type 0 where
+  pub answers : AnswerEach problem budget work.records 0 queries work.answers
+  pub workers : length work.records ≡ count
+  pub records : All (IsWorkerRecord problem) work.records
+  pub once : EachOnce (length queries) work.records
+
+-- queries that workers can be asked: few enough for their budget, to a problem that is not too large
+pub record CanBeWorked (problem : Problem) (queries : List Query) (budget : ℕ) : Type 0 where
+  pub few_clauses : length problem.clauses ≤ 500000
+  pub least : 1 ≤ budget
+  pub few : length queries * budget ≤ 1000000

@@ -1,0 +1,18 @@
+use gp_clause::{Row, Valuation};
+use gp_derivation::{Certificate, WorkerRecord};
+
+/// The answer to a query of a window.
+#[derive(Debug, Drop)]
+pub enum WorkAnswer {
+    Model(Valuation),
+    Refuted(Certificate),
+    /// The worker of this number, from 1, learned the entries `from..to` of its log, which spent the budget.
+    Spent { worker: u32, from: u32, to: u32 },
+}
+
+/// What the workers of a window answer, query by query in order, and what each of them did.
+#[derive(Debug, Drop)]
+pub struct WindowWork {
+    pub answers: Row<WorkAnswer>,
+    pub records: Row<WorkerRecord>,
+}

@@ -1,5 +1,5 @@
 -- Each line of a report is plain.
-use Rattle.std.proofs.Common.{◌≡◌, refl, ℕ, ◌+◌, ◌-◌, ◌<◌, ◌≤◌, ◌^◌, Bool, true, false, if◌then◌else◌, ◌==◌, ◌⊎◌, length, map, List, [], ◌∷◌, ◌++◌, codes, decimal, ap, ◌∙◌, arith, All}
+use Rattle.std.proofs.Common.{◌≡◌, refl, ℕ, ◌+◌, ◌-◌, ◌<◌, ◌≤◌, ◌^◌, Bool, true, false, if◌then◌else◌, ◌==◌, ◌⊎◌, length, map, List, [], ◌∷◌, ◌++◌, codes, decimal, arith, All}
 use Rattle.std.specs.List.{AllByRecursion, flat_map}
 use Rattle.std.proofs.lemmas.List.{length-map}
 use Rattle.std.proofs.lemmas.List.Elements.{recursion_from_All}
@@ -22,7 +22,7 @@ use Rattle.gp_report.specs.Printed.{answer_lines, count_word, entries_lines, in_
 use Rattle.gp_report.specs.Report.{IsEntry, IsPropertyBody, IsPropertyRecord, IsReport, IsToldAnswer, IsToldStep, IsWindowBody, IsWindowRecord}
 use Rattle.gp_report.specs.ReportForm.{ReportForm}
 use Rattle.gp_report.specs.Typed.{AreCounted, AreTypedSteps, IsTyped, IsTypedAnswer, IsTypedBody, IsTypedEntry, IsTypedId, IsTypedProperty, IsTypedStep, IsTypedWindow}
-use Rattle.gp_report.proofs.Words.{ArePlain, AreWords, id_word, IsListWord, is_keyword, keyword_word, line, list_lines, literal, mapped, name_word, number}
+use Rattle.gp_report.proofs.Words.{ArePlain, id_word, IsListWord, is_keyword, keyword_word, line, list_lines, literal, mapped, name_word, number}
 
 append_plain : (xs ys : List (List (List ℕ))) → ArePlain xs → ArePlain ys → ArePlain (xs ++ ys)
 append_plain [] ys front back = back

@@ -28,7 +28,7 @@ AreWords words = AllByRecursion IsListWord words
 abbrev pub ArePlain : List (List (List ℕ)) → Type 0
 ArePlain lines = AllByRecursion IsPlainLine lines
 
--- the test of such a word
+-- a test of such a word
 abbrev pub is_keyword : List ℕ → Bool
 is_keyword word = is_plain_word word && not (is_passed_over (word ∷ [])) && nat_le (length word) 39
 
@@ -84,7 +84,7 @@ pub mapped : {A : Type 0} (f : A → List ℕ) (P : A → Type 0) (each : (x : A
 mapped f P each [] are = tt
 mapped f P each (x ∷ xs) are = (each x are.0, mapped f P each xs are.1)
 
--- no digit and no more than one
+-- the first byte is at least that of `0`
 abbrev BeginsWithDigit : List ℕ → Type 0
 BeginsWithDigit [] = ⊥
 BeginsWithDigit (b ∷ bytes) = 48 ≤ b

@@ -1,5 +1,5 @@
 -- What the types of a report's parts say of its values: names are names, and numbers and lengths fit.
-use Rattle.std.specs.Prelude.{ℕ, ◌≡◌, ◌<◌, ◌^◌, true, List, length, All}
+use Rattle.std.specs.Prelude.{◌≡◌, ◌<◌, ◌^◌, true, List, length, All}
 use Rattle.gp_derivation.specs.declared.step.Step.{Step}
 use Rattle.gp_text.specs.Name.{is_name}
 use Rattle.gp_window.specs.declared.schedule.EventId.{EventId}
@@ -18,13 +18,13 @@ pub record IsTypedId (id : EventId) : Type 0 where
   pub thread : id.thread < 2 ^ 32
   pub index : id.index < 2 ^ 32
 
--- a step whose hints are below 2^32
+-- a step whose hints are below 2^32, in rows that fit
 pub record IsTypedStep (step : Step) : Type 0 where
   pub lits_fit : length step.clause < 2 ^ 64
   pub hints_fit : length step.hints < 2 ^ 64
   pub hints : All (λ hint. hint < 2 ^ 32) step.hints
 
--- steps of a certificate or of a window, in a row that fits
+-- such steps, in a row that fits
 abbrev pub AreTypedSteps : List Step → Type 0
 AreTypedSteps steps = (length steps < 2 ^ 64) × All IsTypedStep steps
 

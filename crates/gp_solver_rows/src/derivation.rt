@@ -1,75 +1,89 @@
-ghost use Rattle.std.specs.Prelude.{All, IsTrue};
+ghost use Rattle.std.specs.Prelude.{◌≡◌, [], ◌∷◌, All, IsTrue};
 ghost use Rattle.gp_clause.specs.Clause.{NamesBelow};
+ghost use Rattle.gp_clause.specs.Problem.{IsValidProblem, IsValidQuery};
 ghost use Rattle.gp_derivation.specs.Certificate.{clauses_of};
 
 use crate::fixture::{
     Rows, are_lits, are_named, is_asked, is_valid, lits_of, problem_of, query_of,
 };
-use gp_clause::{Clause, Edge, Kind, Row};
+use gp_clause::{Clause, Edge, Kind, Problem, Query, Row};
 use gp_derivation::{
     Certificate, LogEntry, Origin, Step, can_be_numbered, check_certificate, check_shared, cone,
+    tight,
 };
 use std::alloc::Global;
 use std::process::Abort;
 use std::sync::Arc;
 use std::test::Fail;
 
-// The literal of a step's clause, and its hints.
-type Line = (i32, [u32; 2]);
+// The literals of a step's clause, and its hints.
+type Line<'a> = (&'a [i32], &'a [u32]);
 
-// An entry, and the steps of its certificate where it is taken.
-type Entry = (Line, Option<[Line; 2]>);
+// An entry, and the lines of its certificate where it is taken.
+type Entry<'a> = (Line<'a>, Option<&'a [Line<'a>]>);
 
-fn step(alloc: Global, words: &[i32], hints: &[u32]) -> Result<Step, Fail> {
+fn step(alloc: Global, line: &Line) -> Result<Step, Fail> {
+    let (words, hints) = line;
     Ok(Step {
         clause: Clause::of(lits_of(alloc, words)?)?,
         hints: Row::from_vec(Vec::from_slice(alloc, hints)?),
     })
 }
 
+fn push_step(alloc: Global, all: &mut Row<Step>, line: &Line) -> Result<(), Fail> {
+    let next = step(alloc, line)?;
+    all.push(next)?;
+    Ok(())
+}
+
 fn steps(alloc: Global, lines: &[Line]) -> Result<Row<Step>, Fail> {
     let mut all = Row::new(alloc);
-    for (word, hints) in lines {
-        let next = step(alloc, &[*word], hints)?;
-        all.push(next)?;
+    for line in lines {
+        push_step(alloc, &mut all, line)?;
     }
     Ok(all)
 }
 
-fn entry(alloc: Global, entry: Entry) -> Result<LogEntry, Fail> {
-    let ((word, hints), certificate) = entry;
-    match certificate {
+fn certificate(alloc: Global, lines: &[Line]) -> Result<Certificate, Fail> {
+    Ok(Certificate {
+        steps: steps(alloc, lines)?,
+    })
+}
+
+fn entry(alloc: Global, entry: &Entry) -> Result<LogEntry, Fail> {
+    let (line, lines) = entry;
+    match lines {
         None => Ok(LogEntry {
-            step: step(alloc, &[word], &hints)?,
+            step: step(alloc, line)?,
             origin: Origin::Learned,
         }),
         Some(lines) => Ok(LogEntry {
-            step: step(alloc, &[word], &[])?,
+            step: step(alloc, line)?,
             origin: Origin::Taken {
                 sender: 1,
-                certificate: Arc::new(
-                    alloc,
-                    Certificate {
-                        steps: steps(alloc, &lines)?,
-                    },
-                )?,
+                certificate: Arc::new(alloc, certificate(alloc, lines)?)?,
             },
         }),
     }
 }
 
+fn push_entry(alloc: Global, log: &mut Row<LogEntry>, line: &Entry) -> Result<(), Fail> {
+    let next = entry(alloc, line)?;
+    log.push(next)?;
+    Ok(())
+}
+
 fn log_of(alloc: Global, entries: &[Entry]) -> Result<Row<LogEntry>, Fail> {
     let mut log = Row::new(alloc);
-    for one in entries {
-        let next = entry(alloc, *one)?;
-        log.push(next)?;
+    for entry in entries {
+        push_entry(alloc, &mut log, entry)?;
     }
     Ok(log)
 }
 
 fn is_step(given: &Step, line: &Line) -> bool {
-    let (word, hints) = line;
-    are_lits(given.clause.lits(), &[*word]) && given.hints.as_slice() == hints.as_slice()
+    let (words, hints) = line;
+    are_lits(given.clause.lits(), words) && given.hints.as_slice() == *hints
 }
 
 fn are_steps(given: &[Step], lines: &[Line]) -> bool {
@@ -80,97 +94,128 @@ fn are_steps(given: &[Step], lines: &[Line]) -> bool {
             .all(|(step, line)| is_step(step, line))
 }
 
-// Over three base clauses, so that hint 3 names the first entry: whether the cone of a last step has these steps.
-fn has_cone(
+// Whether the cone of a last step over three base clauses and a log has these steps.
+fn is_cone(
     rt: &impl Abort,
     alloc: Global,
-    entries: &[Entry],
-    hints: [u32; 2],
+    log: &[LogEntry],
+    last: &Step,
     lines: &[Line],
 ) -> Result<bool, Fail> {
-    let log = log_of(alloc, entries)?;
-    let last = step(alloc, &[20], &hints)?;
-    assert!(rt; can_be_numbered(3, log.as_slice(), &last));
-    let certificate = cone(alloc, 3, log.as_slice(), &last)?;
+    assert!(rt; can_be_numbered(3, log, last));
+    let certificate = cone(alloc, 3, log, last)?;
     Ok(are_steps(certificate.steps.as_slice(), lines))
+}
+
+// A log over three base clauses, so that hint 3 names its first entry, the hints of a last step, and the cone of that.
+type Cone<'a> = (&'a str, [Entry<'a>; 3], &'a [u32], &'a [Line<'a>]);
+
+fn has_cone(rt: &impl Abort, alloc: Global, row: &Cone) -> Result<bool, Fail> {
+    let (_, entries, hints, lines) = row;
+    let last = step(alloc, &(&[20], hints))?;
+    let log = log_of(alloc, entries)?;
+    is_cone(rt, alloc, log.as_slice(), &last, lines)
+}
+
+fn have_cones(rt: &impl Abort, alloc: Global, rows: &[Cone]) -> Result<(), Fail> {
+    for row in rows {
+        assert!(rt; has_cone(rt, alloc, row)?, "{}", row.0);
+    }
+    Ok(())
 }
 
 #[test]
 fn cones_of_small_logs(rt: HostRuntime) -> Result<(), Fail> {
-    let first = ((10, [0, 1]), None);
-    let rows: [(&str, [Entry; 3], [u32; 2], &[Line]); 5] = [
-        ("nothing", [first, first, first], [2, 0], &[(20, [2, 0])]),
+    const FIRST: Entry = ((&[10], &[0, 1]), None);
+    const ROWS: [Cone; 5] = [
+        (
+            "nothing",
+            [FIRST, FIRST, FIRST],
+            &[2, 0],
+            &[(&[20], &[2, 0])],
+        ),
         (
             "a chain",
-            [first, ((11, [3, 3]), None), ((12, [4, 1]), None)],
-            [5, 2],
-            &[(10, [0, 1]), (11, [3, 3]), (12, [4, 1]), (20, [5, 2])],
+            [FIRST, ((&[11], &[3, 3]), None), ((&[12], &[4, 1]), None)],
+            &[5, 2],
+            &[
+                (&[10], &[0, 1]),
+                (&[11], &[3, 3]),
+                (&[12], &[4, 1]),
+                (&[20], &[5, 2]),
+            ],
         ),
         (
             "a diamond",
-            [first, ((11, [3, 0]), None), ((12, [2, 3]), None)],
-            [4, 5],
-            &[(10, [0, 1]), (11, [3, 0]), (12, [2, 3]), (20, [4, 5])],
+            [FIRST, ((&[11], &[3, 0]), None), ((&[12], &[2, 3]), None)],
+            &[4, 5],
+            &[
+                (&[10], &[0, 1]),
+                (&[11], &[3, 0]),
+                (&[12], &[2, 3]),
+                (&[20], &[4, 5]),
+            ],
         ),
         (
             "an entry that is not needed",
-            [first, ((11, [1, 2]), None), ((12, [3, 2]), None)],
-            [5, 1],
-            &[(10, [0, 1]), (12, [3, 2]), (20, [4, 1])],
+            [FIRST, ((&[11], &[1, 2]), None), ((&[12], &[3, 2]), None)],
+            &[5, 1],
+            &[(&[10], &[0, 1]), (&[12], &[3, 2]), (&[20], &[4, 1])],
         ),
         (
             "a taken entry",
             [
-                first,
-                ((11, [0, 0]), Some([(30, [1, 2]), (11, [3, 0])])),
-                ((12, [4, 3]), None),
+                FIRST,
+                ((&[11], &[]), Some(&[(&[30], &[1, 2]), (&[11], &[3, 0])])),
+                ((&[12], &[4, 3]), None),
             ],
-            [5, 4],
+            &[5, 4],
             &[
-                (10, [0, 1]),
-                (30, [1, 2]),
-                (11, [4, 0]),
-                (12, [5, 3]),
-                (20, [6, 5]),
+                (&[10], &[0, 1]),
+                (&[30], &[1, 2]),
+                (&[11], &[4, 0]),
+                (&[12], &[5, 3]),
+                (&[20], &[6, 5]),
             ],
         ),
     ];
-    for (name, entries, hints, lines) in rows {
-        assert!(rt;
-            has_cone(&rt, rt.alloc(), &entries, hints, lines)?,
-            "{name}"
-        );
-    }
-    Ok(())
+    have_cones(&rt, rt.alloc(), &ROWS)
 }
 
-fn is_numbered(alloc: Global, bases: u32, one: Entry, hints: [u32; 2]) -> Result<bool, Fail> {
-    let log = log_of(alloc, &[one])?;
-    let last = step(alloc, &[20], &hints)?;
-    Ok(can_be_numbered(bases, log.as_slice(), &last))
+// How many base clauses there are, the entry of a log, the hints of a last step, and whether they can be numbered.
+type Numbered<'a> = (&'a str, u32, [Entry<'a>; 1], &'a [u32], bool);
+
+fn is_numbered(alloc: Global, row: &Numbered) -> Result<bool, Fail> {
+    let (_, bases, entries, hints, due) = row;
+    let last = step(alloc, &(&[20], hints))?;
+    let log = log_of(alloc, entries)?;
+    Ok(can_be_numbered(*bases, log.as_slice(), &last) == *due)
+}
+
+fn are_numbered(rt: &impl Abort, alloc: Global, rows: &[Numbered]) -> Result<(), Fail> {
+    for row in rows {
+        assert!(rt; is_numbered(alloc, row)?, "{}", row.0);
+    }
+    Ok(())
 }
 
 #[test]
 fn logs_that_can_and_cannot_be_numbered(rt: HostRuntime) -> Result<(), Fail> {
-    let few = ((10, [0, 0]), None);
-    let taken = ((10, [0, 0]), Some([(10, [2, 0]), (10, [3, 0])]));
-    let turned = ((10, [0, 0]), Some([(10, [2, 0]), (10, [4, 0])]));
-    let rows: [(&str, u32, Entry, [u32; 2], bool); 7] = [
-        ("what comes before", 3, ((10, [2, 0]), None), [3, 0], true),
-        ("an entry itself", 3, ((10, [3, 0]), None), [0, 0], false),
-        ("the last step", 3, ((10, [2, 0]), None), [4, 0], false),
-        ("a certificate", 3, taken, [3, 0], true),
-        ("its step itself", 3, turned, [3, 0], false),
-        ("few enough", 4294967293, few, [0, 0], true),
-        ("one too many", 4294967294, few, [0, 0], false),
+    const FEW: [Entry; 1] = [((&[10], &[0, 0]), None)];
+    const BEFORE: [Entry; 1] = [((&[10], &[2, 0]), None)];
+    const ITSELF: [Entry; 1] = [((&[10], &[3, 0]), None)];
+    const TAKEN: [Entry; 1] = [((&[10], &[]), Some(&[(&[10], &[2, 0]), (&[10], &[3, 0])]))];
+    const TURNED: [Entry; 1] = [((&[10], &[]), Some(&[(&[10], &[2, 0]), (&[10], &[4, 0])]))];
+    const ROWS: [Numbered; 7] = [
+        ("what comes before", 3, BEFORE, &[3, 0], true),
+        ("an entry itself", 3, ITSELF, &[0, 0], false),
+        ("the last step", 3, BEFORE, &[4, 0], false),
+        ("a certificate", 3, TAKEN, &[3, 0], true),
+        ("its step itself", 3, TURNED, &[3, 0], false),
+        ("few enough", 4294967293, FEW, &[0, 0], true),
+        ("one too many", 4294967294, FEW, &[0, 0], false),
     ];
-    for (name, bases, one, hints, due) in rows {
-        assert!(rt;
-            is_numbered(rt.alloc(), bases, one, hints)? == due,
-            "{name}"
-        );
-    }
-    Ok(())
+    are_numbered(&rt, rt.alloc(), &ROWS)
 }
 
 // Two free variables, and the clauses {a, b} and {a, not b}.
@@ -215,18 +260,6 @@ const FLAG: Rows = Rows {
 // The use before the authorisation.
 const ORDER: [Kind; 1] = [Kind::Order { a: 1, b: 4 }];
 
-// Steps by their literals and hints.
-type Steps<'a> = &'a [(&'a [i32], &'a [u32])];
-
-fn all_steps(alloc: Global, rows: Steps) -> Result<Row<Step>, Fail> {
-    let mut all = Row::new(alloc);
-    for (words, hints) in rows {
-        let next = step(alloc, words, hints)?;
-        all.push(next)?;
-    }
-    Ok(all)
-}
-
 fn all_named(variables: usize, steps: &[Step]) -> bool
     ensures { IsTrue result → All (λ step. NamesBelow variables step.clause) steps.now }
 {
@@ -242,100 +275,197 @@ fn are_within(variables: usize, steps: &[Step]) -> bool
     all_named(variables, steps)
 }
 
-// Whether each own step passes over the shared ones, with these locals.
+// A problem, and a query to it that assumes nothing.
+#[derive(Drop)]
+struct Posed {
+    problem: Problem,
+    query: Query,
+}
+
+fn pose(alloc: Global, rows: &Rows, locals: &[Kind]) -> Result<Posed, Fail> {
+    Ok(Posed {
+        problem: problem_of(alloc, rows)?,
+        query: query_of(alloc, locals, &[])?,
+    })
+}
+
 fn passes(
     rt: &impl Abort,
     alloc: Global,
-    rows: &Rows,
-    locals: &[Kind],
-    shared: Steps,
-    own: Steps,
+    posed: &Posed,
+    shared: &[Step],
+    own: &Certificate,
 ) -> Result<bool, Fail> {
-    let problem = problem_of(alloc, rows)?;
-    let query = query_of(alloc, locals, &[])?;
-    assert!(rt; is_valid(&problem));
-    assert!(rt; is_asked(&problem, &query));
-    let shared = all_steps(alloc, shared)?;
-    assert!(rt; are_within(problem.kinds.len() + query.locals.len(), shared.as_slice()));
-    let certificate = Certificate {
-        steps: all_steps(alloc, own)?,
-    };
-    Ok(check_certificate(alloc, &problem, shared.as_slice(), &query, &certificate)?)
+    let Posed { problem, query } = posed;
+    assert!(rt; is_valid(problem));
+    assert!(rt; is_asked(problem, query));
+    assert!(rt; are_within(problem.kinds.len() + query.locals.len(), shared));
+    Ok(check_certificate(alloc, problem, shared, query, own)?)
 }
 
-#[test]
-fn checks_each_own_step(rt: HostRuntime) -> Result<(), Fail> {
-    let last: (&[i32], &[u32]) = (&[-2, -5, 9], &[2, 5, 7]);
-    let over: (&[i32], &[u32]) = (&[-2, -5, 9], &[8, 5, 7]);
-    let moved: (&[i32], &[u32]) = (&[4, -5], &[2]);
-    let rows: [(&str, Rows, &[Kind], Steps, Steps, bool); 9] = [
-        ("{a} by all clauses", TWO, &[], &[], &[(&[1], &[])], true),
-        ("{b}", TWO, &[], &[], &[(&[2], &[])], false),
-        ("three hints", FLAG, &ORDER, &[], &[last], true),
-        (
-            "turned",
-            FLAG,
-            &ORDER,
-            &[],
-            &[(&[-2, -5, -9], &[2, 5, 7])],
-            false,
-        ),
-        (
-            "a hint to itself",
-            FLAG,
-            &ORDER,
-            &[],
-            &[(&[-2, -5, 9], &[2, 5, 8])],
-            false,
-        ),
-        (
-            "no such variable",
-            FLAG,
-            &ORDER,
-            &[],
-            &[(&[-900], &[2])],
-            false,
-        ),
-        ("over a shared step", FLAG, &ORDER, &[moved], &[over], true),
-        ("after an own step", FLAG, &ORDER, &[], &[moved, over], true),
-        (
-            "the second fails",
-            FLAG,
-            &ORDER,
-            &[],
-            &[last, (&[-4], &[])],
-            false,
-        ),
-    ];
-    for (name, problem, locals, shared, own, due) in rows {
-        let given = passes(&rt, rt.alloc(), &problem, locals, shared, own)?;
-        assert!(rt; given == due, "{name}");
+// Shared steps and own ones, and whether each own one passes over the shared ones.
+type Passing<'a> = (&'a str, &'a [Line<'a>], &'a [Line<'a>], bool);
+
+fn is_passing(rt: &impl Abort, alloc: Global, posed: &Posed, row: &Passing) -> Result<bool, Fail> {
+    let (_, shared, own, due) = row;
+    let shared = steps(alloc, shared)?;
+    let own = certificate(alloc, own)?;
+    Ok(passes(rt, alloc, posed, shared.as_slice(), &own)? == *due)
+}
+
+fn are_passing(
+    rt: &impl Abort,
+    alloc: Global,
+    posed: &Posed,
+    rows: &[Passing],
+) -> Result<(), Fail> {
+    for row in rows {
+        assert!(rt; is_passing(rt, alloc, posed, row)?, "{}", row.0);
     }
     Ok(())
 }
 
+#[test]
+fn checks_a_step_without_hints(rt: HostRuntime) -> Result<(), Fail> {
+    const ROWS: [Passing; 2] = [
+        ("{a} by all clauses", &[], &[(&[1], &[])], true),
+        ("{b}", &[], &[(&[2], &[])], false),
+    ];
+    let posed = pose(rt.alloc(), &TWO, &[])?;
+    let hold = are_passing(&rt, rt.alloc(), &posed, &ROWS);
+    drop(posed);
+    hold
+}
+
+#[test]
+fn checks_each_own_step(rt: HostRuntime) -> Result<(), Fail> {
+    const LAST: Line = (&[-2, -5, 9], &[2, 5, 7]);
+    const OVER: Line = (&[-2, -5, 9], &[8, 5, 7]);
+    const MOVED: Line = (&[4, -5], &[2]);
+    const TURNED: Line = (&[-2, -5, -9], &[2, 5, 7]);
+    const ITSELF: Line = (&[-2, -5, 9], &[2, 5, 8]);
+    const ROWS: [Passing; 7] = [
+        ("three hints", &[], &[LAST], true),
+        ("turned", &[], &[TURNED], false),
+        ("a hint to itself", &[], &[ITSELF], false),
+        ("no such variable", &[], &[(&[-900], &[2])], false),
+        ("over a shared step", &[MOVED], &[OVER], true),
+        ("after an own step", &[], &[MOVED, OVER], true),
+        ("the second fails", &[], &[LAST, (&[-4], &[])], false),
+    ];
+    let posed = pose(rt.alloc(), &FLAG, &ORDER)?;
+    let hold = are_passing(&rt, rt.alloc(), &posed, &ROWS);
+    drop(posed);
+    hold
+}
+
 // The first shared step that fails.
-fn first_failing(rt: &impl Abort, alloc: Global, shared: Steps) -> Result<Option<u64>, Fail> {
-    let problem = problem_of(alloc, &FLAG)?;
-    assert!(rt; is_valid(&problem));
-    let shared = all_steps(alloc, shared)?;
-    Ok(check_shared(alloc, &problem, shared.as_slice())?)
+fn first_of(
+    rt: &impl Abort,
+    alloc: Global,
+    problem: &Problem,
+    shared: &[Step],
+) -> Result<Option<u64>, Fail> {
+    assert!(rt; is_valid(problem));
+    Ok(check_shared(alloc, problem, shared)?)
+}
+
+// Shared steps, and the first of them that fails.
+type Failing<'a> = (&'a [Line<'a>], Option<u64>);
+
+fn is_first(
+    rt: &impl Abort,
+    alloc: Global,
+    problem: &Problem,
+    row: &Failing,
+) -> Result<bool, Fail> {
+    let (shared, due) = row;
+    let shared = steps(alloc, shared)?;
+    Ok(first_of(rt, alloc, problem, shared.as_slice())? == *due)
+}
+
+fn are_first(
+    rt: &impl Abort,
+    alloc: Global,
+    problem: &Problem,
+    rows: &[Failing],
+) -> Result<bool, Fail> {
+    let mut all = true;
+    for row in rows {
+        all &= is_first(rt, alloc, problem, row)?;
+    }
+    Ok(all)
 }
 
 #[test]
 fn tells_the_first_shared_step_that_fails(rt: HostRuntime) -> Result<(), Fail> {
-    let good: (&[i32], &[u32]) = (&[4, -5], &[2]);
-    let bad: (&[i32], &[u32]) = (&[3, -5], &[2]);
-    let local: (&[i32], &[u32]) = (&[-2, -5, 9], &[2, 5, 7]);
-    let rows: [(Steps, Option<u64>); 5] = [
+    const GOOD: Line = (&[4, -5], &[2]);
+    const BAD: Line = (&[3, -5], &[2]);
+    const LOCAL: Line = (&[-2, -5, 9], &[2, 5, 7]);
+    const ROWS: [Failing; 5] = [
         (&[], None),
-        (&[good], None),
-        (&[bad], Some(0)),
-        (&[good, bad, bad], Some(1)),
-        (&[good, local], Some(1)),
+        (&[GOOD], None),
+        (&[BAD], Some(0)),
+        (&[GOOD, BAD, BAD], Some(1)),
+        (&[GOOD, LOCAL], Some(1)),
     ];
-    for (shared, due) in rows {
-        assert!(rt; first_failing(&rt, rt.alloc(), shared)? == due);
-    }
+    let problem = problem_of(rt.alloc(), &FLAG)?;
+    let all = are_first(&rt, rt.alloc(), &problem, &ROWS);
+    drop(problem);
+    assert!(rt; all?);
+    Ok(())
+}
+
+// The step of a certificate that has one.
+fn only_step(rt: &impl Abort, certificate: Certificate) -> Step
+    ensures { certificate.steps ≡ result ∷ [] }
+{
+    let mut steps = certificate.steps.into_vec();
+    let step = steps.pop().expect(rt, "a step");
+    assert!(rt; steps.is_empty());
+    step
+}
+
+// The step of a certificate, made as tight as it can be with the clauses that its hints name.
+fn tightened(
+    rt: &impl Abort,
+    alloc: Global,
+    problem: &Problem,
+    query: &Query,
+    certificate: Certificate,
+) -> Result<Step, Fail>
+    requires valid { IsValidProblem problem.now }
+    requires asked { IsValidQuery problem.now query.now }
+{
+    assert!(rt; check_certificate(alloc, problem, &[], query, &certificate)?);
+    let step = only_step(rt, certificate);
+    assert!(rt; !step.hints.is_empty());
+    Ok(tight(alloc, problem, query, &[], step)?)
+}
+
+// Whether the one step of a certificate is this one when it is made tight.
+fn is_tightened(
+    rt: &impl Abort,
+    alloc: Global,
+    posed: &Posed,
+    lines: &[Line],
+    due: &Line,
+) -> Result<bool, Fail> {
+    let Posed { problem, query } = posed;
+    assert!(rt; is_valid(problem));
+    assert!(rt; is_asked(problem, query));
+    let only = certificate(alloc, lines)?;
+    let short = tightened(rt, alloc, problem, query, only)?;
+    Ok(is_step(&short, due))
+}
+
+#[test]
+fn leaves_out_what_can_be_left_out(rt: HostRuntime) -> Result<(), Fail> {
+    const LONG: [Line; 1] = [(&[1, 2], &[0, 1])];
+    const SHORT: Line = (&[1], &[0, 1]);
+    let posed = pose(rt.alloc(), &TWO, &[])?;
+    let tightened = is_tightened(&rt, rt.alloc(), &posed, &LONG, &SHORT);
+    drop(posed);
+    assert!(rt; tightened?);
     Ok(())
 }

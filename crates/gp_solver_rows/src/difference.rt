@@ -40,6 +40,8 @@ fn keep_all(places: &[i64], edges: &[Edge]) -> bool {
 
 // Three bounds, of which the last closes a cycle with the first two and the fixed edge, and is kept when they are gone.
 fn explains(rt: &impl Abort, graph: &mut Graph) -> Result<bool, Fail> {
+    assert!(rt; graph.mark() == 0);
+    graph.reserve(4)?;
     let first = asserts(rt, graph, (1, 0, 5), 6, Asserted::Kept)?;
     let second = asserts(rt, graph, (1, 2, -1), 7, Asserted::Kept)?;
     let rises = graph.places().len() == 3 && graph.places().is_sorted();
@@ -53,9 +55,9 @@ fn explains(rt: &impl Abort, graph: &mut Graph) -> Result<bool, Fail> {
 #[test]
 fn explains_a_cycle_and_takes_bounds_back(rt: HostRuntime) -> Result<(), Fail> {
     let mut graph = Graph::new(rt.alloc(), 3, &[Edge { a: 0, b: 1, c: -1 }])?;
-    graph.reserve(4)?;
-    assert!(rt; graph.mark() == 0);
-    assert!(rt; explains(&rt, &mut graph)?);
+    let holds = explains(&rt, &mut graph);
+    drop(graph);
+    assert!(rt; holds?);
     Ok(())
 }
 
@@ -91,7 +93,9 @@ fn stays(rt: &impl Abort, graph: &mut Graph) -> Result<bool, Fail> {
 #[test]
 fn leaves_places_that_keep_the_bound(rt: HostRuntime) -> Result<(), Fail> {
     let mut graph = Graph::new(rt.alloc(), 4, &[])?;
-    assert!(rt; stays(&rt, &mut graph)?);
+    let holds = stays(&rt, &mut graph);
+    drop(graph);
+    assert!(rt; holds?);
     Ok(())
 }
 
@@ -105,21 +109,23 @@ fn chains(rt: &impl Abort, graph: &mut Graph, points: u32) -> Result<bool, Fail>
     Ok(all && graph.places().is_sorted())
 }
 
+// A chain of 2000 points, of which the last one cannot be less than 1999 behind the first.
+fn closes(rt: &impl Abort, graph: &mut Graph) -> Result<bool, Fail> {
+    const ENDS: [Edge; 1] = [Edge {
+        a: 0,
+        b: 1999,
+        c: -1999,
+    }];
+    let kept = chains(rt, graph, 2000)?;
+    let closed = asserts(rt, graph, (1999, 0, 1998), 0, Asserted::Cycle)?;
+    Ok(kept && closed && graph.cycle().len() == 2000 && keep_all(graph.places(), &ENDS))
+}
+
 #[test]
 fn keeps_a_long_chain(rt: HostRuntime) -> Result<(), Fail> {
     let mut graph = Graph::new(rt.alloc(), 2000, &[])?;
-    assert!(rt; chains(&rt, &mut graph, 2000)?);
-    let closed = asserts(&rt, &mut graph, (1999, 0, 1998), 0, Asserted::Cycle)?;
-    assert!(rt; closed && graph.cycle().len() == 2000);
-    assert!(rt;
-        keep_all(
-            graph.places(),
-            &[Edge {
-                a: 0,
-                b: 1999,
-                c: -1999
-            }]
-        )
-    );
+    let holds = closes(&rt, &mut graph);
+    drop(graph);
+    assert!(rt; holds?);
     Ok(())
 }

@@ -117,19 +117,28 @@ fn analyse_final(
     Ok(solver.analyse_final(&conflict)?)
 }
 
-// A solver of so many variables with these clauses.
-fn of_clauses(
+// Attaches the clause of some literals.
+fn attach_lits(
     rt: &impl Abort,
     alloc: Global,
-    variables: u32,
+    solver: &mut Solver,
+    words: &[i32],
+) -> Result<(), Fail> {
+    let clause = Clause::of(lits_of(alloc, words)?)?;
+    attach(rt, solver, &clause)?;
+    Ok(())
+}
+
+fn attach_all(
+    rt: &impl Abort,
+    alloc: Global,
+    solver: &mut Solver,
     clauses: &[&[i32]],
-) -> Result<Solver, Fail> {
-    let mut solver = Solver::new(alloc, variables)?;
+) -> Result<(), Fail> {
     for words in clauses {
-        let clause = Clause::of(lits_of(alloc, words)?)?;
-        attach(rt, &mut solver, &clause)?;
+        attach_lits(rt, alloc, solver, words)?;
     }
-    Ok(solver)
+    Ok(())
 }
 
 fn is_quiet(solver: &mut Solver) -> bool {
@@ -186,30 +195,41 @@ fn grow(rt: &impl Abort, solver: &mut Solver, variables: u32) -> Result<(), Fail
     Ok(solver.grow(variables)?)
 }
 
+// Goes back to level 0 with what was learned. Tells whether it is the unit clause of a literal, which is then true.
+fn takes_up(
+    rt: &impl Abort,
+    solver: &mut Solver,
+    learned: &Learned,
+    word: i32,
+) -> Result<bool, Fail> {
+    go_back(solver);
+    let number = attach(rt, solver, &learned.clause)?;
+    let quiet = is_quiet(solver);
+    Ok(
+        quiet
+            && number == 2
+            && learned.level == 0
+            && are_lits(learned.clause.lits(), &[word])
+            && has_trail(solver, &[word]),
+    )
+}
+
 // Decides the first variable false, learns from the conflict, and goes on with what was learned.
 fn goes_on(rt: &impl Abort, alloc: Global, solver: &mut Solver) -> Result<bool, Fail> {
+    attach_all(rt, alloc, solver, &[&[1, 2], &[1, -2]])?;
     let quiet = is_quiet(solver);
     decide(rt, solver, -1);
     let fails = is_false_at(solver, 0);
     let learned = analyse(rt, alloc, solver, 0)?;
-    go_back(solver);
-    let number = attach(rt, solver, &learned.clause)?;
-    let again = is_quiet(solver);
-    Ok(
-        quiet
-            && fails
-            && again
-            && number == 2
-            && learned.level == 0
-            && are_lits(learned.clause.lits(), &[1])
-            && has_trail(solver, &[1]),
-    )
+    Ok(takes_up(rt, solver, &learned, 1)? && quiet && fails)
 }
 
 #[test]
 fn learns_a_unit_and_goes_on(rt: HostRuntime) -> Result<(), Fail> {
-    let mut solver = of_clauses(&rt, rt.alloc(), 2, &[&[1, 2], &[1, -2]])?;
-    assert!(rt; goes_on(&rt, rt.alloc(), &mut solver)?);
+    let mut solver = Solver::new(rt.alloc(), 2)?;
+    let holds = goes_on(&rt, rt.alloc(), &mut solver);
+    drop(solver);
+    assert!(rt; holds?);
     Ok(())
 }
 
@@ -225,24 +245,59 @@ struct Row<'a> {
     last: &'a [i32],
 }
 
-fn learns(rt: &impl Abort, alloc: Global, row: &Row) -> Result<bool, Fail> {
-    let mut solver = of_clauses(rt, alloc, 4, row.clauses)?;
-    for word in row.decisions {
-        decide(rt, &mut solver, *word);
+fn learns_first(
+    rt: &impl Abort,
+    alloc: Global,
+    solver: &mut Solver,
+    row: &Row,
+) -> Result<bool, Fail> {
+    let learned = analyse(rt, alloc, solver, row.conflict)?;
+    Ok(is_learned(&learned, row.lits, row.level, row.hints))
+}
+
+fn learns_last(
+    rt: &impl Abort,
+    alloc: Global,
+    solver: &mut Solver,
+    row: &Row,
+) -> Result<bool, Fail> {
+    let learned = analyse_final(rt, alloc, solver, row.conflict)?;
+    Ok(are_lits(learned.clause.lits(), row.last))
+}
+
+fn decide_all(rt: &impl Abort, solver: &mut Solver, words: &[i32]) {
+    for word in words {
+        decide(rt, solver, *word);
     }
-    let fails = is_false_at(&mut solver, row.conflict);
-    let learned = analyse(rt, alloc, &mut solver, row.conflict)?;
-    let last = analyse_final(rt, alloc, &mut solver, row.conflict)?;
-    Ok(
-        fails
-            && is_learned(&learned, row.lits, row.level, row.hints)
-            && are_lits(last.clause.lits(), row.last),
-    )
+}
+
+fn learns(rt: &impl Abort, alloc: Global, solver: &mut Solver, row: &Row) -> Result<bool, Fail> {
+    attach_all(rt, alloc, solver, row.clauses)?;
+    decide_all(rt, solver, row.decisions);
+    let fails = is_false_at(solver, row.conflict);
+    let first = learns_first(rt, alloc, solver, row)?;
+    let last = learns_last(rt, alloc, solver, row)?;
+    Ok(fails && first && last)
+}
+
+fn holds(rt: &impl Abort, alloc: Global, row: &Row) -> Result<bool, Fail> {
+    let mut solver = Solver::new(alloc, 4)?;
+    let holds = learns(rt, alloc, &mut solver, row);
+    drop(solver);
+    holds
+}
+
+fn all_hold(rt: &impl Abort, alloc: Global, rows: &[Row]) -> Result<bool, Fail> {
+    let mut all = true;
+    for row in rows {
+        all &= holds(rt, alloc, row)?;
+    }
+    Ok(all)
 }
 
 #[test]
 fn learns_from_conflicts(rt: HostRuntime) -> Result<(), Fail> {
-    let rows = [
+    const ROWS: [Row; 3] = [
         Row {
             clauses: &[&[-1, -2, 3], &[-2, -3]],
             decisions: &[1, 2],
@@ -271,45 +326,53 @@ fn learns_from_conflicts(rt: HostRuntime) -> Result<(), Fail> {
             last: &[-2],
         },
     ];
-    for row in &rows {
-        assert!(rt; learns(&rt, rt.alloc(), row)?);
-    }
+    assert!(rt; all_hold(&rt, rt.alloc(), &ROWS)?);
     Ok(())
+}
+
+// Whether the final analysis of a conflict without a decision gives the empty clause, by one clause.
+fn is_refuted(
+    rt: &impl Abort,
+    alloc: Global,
+    solver: &mut Solver,
+    conflict: u32,
+    hint: u32,
+) -> Result<bool, Fail> {
+    let last = analyse_final(rt, alloc, solver, conflict)?;
+    Ok(last.clause.is_empty() && last.hints.as_slice() == [hint].as_slice())
 }
 
 // Finds a false clause, takes everything back, retires the other one, and grows.
 fn starts_again(rt: &impl Abort, alloc: Global, solver: &mut Solver) -> Result<bool, Fail> {
+    attach_all(rt, alloc, solver, &[&[1], &[-1]])?;
     let fails = is_false_at(solver, 1);
-    let last = analyse_final(rt, alloc, solver, 1)?;
+    let refuted = is_refuted(rt, alloc, solver, 1, 0)?;
     let full = is_next(solver, None);
     clear(solver);
     retire(rt, solver, 0);
     grow(rt, solver, 3)?;
     let quiet = is_quiet(solver);
-    Ok(
-        fails
-            && full
-            && quiet
-            && last.clause.is_empty()
-            && last.hints.as_slice() == [0].as_slice()
-            && has_trail(solver, &[-1])
-            && is_next(solver, Some(1)),
-    )
+    Ok(fails && refuted && full && quiet && has_trail(solver, &[-1]) && is_next(solver, Some(1)))
 }
 
 #[test]
 fn clears_retires_and_grows(rt: HostRuntime) -> Result<(), Fail> {
-    let mut solver = of_clauses(&rt, rt.alloc(), 1, &[&[1], &[-1]])?;
-    assert!(rt; starts_again(&rt, rt.alloc(), &mut solver)?);
+    let mut solver = Solver::new(rt.alloc(), 1)?;
+    let holds = starts_again(&rt, rt.alloc(), &mut solver);
+    drop(solver);
+    assert!(rt; holds?);
     Ok(())
 }
 
 const PAIRS: i32 = 400_000;
 
-// The clause of the two variables of a pair.
-fn pair(alloc: Global, number: i32) -> Result<Vec<Lit>, AllocError> {
-    let first = number.saturating_mul(2).saturating_add(1);
-    lits_of(alloc, &[first, first.saturating_add(1)])
+// Attaches a clause for each pair, of its two variables.
+fn attach_pairs(rt: &impl Abort, alloc: Global, solver: &mut Solver) -> Result<(), Fail> {
+    for number in 0..PAIRS {
+        let first = number.saturating_mul(2).saturating_add(1);
+        attach_lits(rt, alloc, solver, &[first, first.saturating_add(1)])?;
+    }
+    Ok(())
 }
 
 // Whether each pair's second literal is forced by its first one.
@@ -326,14 +389,17 @@ fn forces_each(rt: &impl Abort, solver: &mut Solver) -> bool {
     all
 }
 
+fn forces_pairs(rt: &impl Abort, alloc: Global, solver: &mut Solver) -> Result<bool, Fail> {
+    attach_pairs(rt, alloc, solver)?;
+    Ok(forces_each(rt, solver))
+}
+
 #[test]
 fn visits_only_what_watches(rt: HostRuntime) -> Result<(), Fail> {
     let mut solver = Solver::new(rt.alloc(), 800_000)?;
-    for number in 0..PAIRS {
-        let clause = Clause::of(pair(rt.alloc(), number)?)?;
-        attach(&rt, &mut solver, &clause)?;
-    }
-    assert!(rt; forces_each(&rt, &mut solver));
+    let holds = forces_pairs(&rt, rt.alloc(), &mut solver);
+    drop(solver);
+    assert!(rt; holds?);
     Ok(())
 }
 
@@ -353,6 +419,8 @@ fn follows_the_order(rt: &impl Abort, solver: &mut Solver) -> bool {
 #[test]
 fn decides_in_the_order_of_the_queue(rt: HostRuntime) -> Result<(), Fail> {
     let mut solver = Solver::new(rt.alloc(), 3)?;
-    assert!(rt; follows_the_order(&rt, &mut solver));
+    let holds = follows_the_order(&rt, &mut solver);
+    drop(solver);
+    assert!(rt; holds);
     Ok(())
 }

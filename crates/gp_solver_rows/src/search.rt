@@ -1,4 +1,6 @@
 ghost use Rattle.std.specs.Prelude.{◌≡◌};
+ghost use Rattle.gp_clause.specs.Problem.{IsValidProblem};
+ghost use Rattle.gp_search.specs.Verdict.{IsSolvable};
 
 use crate::fixture::{
     Rows, are_kept, are_lits, is_asked, is_solvable, is_valid, lit, problem_of, query_of,
@@ -44,29 +46,11 @@ fn is_due(verdict: &Verdict, due: &Due, kept: &[Edge]) -> bool {
     }
 }
 
-// Asks a search over a problem what it may be asked.
-fn ask(
-    rt: &impl Abort,
-    problem: &Problem,
-    search: &mut Search,
-    query: &Query,
-    budget: u64,
-) -> Result<Verdict, Fail>
-    requires { search.old.problem ≡ problem.now }
-    ensures { search.new.problem ≡ problem.now }
-{
-    assert!(rt; is_valid(problem));
-    assert!(rt; is_asked(problem, query));
-    assert!(rt; problem.clauses.len() < 1000 && search.log().len() < 1000);
-    assert!(rt; 0 < budget && budget < 1000);
-    Ok(search.ask(query, budget)?)
-}
+// A query that a search is asked: its locals, what is assumed, the budget, the verdict and, where that is due, how many
+// entries the log then has.
+type Asked<'a> = (&'a [Kind], &'a [i32], u64, Due<'a>, Option<usize>);
 
-// Queries that one search is asked one after another: how many free locals, what is assumed, the budget, the verdict and,
-// where that is due, how many entries the log then has.
-type Asked<'a> = (usize, &'a [i32], u64, Due<'a>, Option<usize>);
-
-const LOCALS: [Kind; 2] = [Kind::Free, Kind::Free];
+const ONE: [Kind; 1] = [Kind::Free];
 
 fn has_length(length: usize, due: Option<usize>) -> bool {
     match due {
@@ -75,8 +59,48 @@ fn has_length(length: usize, due: Option<usize>) -> bool {
     }
 }
 
-// Whether each verdict is the one that is due, and the log as long.
-fn all_due(
+// Whether the verdict of a query that may be asked is the one that is due, and the log as long.
+fn is_answered(
+    rt: &impl Abort,
+    problem: &Problem,
+    search: &mut Search,
+    query: &Query,
+    kept: &[Edge],
+    asked: &Asked,
+) -> Result<bool, Fail>
+    requires valid { IsValidProblem problem.now }
+    requires same { search.old.problem ≡ problem.now }
+    ensures { search.new.problem ≡ problem.now }
+{
+    let (_, _, budget, due, logged) = asked;
+    assert!(rt; is_asked(problem, query));
+    assert!(rt; problem.clauses.len() < 1000 && search.log().len() < 1000);
+    assert!(rt; 0 < *budget && *budget < 1000);
+    let verdict = search.ask(query, *budget)?;
+    Ok(is_due(&verdict, due, kept) && has_length(search.log().len(), *logged))
+}
+
+// Asks a search a query.
+fn asks(
+    rt: &impl Abort,
+    alloc: Global,
+    problem: &Problem,
+    search: &mut Search,
+    kept: &[Edge],
+    asked: &Asked,
+) -> Result<bool, Fail>
+    requires valid { IsValidProblem problem.now }
+    requires same { search.old.problem ≡ problem.now }
+    ensures { search.new.problem ≡ problem.now }
+{
+    let query = query_of(alloc, asked.0, asked.1)?;
+    let answered = is_answered(rt, problem, search, &query, kept, asked);
+    drop(query);
+    answered
+}
+
+// Whether each query is answered as it is due.
+fn all_answered(
     rt: &impl Abort,
     alloc: Global,
     problem: &Problem,
@@ -84,18 +108,39 @@ fn all_due(
     kept: &[Edge],
     asked: &[Asked],
 ) -> Result<bool, Fail>
-    requires { search.old.problem ≡ problem.now }
+    requires valid { IsValidProblem problem.now }
+    requires same { search.old.problem ≡ problem.now }
 {
     let mut all = true;
-    for (locals, assumed, budget, due, logged) in asked {
-        let query = query_of(alloc, &LOCALS[..(*locals).min(2)], assumed)?;
-        let verdict = ask(rt, problem, search, &query, *budget)?;
-        all = all && is_due(&verdict, due, kept) && has_length(search.log().len(), *logged);
+    for one in asked {
+        all &= asks(rt, alloc, problem, search, kept, one)?;
     }
     Ok(all)
 }
 
-// Whether a search over a problem answers what it is asked as it is due.
+// Whether a search gives its whole log.
+fn gives_log(search: Search) -> bool {
+    let length = search.log().len();
+    search.into_log().len() == length
+}
+
+// Whether a search over a problem answers what it is asked as it is due, and gives its log.
+fn finds(
+    rt: &impl Abort,
+    alloc: Global,
+    problem: &Problem,
+    kept: &[Edge],
+    asked: &[Asked],
+) -> Result<bool, Fail>
+    requires valid { IsValidProblem problem.now }
+    requires solvable { IsSolvable problem.now.edges }
+{
+    let mut search = Search::new(alloc, problem)?;
+    let all = all_answered(rt, alloc, problem, &mut search, kept, asked);
+    let whole = gives_log(search);
+    Ok(all? && whole)
+}
+
 fn answers(
     rt: &impl Abort,
     alloc: Global,
@@ -107,10 +152,9 @@ fn answers(
     let problem = problem_of(alloc, rows)?;
     assert!(rt; is_valid(&problem));
     assert!(rt; is_solvable(start, problem.edges.as_slice()));
-    let mut search = Search::new(alloc, &problem)?;
-    let all = all_due(rt, alloc, &problem, &mut search, kept, asked)?;
-    let length = search.log().len();
-    Ok(all && search.into_log().len() == length)
+    let all = finds(rt, alloc, &problem, kept, asked);
+    drop(problem);
+    all
 }
 
 const FREE: [Kind; 3] = [Kind::Free, Kind::Free, Kind::Free];
@@ -126,40 +170,31 @@ const EIGHT: [&[i32]; 8] = [
     &[-1, -2, -3],
 ];
 
-#[test]
-fn counts_what_it_learns(rt: HostRuntime) -> Result<(), Fail> {
-    let rows: [(&[&[i32]], &[Asked]); 9] = [
-        (&EIGHT, &[(0, &[], 1, Due::Spent(0, 1), Some(1))]),
-        (&EIGHT, &[(0, &[], 2, Due::Spent(0, 2), Some(2))]),
-        (&EIGHT, &[(0, &[], 3, Due::Refuted(&[]), Some(3))]),
-        (&EIGHT, &[(0, &[], 27, Due::Refuted(&[]), Some(3))]),
-        (
-            &EIGHT[1..],
-            &[(0, &[], 27, Due::Model(&[-1, -2, -3]), None)],
-        ),
-        (&EIGHT[..7], &[(0, &[], 27, Due::Model(&[1, 2, 3]), None)]),
-        // 1 conflict while every decision is an assumption is not learned.
-        (
-            &[&[-1, -2]],
-            &[(0, &[1, 2], 1, Due::Refuted(&[-1, -2]), Some(0))],
-        ),
-        // One search goes on from what it learned.
-        (
-            &EIGHT,
-            &[
-                (0, &[], 1, Due::Spent(0, 1), Some(1)),
-                (0, &[], 2, Due::Refuted(&[]), None),
-            ],
-        ),
-        (
-            &EIGHT,
-            &[
-                (0, &[], 1, Due::Spent(0, 1), Some(1)),
-                (1, &[], 1, Due::Spent(1, 2), Some(2)),
-                (1, &[], 27, Due::Refuted(&[]), None),
-            ],
-        ),
-    ];
+const ALL_BUT_FIRST: [&[i32]; 7] = [
+    &[1, 2, -3],
+    &[1, -2, 3],
+    &[1, -2, -3],
+    &[-1, 2, 3],
+    &[-1, 2, -3],
+    &[-1, -2, 3],
+    &[-1, -2, -3],
+];
+
+const ALL_BUT_LAST: [&[i32]; 7] = [
+    &[1, 2, 3],
+    &[1, 2, -3],
+    &[1, -2, 3],
+    &[1, -2, -3],
+    &[-1, 2, 3],
+    &[-1, 2, -3],
+    &[-1, -2, 3],
+];
+
+// Clauses over three free variables, and the queries that one search over them is asked one after another.
+type Counted<'a> = (&'a [&'a [i32]], &'a [Asked<'a>]);
+
+fn all_counted(rt: &impl Abort, alloc: Global, rows: &[Counted]) -> Result<bool, Fail> {
+    let mut all = true;
     for (clauses, asked) in rows {
         let problem = Rows {
             points: 0,
@@ -167,8 +202,49 @@ fn counts_what_it_learns(rt: HostRuntime) -> Result<(), Fail> {
             edges: &[],
             clauses,
         };
-        assert!(rt; answers(&rt, rt.alloc(), &problem, &[], &[], asked)?);
+        all &= answers(rt, alloc, &problem, &[], &[], asked)?;
     }
+    Ok(all)
+}
+
+#[test]
+fn counts_what_it_learns(rt: HostRuntime) -> Result<(), Fail> {
+    const ROWS: [Counted; 9] = [
+        (&EIGHT, &[(&[], &[], 1, Due::Spent(0, 1), Some(1))]),
+        (&EIGHT, &[(&[], &[], 2, Due::Spent(0, 2), Some(2))]),
+        (&EIGHT, &[(&[], &[], 3, Due::Refuted(&[]), Some(3))]),
+        (&EIGHT, &[(&[], &[], 27, Due::Refuted(&[]), Some(3))]),
+        (
+            &ALL_BUT_FIRST,
+            &[(&[], &[], 27, Due::Model(&[-1, -2, -3]), None)],
+        ),
+        (
+            &ALL_BUT_LAST,
+            &[(&[], &[], 27, Due::Model(&[1, 2, 3]), None)],
+        ),
+        // 1 conflict while every decision is an assumption is not learned.
+        (
+            &[&[-1, -2]],
+            &[(&[], &[1, 2], 1, Due::Refuted(&[-1, -2]), Some(0))],
+        ),
+        // One search goes on from what it learned.
+        (
+            &EIGHT,
+            &[
+                (&[], &[], 1, Due::Spent(0, 1), Some(1)),
+                (&[], &[], 2, Due::Refuted(&[]), None),
+            ],
+        ),
+        (
+            &EIGHT,
+            &[
+                (&[], &[], 1, Due::Spent(0, 1), Some(1)),
+                (&ONE, &[], 1, Due::Spent(1, 2), Some(2)),
+                (&ONE, &[], 27, Due::Refuted(&[]), None),
+            ],
+        ),
+    ];
+    assert!(rt; all_counted(&rt, rt.alloc(), &ROWS)?);
     Ok(())
 }
 
@@ -188,54 +264,69 @@ const TIGHT: [Kind; 1] = [Kind::Span { a: 1, b: 0, c: 3 }];
 
 const WIDE: [Kind; 1] = [Kind::Span { a: 1, b: 0, c: 7 }];
 
-#[test]
-fn asks_the_places(rt: HostRuntime) -> Result<(), Fail> {
-    let rows: [(&[Kind], &[Edge], &[Edge], Asked); 5] = [
-        (
-            &TURN,
-            &[],
-            &[],
-            (0, &[1, 2, 3], 1, Due::Refuted(&[-1, -2, -3]), Some(0)),
-        ),
-        (
-            &TURN,
-            &[],
-            &RISES,
-            (0, &[1, 2], 1, Due::Model(&[1, 2, -3]), Some(0)),
-        ),
-        (
-            &TIGHT,
-            &APART,
-            &[],
-            (0, &[1], 1, Due::Refuted(&[-1]), Some(0)),
-        ),
-        (
-            &WIDE,
-            &APART,
-            &NEAR,
-            (0, &[1], 1, Due::Model(&[1]), Some(0)),
-        ),
-        // The places that keep the edges decide the side of each order, so nothing is learned.
-        (
-            &TURN,
-            &RISES,
-            &RISES,
-            (0, &[], 1, Due::Model(&[1, 2, -3]), Some(0)),
-        ),
-    ];
-    for (kinds, edges, kept, asked) in rows {
+// Kinds and edges over three points, places that keep the edges, those that the places of a model keep, and the queries.
+type Placed<'a> = (
+    &'a [Kind],
+    &'a [Edge],
+    [i64; 3],
+    &'a [Edge],
+    &'a [Asked<'a>],
+);
+
+fn all_placed(rt: &impl Abort, alloc: Global, rows: &[Placed]) -> Result<bool, Fail> {
+    let mut all = true;
+    for (kinds, edges, start, kept, asked) in rows {
         let problem = Rows {
             points: 3,
             kinds,
             edges,
             clauses: &[],
         };
-        let start = if edges.len() == 2 {
-            [-2, -1, 0]
-        } else {
-            [-5, 0, 0]
-        };
-        assert!(rt; answers(&rt, rt.alloc(), &problem, &start, kept, &[asked])?);
+        all &= answers(rt, alloc, &problem, start, kept, asked)?;
     }
+    Ok(all)
+}
+
+#[test]
+fn asks_the_places(rt: HostRuntime) -> Result<(), Fail> {
+    const ROWS: [Placed; 5] = [
+        (
+            &TURN,
+            &[],
+            [0, 0, 0],
+            &[],
+            &[(&[], &[1, 2, 3], 1, Due::Refuted(&[-1, -2, -3]), Some(0))],
+        ),
+        (
+            &TURN,
+            &[],
+            [0, 0, 0],
+            &RISES,
+            &[(&[], &[1, 2], 1, Due::Model(&[1, 2, -3]), Some(0))],
+        ),
+        (
+            &TIGHT,
+            &APART,
+            [-5, 0, 0],
+            &[],
+            &[(&[], &[1], 1, Due::Refuted(&[-1]), Some(0))],
+        ),
+        (
+            &WIDE,
+            &APART,
+            [-5, 0, 0],
+            &NEAR,
+            &[(&[], &[1], 1, Due::Model(&[1]), Some(0))],
+        ),
+        // The places that keep the edges decide the side of each order, so nothing is learned.
+        (
+            &TURN,
+            &RISES,
+            [-2, -1, 0],
+            &RISES,
+            &[(&[], &[], 1, Due::Model(&[1, 2, -3]), Some(0))],
+        ),
+    ];
+    assert!(rt; all_placed(&rt, rt.alloc(), &ROWS)?);
     Ok(())
 }

@@ -1,4 +1,4 @@
-use Rattle.std.proofs.Common.{◌≡◌, ◌+◌, ◌<◌, ◌∷◌, [], ℕ, subst, sym, inl, inr, arith, List, false, length, get_or, take, Contains}
+use Rattle.std.proofs.Common.{◌+◌, ◌<◌, [], ℕ, subst, sym, inl, inr, arith, List, false, length, get_or, take, Contains}
 use Rattle.std.proofs.lemmas.List.{take_all, take_more}
 use Rattle.std.proofs.lemmas.List.Elements.{Contains-push_cases}
 use Rattle.gp_clause.specs.declared.lit.Lit.{Lit}

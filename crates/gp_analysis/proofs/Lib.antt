@@ -1,0 +1,9 @@
+mod Found
+mod Bounds
+mod Asked
+mod Gathered
+mod Evidence
+mod Fitting
+mod Told
+mod OnWay
+mod Windows

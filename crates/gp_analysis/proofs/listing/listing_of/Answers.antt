@@ -1,0 +1,13 @@
+-- One property more is listed, until all are.
+use Rattle.std.proofs.Common.{arith}
+use Rattle.gp_analysis.proofs.Gathered.{all_properties, one_gathered}
+use Rattle.gp_analysis.proofs.listing.listing_of.Goals as goal
+
+pub loop-number-preserved : goal.loop-number-preserved
+loop-number-preserved c =
+    one_gathered c.args.window.now c.args.properties.now c.loop-number.number c.loop-number.found.items c.push.new.self.items c.loop-number.queries.items c.add_queries.new.queries.items c.index-properties-number.result c.in_ok-own.own
+    (omega arith) c.index-properties-number.is c.name.ensures.property c.in_ok-own.ensures c.in_ok-push.ensures.items c.in_ok-add_queries.ensures c.loop-number.invariant
+
+pub returns-clause-properties : goal.returns-clause-properties
+returns-clause-properties c =
+    all_properties c.args.window.now c.args.properties.now c.loop-number.number c.loop-number.found.items c.loop-number.queries.items c.loop-number-test.false c.loop-number.invariant

@@ -1,0 +1,7 @@
+use Rattle.std.proofs.Common.{drop}
+use Rattle.gp_analysis.proofs.OnWay.{IsOnWay}
+use Rattle.gp_analysis.proofs.window.worked_record.Given as goal
+
+abbrev pub invariant-loop-property : goal.invariant-loop-property
+invariant-loop-property g l =
+    IsOnWay l.window l.properties (drop l.property-index l.properties) l.budget l.property-index l.records l.left l.untold l.told

@@ -1,0 +1,5 @@
+pub mod Tickets
+pub mod Answered
+pub mod Queries
+pub mod Telling
+pub mod Laws

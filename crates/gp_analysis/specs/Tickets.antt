@@ -1,0 +1,35 @@
+-- How many instances there are, and how many of them are asked.
+use Rattle.std.specs.Prelude.{ℕ, ◌+◌, List, [], ◌∷◌, Result, Ok, Err, length, sum_by}
+use Rattle.gp_constraint.specs.declared.fault.BaseFault.{BaseFault}
+use Rattle.gp_constraint.specs.Encoded.{EncodedForm, base_due}
+use Rattle.gp_instance.specs.declared.instance.Instance.{Instance}
+use Rattle.gp_instance.specs.declared.instance.InstancesFault.{InstancesFault}
+use Rattle.gp_instance.specs.Instances.{due_instances}
+use Rattle.gp_property.specs.PropertyForm.{PropertyForm}
+use Rattle.gp_window.specs.RecordingForm.{RecordingForm}
+use Rattle.gp_window.specs.WindowForm.{WindowForm, numbers_from, window_of}
+
+-- how many instances are told of a property; of one that has too many, none
+abbrev pub found_count : Result (List Instance) InstancesFault → ℕ
+found_count (Ok found) = length found
+found_count (Err fault) = 0
+
+-- how many instances are told of these properties in a window, the first of which has this number
+abbrev pub properties_count : WindowForm → ℕ → List PropertyForm → ℕ
+properties_count window number [] = 0
+properties_count window number (property ∷ properties) =
+    found_count (due_instances window property number) + properties_count window (number + 1) properties
+
+-- how many of so many instances are asked in a window that has these constraints: none where it is too large
+abbrev pub asked_of : Result EncodedForm BaseFault → ℕ → ℕ
+asked_of (Ok encoded) count = count
+asked_of (Err fault) count = 0
+
+-- how many instances are asked in window k
+abbrev pub asked_in : RecordingForm → List PropertyForm → ℕ → ℕ
+asked_in recording properties k =
+    asked_of (base_due (window_of recording k)) (properties_count (window_of recording k) 0 properties)
+
+-- how many instances are asked in all windows
+abbrev pub asked_total : RecordingForm → List PropertyForm → ℕ
+asked_total recording properties = sum_by (asked_in recording properties) (numbers_from 1 recording.manifest.epochs)

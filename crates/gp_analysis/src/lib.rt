@@ -1,0 +1,16 @@
+// The analysis of a recording: each instance of each property in each window is answered once, by a schedule that shows
+// it, by a certificate that no schedule does, or by the part of a worker's log that spent the budget.
+//
+// A window's constraints are made once. Its instances are listed, property by property; each is a query, whose ticket is
+// its number in that list; a worker answers the queries, and each answer is told with its evidence.
+#![tactic(auto)]
+
+mod analysing;
+mod counting;
+mod entries;
+mod listing;
+mod untold;
+mod window;
+
+pub use analysing::analyse;
+pub use counting::{MOST_WORK, asked_total};

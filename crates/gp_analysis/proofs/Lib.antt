@@ -7,3 +7,4 @@ mod Fitting
 mod Told
 mod OnWay
 mod Windows
+mod Agreement

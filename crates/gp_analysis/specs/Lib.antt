@@ -3,3 +3,4 @@ pub mod Answered
 pub mod Queries
 pub mod Telling
 pub mod Laws
+pub mod Agreement

@@ -8,9 +8,11 @@
 mod analysing;
 mod counting;
 mod entries;
+mod laws;
 mod listing;
 mod untold;
 mod window;
 
 pub use analysing::analyse;
 pub use counting::{MOST_WORK, asked_total};
+pub use laws::reports_agree;

@@ -7,7 +7,8 @@ use Rattle.gp_window.specs.RecordingForm.{RecordingForm}
 use Rattle.gp_window.specs.Walk.{WalkForm}
 use Rattle.gp_window.specs.WindowForm.{WindowForm, numbers_from, window_of}
 use Rattle.gp_property.specs.PropertyForm.{PropertyForm}
-use Rattle.gp_predict.specs.Listing.{properties_count, told_lines, window_count, window_lines}
+use Rattle.gp_analysis.specs.Tickets.{properties_count}
+use Rattle.gp_predict.specs.Listing.{told_lines, window_count, window_lines}
 
 unfolds : (k more rest : ℕ) → more ≡ rest + 1 → numbers_from k more ≡ k ∷ numbers_from (k + 1) rest
 unfolds k more rest is = rw (is, add-one) refl

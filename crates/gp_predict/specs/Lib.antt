@@ -1,5 +1,7 @@
+pub mod Analysing
 pub mod Answer
 pub mod Content
+pub mod Due
 pub mod Lines
 pub mod Listing
 pub mod Refusal

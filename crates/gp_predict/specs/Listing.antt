@@ -10,6 +10,7 @@ use Rattle.gp_instance.specs.declared.instance.Instance.{Instance}
 use Rattle.gp_instance.specs.declared.instance.InstancesFault.{InstancesFault}
 use Rattle.gp_instance.specs.declared.instance.InstancesFault.TheVariants.{TooMany, Memory}
 use Rattle.gp_instance.specs.Instances.{due_instances}
+use Rattle.gp_analysis.specs.Tickets.{properties_count}
 use Rattle.gp_predict.specs.declared.answer.Answer.{Answer}
 use Rattle.gp_predict.specs.declared.listing.Listing.{Listing}
 use Rattle.gp_predict.specs.Content.{content_at, recording_at}
@@ -50,17 +51,6 @@ window_lines recording properties k = told_lines k (window_of recording k) prope
 -- what is told of all windows, in order
 abbrev pub all_lines : RecordingForm → List PropertyForm → List (List ℕ)
 all_lines recording properties = flat_map (window_lines recording properties) (numbers_from 1 recording.manifest.epochs)
-
--- how many instances are told of a property; of one that has too many, none
-abbrev pub found_count : Result (List Instance) InstancesFault → ℕ
-found_count (Ok found) = length found
-found_count (Err fault) = 0
-
--- how many instances are told of these properties in a window, the first of which has this number
-abbrev pub properties_count : WindowForm → ℕ → List PropertyForm → ℕ
-properties_count window number [] = 0
-properties_count window number (property ∷ properties) =
-    found_count (due_instances window property number) + properties_count window (number + 1) properties
 
 -- how many instances are told of window k
 abbrev pub window_count : RecordingForm → List PropertyForm → ℕ → ℕ

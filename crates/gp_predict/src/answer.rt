@@ -1,4 +1,5 @@
 ghost use Rattle.std.specs.Prelude.{◌≡◌, [], ◌∷◌, IfOk, string_bytes};
+ghost use Rattle.gp_predict.specs.Analysing.{limit_refused};
 ghost use Rattle.gp_predict.specs.Answer.{words_refused};
 ghost use Rattle.gp_predict.specs.Replaying.{feasible, stuck};
 
@@ -49,4 +50,11 @@ pub fn stuck(alloc: Global, place: u64, rule: Rule) -> Result<Answer, AllocError
 {
     let number = rule.number();
     one_line(alloc, 1, format!(in alloc; "stuck {place} {number}\n")?)
+}
+
+/// The refusal of so many instances with this budget each.
+pub fn limit_refused(alloc: Global, total: u64, budget: u64) -> Result<Answer, AllocError>
+    ensures { IfOk result (λ answer. answer ≡ limit_refused total budget) }
+{
+    one_line(alloc, 7, format!(in alloc; "limit {total} {budget}\n")?)
 }

@@ -8,4 +8,6 @@ pub enum Due {
     Whole(Answer),
     /// A listing, whose lines are made window by window while they are written.
     InPieces(Listing),
+    /// The report of an analysis of what would be listed, where each query may learn so many clauses.
+    Analysis { listing: Listing, budget: u64 },
 }

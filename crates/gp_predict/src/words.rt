@@ -1,8 +1,14 @@
-ghost use Rattle.std.specs.Prelude.{◌≡◌, [], ◌∷◌, map, option_map, string_bytes};
-ghost use Rattle.gp_predict.specs.Words.{command_of, command_with, is_folder, task_of};
+ghost use Rattle.std.specs.Prelude.{◌≡◌, ◌≤◌, IfSome, map, option_map, string_bytes};
+ghost use Rattle.gp_predict.specs.Words.{budget_of, command_of, command_with, form_of, is_folder, task_of};
+
+use gp_report::MOST_BUDGET;
+use gp_text::read_u64;
 
 /// The most bytes of a folder's name.
 const LONGEST_FOLDER: usize = 4096;
+
+/// The budget of a query where no word names one.
+const USUAL_BUDGET: u64 = 200;
 
 /// What the program is asked to do with a recording.
 #[derive(Clone, Copy, Debug, PartialEq, Eq)]
@@ -11,23 +17,50 @@ pub enum Task {
     Replay,
     /// To list the instances of each property in each window.
     List,
+    /// To answer each of these instances.
+    Analyse,
 }
 
-/// The task and the folder that the words name, where they are a task, a folder and no other word.
-pub fn command_of(words: &[String]) -> Option<(Task, &str)>
-    ensures { option_map (λ command. (command.0, command.1.now)) result ≡ command_of (map string_bytes words.now) }
-{
-    let [task, folder] = words else {
-        return None;
-    };
-    command_with(task_of(task.as_str())?, folder.as_str())
+/// What the words ask for.
+#[derive(Clone, Copy, Debug)]
+pub struct Command<'a> {
+    pub task: Task,
+    /// How many clauses a query of task analyse may learn.
+    pub budget: u64,
+    /// The folder that holds the files.
+    pub folder: &'a str,
 }
 
-fn command_with(task: Task, folder: &str) -> Option<(Task, &str)>
-    ensures { option_map (λ command. (command.0, command.1.now)) result ≡ command_with (Some task) folder.now }
+/// The command that the words are: a task, perhaps a budget, a folder and no other word.
+pub fn command_of(words: &[String]) -> Option<Command<'_>>
+    ensures due { option_map form_of result ≡ command_of (map string_bytes words.now) }
+    ensures budget { IfSome result (λ command. (1 ≤ command.budget) × (command.budget ≤ 1000000)) }
 {
+    match words {
+        [task, folder] => command_with(task_of(task.as_str()), Some(USUAL_BUDGET), folder.as_str()),
+        [task, budget, folder] => command_with(
+            task_of(task.as_str()),
+            budget_of(budget.as_str()),
+            folder.as_str(),
+        ),
+        [] | [_] => None,
+        [_, _, _, _, ..] => None,
+    }
+}
+
+fn command_with(task: Option<Task>, budget: Option<u64>, folder: &str) -> Option<Command<'_>>
+    requires { IfSome budget (λ budget. (1 ≤ budget) × (budget ≤ 1000000)) }
+    ensures due { option_map form_of result ≡ command_with task budget folder.now }
+    ensures budget { IfSome result (λ command. (1 ≤ command.budget) × (command.budget ≤ 1000000)) }
+{
+    let task = task?;
+    let budget = budget?;
     if is_folder(folder) {
-        Some((task, folder))
+        Some(Command {
+            task,
+            budget,
+            folder,
+        })
     } else {
         None
     }
@@ -39,8 +72,17 @@ fn task_of(word: &str) -> Option<Task>
     match word {
         "--task=replay" => Some(Task::Replay),
         "--task=list" => Some(Task::List),
+        "--task=analyse" => Some(Task::Analyse),
         _ => None,
     }
+}
+
+fn budget_of(word: &str) -> Option<u64>
+    ensures due { result ≡ budget_of word.now }
+    ensures within { IfSome result (λ budget. (1 ≤ budget) × (budget ≤ 1000000)) }
+{
+    let digits = word.as_bytes().strip_prefix(b"--budget=")?;
+    read_u64(digits).filter(|budget| 1 <= *budget && *budget <= MOST_BUDGET)
 }
 
 fn is_folder(word: &str) -> bool

@@ -1,55 +1,66 @@
-ghost use Rattle.std.specs.Prelude.{◌≡◌, ◌≤◌, ◌⊎◌, ◌<◌, ◌∷◌, [], IfOk, OnOk, OnErr, Err, flat_map, length};
+ghost use Rattle.std.specs.Prelude.{◌≡◌, ◌≤◌, ◌⊎◌, ◌↔◌, IfOk, OnOk, OnErr, Err, flat_map, length};
 ghost use Rattle.gp_outside.specs.Faults.{Rose};
 ghost use Rattle.gp_outside.specs.Sinks.{Appends, AppendsFront};
-ghost use Rattle.gp_predict.specs.Answer.{HasFewProperties, answer_of, text_of};
+ghost use Rattle.gp_predict.specs.Analysing.{Text};
+ghost use Rattle.gp_predict.specs.Answer.{text_of};
+ghost use Rattle.gp_predict.specs.Due.{EndsIn, IsPut, IsWithinLimits, expected_of};
 ghost use Rattle.gp_predict.specs.Lines.{total_line};
 ghost use Rattle.gp_predict.specs.Listing.{all_lines, answer_of_listing, total_count};
-ghost use Rattle.gp_predict.specs.Run.{IsBegun, IsGiven};
+ghost use Rattle.gp_predict.specs.Run.{IsDone};
 
+use crate::answer::Answer;
 use crate::due::Due;
 use crate::lines::total_line;
 use crate::listing::{Listing, Told, told_of};
-use gp_outside::{PutFault, Sink};
+use crate::outcome::Outcome;
+use crate::reporting::put_analysis;
+use gp_outside::{Gate, PutFault, Sink};
 use gp_property::Property;
 use gp_text::Row;
 use gp_window::{Recording, WindowWalk};
 use std::alloc::Global;
 
-/// Writes an answer, each of its lines by one call, and gives the status to end with.
-pub fn put_due<S: Sink>(alloc: Global, sink: &mut S, due: &Due) -> u8
-    requires range { (answer_of due.now).status ≤ 3 }
-    requires few { HasFewProperties due.now }
-    ensures later { S.faults sink.old ≤ S.faults sink.new }
-    ensures given { result ≤ 3 → IsGiven result (S.written sink.old) (S.written sink.new) (answer_of due.now) }
-    ensures begun { 5 ≤ result → IsBegun (S.written sink.old) (S.written sink.new) (answer_of due.now) }
-    ensures fault { result ≡ 5 → Rose (S.faults sink.old) (S.faults sink.new) }
-    ensures range { (result ≡ (answer_of due.now).status) ⊎ (result ≡ 5) ⊎ (result ≡ 6) }
+/// Puts what is due to a sink, each line of its text by one call.
+pub fn put_due<S: Sink, G: Gate>(alloc: Global, sink: &mut S, due: &Due, gate: &G) -> Outcome
+    requires range { EndsIn IsDone (expected_of due.now) }
+    requires limits { IsWithinLimits due.now }
+    ensures { IsPut (expected_of due.now) result (S.written sink.old) (S.written sink.new) (S.faults sink.old) (S.faults sink.new) }
 {
-    match put_text(alloc, sink, due) {
-        Ok(status) => status,
-        Err(PutFault::Failed) => 5,
-        Err(PutFault::Memory) => 6,
+    match due {
+        Due::Whole(answer) => put_answer(sink, answer),
+        Due::InPieces(listing) => put_list(alloc, sink, listing),
+        Due::Analysis { listing, budget } => put_analysis(alloc, sink, listing, *budget, gate),
     }
 }
 
-/// Writes the text of an answer, and gives its status.
-fn put_text<S: Sink>(alloc: Global, sink: &mut S, due: &Due) -> Result<u8, PutFault>
-    requires few { HasFewProperties due.now }
-    ensures later { S.faults sink.old ≤ S.faults sink.new }
-    ensures status { IfOk result (λ status. status ≡ (answer_of due.now).status) }
-    ensures ok { OnOk result (Appends (S.written sink.old) (S.written sink.new) (text_of (answer_of due.now))) }
-    ensures err { OnErr result (AppendsFront (S.written sink.old) (S.written sink.new) (text_of (answer_of due.now))) }
-    ensures failed { result ≡ Err PutFault.Failed → Rose (S.faults sink.old) (S.faults sink.new) }
+fn put_answer<S: Sink>(sink: &mut S, answer: &Answer) -> Outcome
+    requires { EndsIn IsDone (Text answer.now) }
+    ensures { IsPut (Text answer.now) result (S.written sink.old) (S.written sink.new) (S.faults sink.old) (S.faults sink.new) }
 {
-    match due {
-        Due::Whole(answer) => {
-            put_lines(sink, answer.lines.as_slice())?;
-            Ok(answer.status)
-        }
-        Due::InPieces(listing) => {
-            put_listing(alloc, sink, listing)?;
-            Ok(0)
-        }
+    match put_lines(sink, answer.lines.as_slice()) {
+        Ok(()) => Outcome::of(answer.status),
+        Err(fault) => Outcome::of(status_of_fault(fault)),
+    }
+}
+
+fn put_list<S: Sink>(alloc: Global, sink: &mut S, listing: &Listing) -> Outcome
+    requires { length listing.now.properties ≤ 64 }
+    ensures { IsPut (Text (answer_of_listing listing.now)) result (S.written sink.old) (S.written sink.new) (S.faults sink.old) (S.faults sink.new) }
+{
+    match put_listing(alloc, sink, listing) {
+        Ok(()) => Outcome::of(0),
+        Err(fault) => Outcome::of(status_of_fault(fault)),
+    }
+}
+
+/// The status where a sink did not take the whole text.
+pub fn status_of_fault(fault: PutFault) -> u8
+    ensures failed { (result ≡ 5) ↔ (fault ≡ PutFault.Failed) }
+    ensures range { (result ≡ 5) ⊎ (result ≡ 6) }
+{
+    match fault {
+        PutFault::Failed => 5,
+        PutFault::Memory => 6,
     }
 }
 

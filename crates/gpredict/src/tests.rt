@@ -1,12 +1,14 @@
 // Whole runs over files in memory: words, files and a sink in, status and bytes out.
 use crate::exit_code;
 use gp_outside::{FreeGate, MemoryFolder, MemorySink};
-use gp_predict::run;
+use gp_predict::{Outcome, run};
 use std::alloc::{AllocError, Global};
 use std::process::ExitCode;
 use std::test::Fail;
 use std::thread::Threads;
 
+mod analysing;
+mod evidence;
 mod faults;
 mod listing;
 mod replaying;
@@ -18,6 +20,8 @@ type Files = Vec<(String, Vec<u8>)>;
 const REPLAY: &str = "--task=replay";
 
 const LIST: &str = "--task=list";
+
+const ANALYSE: &str = "--task=analyse";
 
 /// Two threads, of which the first is a root.
 const ONE_ROOT: &str = "gptrace 1\nthreads 2\nepochs 1\nroots 1\n";
@@ -49,11 +53,15 @@ fn recording(alloc: Global, recorded: [&str; 3]) -> Result<Files, AllocError> {
 
 /// The words of a task on folder `d`.
 fn words_of(alloc: Global, task: &str) -> Result<Vec<String>, AllocError> {
-    let words = vec![in alloc;
-        String::from_str(alloc, task)?,
-        String::from_str(alloc, "d")?,
-    ]?;
-    Ok(words)
+    words_with(alloc, &[task, "d"])
+}
+
+fn words_with(alloc: Global, words: &[&str]) -> Result<Vec<String>, AllocError> {
+    let mut given = Vec::new(alloc);
+    for word in words {
+        given.push(String::from_str(alloc, word)?)?;
+    }
+    Ok(given)
 }
 
 /// What fails: calls of the folder, and puts, each with how many of its bytes go out.
@@ -72,6 +80,19 @@ impl Script {
     }
 }
 
+/// What a run with these words on these files ends with, and its sink, where this fails.
+fn run_on<R: AllocGlobal + Threads + Sync>(
+    rt: &R,
+    words: &[String],
+    files: Files,
+    script: Script,
+) -> (Outcome, MemorySink) {
+    let mut folder = MemoryFolder::new(files, script.reads);
+    let mut sink = MemorySink::new(rt.alloc(), script.puts);
+    let outcome = run(rt, words, &mut folder, &mut sink, &FreeGate);
+    (outcome, sink)
+}
+
 /// Whether words on these files, where this fails, end with this status and write this text.
 fn runs_to<R: AllocGlobal + Threads + Sync>(
     rt: &R,
@@ -81,9 +102,7 @@ fn runs_to<R: AllocGlobal + Threads + Sync>(
     status: u8,
     text: &str,
 ) -> bool {
-    let mut folder = MemoryFolder::new(files, script.reads);
-    let mut sink = MemorySink::new(rt.alloc(), script.puts);
-    let outcome = run(rt, words, &mut folder, &mut sink, &FreeGate);
+    let (outcome, sink) = run_on(rt, words, files, script);
     outcome.status == status && sink.bytes() == text.as_bytes()
 }
 
@@ -111,7 +130,7 @@ fn task_ends<R: AllocGlobal + Threads + Sync>(
     status: u8,
     text: &str,
 ) -> Result<bool, AllocError> {
-    let name = if task == LIST { "props" } else { "schedule" };
+    let name = if task == REPLAY { "schedule" } else { "props" };
     let mut files = recording(rt.alloc(), recorded)?;
     add(&mut files, rt.alloc(), name, file)?;
     ends(rt, task, files, status, text)
@@ -184,10 +203,7 @@ fn words_end<R: AllocGlobal + Threads + Sync>(
     text: &str,
 ) -> Result<bool, AllocError> {
     let alloc = rt.alloc();
-    let mut given = Vec::new(alloc);
-    for word in words {
-        given.push(String::from_str(alloc, word)?)?;
-    }
+    let given = words_with(alloc, words)?;
     let script = Script::nothing(alloc);
     Ok(runs_to(rt, given.as_slice(), Vec::new(alloc), script, status, text))
 }
@@ -206,7 +222,7 @@ fn words_hold<R: AllocGlobal + Threads + Sync>(
 
 #[test]
 fn other_words_are_refused(rt: HostRuntime) -> Result<(), Fail> {
-    const ROWS: [(&[&str], u8, &str); 12] = [
+    const ROWS: [(&[&str], u8, &str); 13] = [
         (&[], 2, "words\n"),
         (&[REPLAY], 2, "words\n"),
         (&[LIST], 2, "words\n"),
@@ -219,6 +235,24 @@ fn other_words_are_refused(rt: HostRuntime) -> Result<(), Fail> {
         (&[REPLAY, "d", "e"], 2, "words\n"),
         (&[REPLAY, "d"], 3, "refused manifest absent\n"),
         (&[LIST, "d"], 3, "refused manifest absent\n"),
+        (&[ANALYSE, "d"], 3, "refused manifest absent\n"),
+    ];
+    assert!(rt; words_hold(&rt, &ROWS)?);
+    Ok(())
+}
+
+#[test]
+fn a_budget_is_a_number_to_a_million(rt: HostRuntime) -> Result<(), Fail> {
+    const ROWS: [(&[&str], u8, &str); 9] = [
+        (&[ANALYSE, "--budget=0", "d"], 2, "words\n"),
+        (&[ANALYSE, "--budget=1", "d"], 3, "refused manifest absent\n"),
+        (&[ANALYSE, "--budget=1000000", "d"], 3, "refused manifest absent\n"),
+        (&[ANALYSE, "--budget=1000001", "d"], 2, "words\n"),
+        (&[ANALYSE, "--budget=01", "d"], 2, "words\n"),
+        (&[ANALYSE, "--budget=", "d"], 2, "words\n"),
+        (&[ANALYSE, "--budget", "d"], 2, "words\n"),
+        (&[ANALYSE, "--budget=1"], 2, "words\n"),
+        (&[LIST, "--budget=1", "d"], 3, "refused manifest absent\n"),
     ];
     assert!(rt; words_hold(&rt, &ROWS)?);
     Ok(())

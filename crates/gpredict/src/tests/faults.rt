@@ -1,14 +1,35 @@
 // Whole runs in which the folder, the sink or the allocator fails.
 use super::listing::LATE_AUTH;
-use super::{AUTH, LIST, ONE_ROOT, REPLAY, Script, USE, add, recording, runs_to, words_of};
-use gp_outside::{FreeGate, MemoryFolder, MemorySink};
-use gp_predict::run;
-use std::alloc::AllocError;
+use super::{
+    ANALYSE, AUTH, Files, LIST, ONE_ROOT, REPLAY, Script, USE, add, recording, run_on, runs_to,
+    words_of,
+};
+use std::alloc::{AllocError, Global};
 use std::test::Fail;
 use std::thread::Threads;
 
 /// What listing the instances of `LATE_AUTH` writes.
 const LISTED: &str = "window 1\nproperty late_auth 1\ninstance 0 2.0 1.1\ntotal 1\n";
+
+/// The lines that answering them writes.
+const REPORTED: [&str; 8] = [
+    "gpredict 1\n",
+    "budget 200\n",
+    "window 1\n",
+    "property late_auth 1\n",
+    "instance 0 2.0 1.1\n",
+    "found 3\n",
+    "1.0 2.0 1.1\n",
+    "summary 1 0 0\n",
+];
+
+/// A recording with an instance of `LATE_AUTH`, and what each task reads.
+fn late_auth_files(alloc: Global) -> Result<Files, AllocError> {
+    let mut files = recording(alloc, [ONE_ROOT, AUTH, USE])?;
+    add(&mut files, alloc, "props", LATE_AUTH)?;
+    add(&mut files, alloc, "schedule", "window 1\n")?;
+    Ok(files)
+}
 
 /// Whether a task ends with this status and writes this text, where this fails.
 fn fault_ends<R: AllocGlobal + Threads + Sync>(
@@ -18,11 +39,8 @@ fn fault_ends<R: AllocGlobal + Threads + Sync>(
     status: u8,
     text: &str,
 ) -> Result<bool, AllocError> {
-    let alloc = rt.alloc();
-    let mut files = recording(alloc, [ONE_ROOT, AUTH, USE])?;
-    add(&mut files, alloc, "props", LATE_AUTH)?;
-    add(&mut files, alloc, "schedule", "window 1\n")?;
-    let words = words_of(alloc, task)?;
+    let files = late_auth_files(rt.alloc())?;
+    let words = words_of(rt.alloc(), task)?;
     Ok(runs_to(rt, words.as_slice(), files, script, status, text))
 }
 
@@ -56,7 +74,9 @@ fn put_fault_ends<R: AllocGlobal + Threads + Sync>(
 fn read_faults_end_so<R: AllocGlobal + Threads + Sync>(rt: &R) -> Result<bool, AllocError> {
     let mut hold = true;
     for call in 1..5u64 {
-        hold &= read_fault_ends(rt, REPLAY, call)? && read_fault_ends(rt, LIST, call)?;
+        for task in [REPLAY, LIST, ANALYSE] {
+            hold &= read_fault_ends(rt, task, call)?;
+        }
     }
     Ok(hold)
 }
@@ -94,24 +114,72 @@ fn a_sink_that_fails_has_a_prefix_of_the_text(rt: HostRuntime) -> Result<(), Fai
     Ok(())
 }
 
-/// Whether listing gives the whole text, or where memory was wanting a prefix of it. Whoever runs the
+/// Whether a report is kept, and this is written of its text, where this put fails after so many bytes.
+fn report_is_cut_so<R: AllocGlobal + Threads + Sync>(
+    rt: &R,
+    put: (u64, u64),
+    text: &str,
+) -> Result<bool, AllocError> {
+    let files = late_auth_files(rt.alloc())?;
+    let words = words_of(rt.alloc(), ANALYSE)?;
+    let script = Script {
+        reads: Vec::new(rt.alloc()),
+        puts: vec![in rt.alloc(); put]?,
+    };
+    let (outcome, sink) = run_on(rt, words.as_slice(), files, script);
+    Ok(outcome.status == 5 && outcome.report.is_some() && sink.bytes() == text.as_bytes())
+}
+
+/// Whether each line of a report is one put: the one that fails writes none of its bytes, or the first.
+fn reports_are_cut_so<R: AllocGlobal + Threads + Sync>(rt: &R) -> Result<bool, AllocError> {
+    let mut hold = true;
+    let mut before = String::new(rt.alloc());
+    for (place, line) in REPORTED.iter().enumerate() {
+        let call = (place as u64).wrapping_add(1);
+        hold &= report_is_cut_so(rt, (call, 0), before.as_str())?;
+        let mut begun = before.clone()?;
+        begun.push_str(line.get(..1).unwrap_or(""))?;
+        hold &= report_is_cut_so(rt, (call, 1), begun.as_str())?;
+        before.push_str(line)?;
+    }
+    Ok(hold)
+}
+
+#[test]
+fn a_report_that_is_cut_off_is_kept(rt: HostRuntime) -> Result<(), Fail> {
+    assert!(rt; reports_are_cut_so(&rt)?);
+    Ok(())
+}
+
+/// Whether a task gives this whole text, or where memory was wanting a prefix of it. Whoever runs the
 /// tests with a failing allocation meets the second.
-fn listing_is_whole_or_begun<R: AllocGlobal + Threads + Sync>(rt: &R) -> Result<bool, AllocError> {
-    let alloc = rt.alloc();
-    let mut files = recording(alloc, [ONE_ROOT, AUTH, USE])?;
-    add(&mut files, alloc, "props", LATE_AUTH)?;
-    let words = words_of(alloc, LIST)?;
-    let mut folder = MemoryFolder::new(files, Vec::new(alloc));
-    let mut sink = MemorySink::new(alloc, Vec::new(alloc));
-    let outcome = run(rt, words.as_slice(), &mut folder, &mut sink, &FreeGate);
+fn text_is_whole_or_begun<R: AllocGlobal + Threads + Sync>(
+    rt: &R,
+    task: &str,
+    text: &str,
+) -> Result<bool, AllocError> {
+    let files = late_auth_files(rt.alloc())?;
+    let words = words_of(rt.alloc(), task)?;
+    let (outcome, sink) = run_on(rt, words.as_slice(), files, Script::nothing(rt.alloc()));
     Ok(match outcome.status {
-        0 => sink.bytes() == LISTED.as_bytes(),
-        status => status == 6 && LISTED.as_bytes().starts_with(sink.bytes()),
+        0 | 1 => sink.bytes() == text.as_bytes(),
+        status => status == 6 && text.as_bytes().starts_with(sink.bytes()),
     })
+}
+
+fn texts_are_whole_or_begun<R: AllocGlobal + Threads + Sync>(rt: &R) -> Result<bool, AllocError> {
+    let mut reported = String::new(rt.alloc());
+    for line in &REPORTED {
+        reported.push_str(line)?;
+    }
+    Ok(
+        text_is_whole_or_begun(rt, LIST, LISTED)?
+            && text_is_whole_or_begun(rt, ANALYSE, reported.as_str())?,
+    )
 }
 
 #[test]
 fn want_of_memory_leaves_a_prefix_of_the_text(rt: HostRuntime) -> Result<(), Fail> {
-    assert!(rt; listing_is_whole_or_begun(&rt)?);
+    assert!(rt; texts_are_whole_or_begun(&rt)?);
     Ok(())
 }

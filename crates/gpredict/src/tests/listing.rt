@@ -12,33 +12,47 @@ pub const LATE_AUTH: &str =
     "property late_auth\nevent use op use $o\nevent auth op auth $o\npattern use@u auth@t\n";
 
 /// An object that is changed between its making and the next step of its maker.
-const MID: &str =
-    "property mid\nevent create op create c\nevent update op update c\nevent next op next c\npattern create@t update@u next@t\n";
+pub const MID: &str =
+    "property mid\nevent create op create $c\nevent update op update $c\nevent next op next $c\npattern create@t update@u next@t\n";
 
 /// A read beside a write.
-const ADJ: &str = "property adj\nevent r read x *\nevent w write x *\npattern r@t || w@u\n";
+pub const ADJ: &str = "property adj\nevent r read x *\nevent w write x *\npattern r@t || w@u\n";
 
 /// A write between the beginning of a region and its end.
 const SPLIT: &str =
     "property split\nevent b begin a\nevent e end a\nevent w write x *\npattern b@t<1 w@u e@t>1\n";
 
-const DONE: &str = "property done\nevent d op done\npattern d@t\n";
+pub const DONE: &str = "property done\nevent d op done\npattern d@t\n";
 
-const ORD: &str = "property ord\nevent a op a\nevent u op u\npattern a@s u@t\n";
+pub const ORD: &str = "property ord\nevent a op a\nevent u op u\npattern a@s u@t\n";
 
 /// Two epochs, in the second of which x begins as 5.
-const TWO_EPOCHS: &str = "gptrace 1\nthreads 2\nepochs 2\nroots 1 2\nvalue 2 x 5\n";
+pub const TWO_EPOCHS: &str = "gptrace 1\nthreads 2\nepochs 2\nroots 1 2\nvalue 2 x 5\n";
+
+/// Authorises, and tells the other thread.
+pub const WAITS: &str = "start 2\nop auth r\nwrite ready 1\n";
+
+/// Uses what is authorised once it is told.
+pub const READY: &str = "read ready 1\nop use r\n";
+
+/// The same as `ONE_ROOT`, where `ready` begins as 1.
+pub const VALUE: &str = "gptrace 1\nthreads 2\nepochs 1\nroots 1\nvalue 1 ready 1\n";
+
+/// Two steps on an object, each under the lock.
+pub const TWICE: &str =
+    "acquire l\nop create c\nrelease l\nacquire l\nop next c\nrelease l\n";
+
+/// The same two steps, in one hold of the lock.
+pub const ONCE: &str = "acquire l\nop create c\nop next c\nrelease l\n";
+
+/// A change of the object under the lock.
+pub const UPDATE: &str = "acquire l\nop update c\nrelease l\n";
+
+/// Something that is done once the other thread has exited.
+pub const JOINS: &str = "start 2\njoin 2\nop done\n";
 
 #[test]
 fn instances_are_listed(rt: HostRuntime) -> Result<(), Fail> {
-    const WAITS: &str = "start 2\nop auth r\nwrite ready 1\n";
-    const READY: &str = "read ready 1\nop use r\n";
-    const VALUE: &str = "gptrace 1\nthreads 2\nepochs 1\nroots 1\nvalue 1 ready 1\n";
-    const TWICE: &str = "acquire l\nop create c\nrelease l\nacquire l\nop next c\nrelease l\n";
-    const ONCE: &str = "acquire l\nop create c\nop next c\nrelease l\n";
-    const UPDATE: &str = "acquire l\nop update c\nrelease l\n";
-    const JOINS: &str = "start 2\njoin 2\nop done\n";
-
     const ROWS: [Run; 11] = [
         (
             [ONE_ROOT, AUTH, USE],
@@ -149,7 +163,7 @@ fn each_window_has_all_properties(rt: HostRuntime) -> Result<(), Fail> {
 }
 
 /// A line so many times.
-fn repeated(alloc: Global, line: &str, count: usize) -> Result<String, AllocError> {
+pub fn repeated(alloc: Global, line: &str, count: usize) -> Result<String, AllocError> {
     let mut text = String::new(alloc);
     for _ in 0..count {
         text.push_str(line)?;
@@ -158,7 +172,7 @@ fn repeated(alloc: Global, line: &str, count: usize) -> Result<String, AllocErro
 }
 
 /// A recording of two threads: one did `op a` 101 times and what follows, the other `op b` 100 times.
-fn many_pairs(alloc: Global, after: &str, props: &str) -> Result<Files, AllocError> {
+pub fn many_pairs(alloc: Global, after: &str, props: &str) -> Result<Files, AllocError> {
     let mut first = repeated(alloc, "op a\n", 101)?;
     first.push_str(after)?;
     let second = repeated(alloc, "op b\n", 100)?;

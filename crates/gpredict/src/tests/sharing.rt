@@ -3,22 +3,31 @@ use super::{REPLAY, Run, TWO_ROOTS, refusals_hold, runs_hold};
 use std::test::Fail;
 
 /// Two threads, both roots, one epoch.
-const SHARED: &str = "gptrace 2\nthreads 2\nepochs 1\nroots 1 2\n";
+pub const SHARED: &str = "gptrace 2\nthreads 2\nepochs 1\nroots 1 2\n";
 
 /// The same in two epochs.
-const SHARED_EPOCHS: &str = "gptrace 2\nthreads 2\nepochs 2\nroots 1 2\n";
+pub const SHARED_EPOCHS: &str = "gptrace 2\nthreads 2\nepochs 2\nroots 1 2\n";
 
 /// A read under a lock that is shared.
-const READER: &str = "racquire l\nread x 0\nrrelease l\n";
+pub const READER: &str = "racquire l\nread x 0\nrrelease l\n";
+
+/// A write under a lock that is shared.
+pub const BOTH_SHARE: &str = "racquire l\nwrite x 1\nrrelease l\n";
+
+/// A write under a lock that is held.
+pub const ONE_HOLDS: &str = "acquire l\nwrite x 1\nrelease l\n";
+
+/// A lock that is shared over the mark.
+pub const OVER_MARK: &str = "racquire l\nmark\nop a\nrrelease l\n";
+
+/// A lock that is shared after the mark.
+pub const SHARES_LATER: &str = "mark\nracquire l\nop u\n";
+
+/// A lock that is held after the mark.
+pub const HOLDS_LATER: &str = "mark\nacquire l\nop u\n";
 
 #[test]
 fn several_threads_may_share_a_lock(rt: HostRuntime) -> Result<(), Fail> {
-    const BOTH_SHARE: &str = "racquire l\nwrite x 1\nrrelease l\n";
-    const ONE_HOLDS: &str = "acquire l\nwrite x 1\nrelease l\n";
-    const OVER_MARK: &str = "racquire l\nmark\nop a\nrrelease l\n";
-    const SHARES_LATER: &str = "mark\nracquire l\nop u\n";
-    const HOLDS_LATER: &str = "mark\nacquire l\nop u\n";
-
     const ROWS: [Run; 9] = [
         (
             [SHARED, READER, BOTH_SHARE],

@@ -1,5 +1,6 @@
 use Rattle.std.proofs.Common.{◌≡◌, ◌≤◌, ◌+◌, ◌*◌, ◌++◌, drop}
-use Rattle.gp_predict.specs.Listing.{properties_count, properties_lines}
+use Rattle.gp_analysis.specs.Tickets.{properties_count}
+use Rattle.gp_predict.specs.Listing.{properties_lines}
 use Rattle.gp_predict.proofs.listing.add_properties.Given as goal
 
 abbrev pub invariant-loop-number : goal.invariant-loop-number

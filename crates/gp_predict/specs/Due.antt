@@ -1,0 +1,38 @@
+-- What the program found to be due, and how it was put.
+use Rattle.std.specs.Prelude.{ℕ, ◌≡◌, ◌≤◌, ◌⊎◌, List, Option, length}
+use Rattle.gp_outside.specs.Faults.{Rose}
+use Rattle.gp_predict.specs.declared.due.Due.{Due}
+use Rattle.gp_predict.specs.declared.due.Due.TheVariants as due
+use Rattle.gp_predict.specs.declared.outcome.Outcome.{Outcome}
+use Rattle.gp_predict.specs.Analysing.{CanBeAnalysed, Expected, Text, Analysis, analysis_form}
+use Rattle.gp_predict.specs.Listing.{answer_of_listing}
+use Rattle.gp_predict.specs.Run.{HasStatus, IsBegun, IsDone, IsGiven, KeepsReport}
+
+-- what is due, whether its text was made as a whole or is made while it is written
+abbrev pub expected_of : Due → Expected
+expected_of (due.Whole answer) = Text answer
+expected_of (due.InPieces listing) = Text (answer_of_listing listing)
+expected_of (due.Analysis listing budget) = Analysis (analysis_form listing budget)
+
+-- a listing is of at most 64 properties, and an analysis is no more work than the limit
+abbrev pub IsWithinLimits : Due → Type 0
+IsWithinLimits (due.Whole answer) = Unit {0}
+IsWithinLimits (due.InPieces listing) = length listing.properties ≤ 64
+IsWithinLimits (due.Analysis listing budget) = CanBeAnalysed listing budget
+
+-- a status of a task that came to its end
+abbrev pub IsOfTask : ℕ → Type 0
+IsOfTask status = (status ≤ 1) ⊎ (status ≡ 7)
+
+-- each status of what is due is one of these
+abbrev pub EndsIn : (ℕ → Type 0) → Expected → Type 0
+EndsIn P expected = (status : ℕ) → HasStatus status expected → P status
+
+-- how what is due was put to a sink: whole, or up to a fault of the sink or of memory
+pub record IsPut (expected : Expected) (outcome : Outcome) (old new : Option (List ℕ)) (before after : ℕ) : Type 0 where
+  pub later : before ≤ after
+  pub given : IsDone outcome.status → IsGiven outcome.status outcome.report old new expected
+  pub begun : (outcome.status ≡ 5) ⊎ (outcome.status ≡ 6) → IsBegun outcome.report old new expected
+  pub kept_report : outcome.status ≡ 5 → KeepsReport outcome.report expected
+  pub fault : outcome.status ≡ 5 → Rose before after
+  pub range : HasStatus outcome.status expected ⊎ (outcome.status ≡ 5) ⊎ (outcome.status ≡ 6)

@@ -245,8 +245,16 @@ fn other_words_are_refused(rt: HostRuntime) -> Result<(), Fail> {
 fn a_budget_is_a_number_to_a_million(rt: HostRuntime) -> Result<(), Fail> {
     const ROWS: [(&[&str], u8, &str); 9] = [
         (&[ANALYSE, "--budget=0", "d"], 2, "words\n"),
-        (&[ANALYSE, "--budget=1", "d"], 3, "refused manifest absent\n"),
-        (&[ANALYSE, "--budget=1000000", "d"], 3, "refused manifest absent\n"),
+        (
+            &[ANALYSE, "--budget=1", "d"],
+            3,
+            "refused manifest absent\n",
+        ),
+        (
+            &[ANALYSE, "--budget=1000000", "d"],
+            3,
+            "refused manifest absent\n",
+        ),
         (&[ANALYSE, "--budget=1000001", "d"], 2, "words\n"),
         (&[ANALYSE, "--budget=01", "d"], 2, "words\n"),
         (&[ANALYSE, "--budget=", "d"], 2, "words\n"),

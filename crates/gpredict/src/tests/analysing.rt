@@ -3,7 +3,9 @@ use super::listing::{
     ADJ, DONE, JOINS, LATE_AUTH, MID, ONCE, ORD, READY, TWICE, TWO_EPOCHS, UPDATE, VALUE, WAITS,
     many_pairs, repeated,
 };
-use super::sharing::{BOTH_SHARE, HOLDS_LATER, ONE_HOLDS, OVER_MARK, READER, SHARED, SHARED_EPOCHS, SHARES_LATER};
+use super::sharing::{
+    BOTH_SHARE, HOLDS_LATER, ONE_HOLDS, OVER_MARK, READER, SHARED, SHARED_EPOCHS, SHARES_LATER,
+};
 use super::{
     ANALYSE, AUTH, Files, ONE_ROOT, Run, Script, TWO_ROOTS, USE, add, recording, run_on, runs_to,
     words_of, words_with,
@@ -64,11 +66,20 @@ fn analysis_ends<R: AllocGlobal + Threads + Sync>(
 ) -> Result<bool, AllocError> {
     let mut files = recording(rt.alloc(), recorded)?;
     add(&mut files, rt.alloc(), "props", props)?;
-    answers(rt, words_of(rt.alloc(), ANALYSE)?.as_slice(), files, status, text)
+    answers(
+        rt,
+        words_of(rt.alloc(), ANALYSE)?.as_slice(),
+        files,
+        status,
+        text,
+    )
 }
 
 /// Whether task analyse ends as told on each of these.
-fn analyses_hold<R: AllocGlobal + Threads + Sync>(rt: &R, runs: &[Run]) -> Result<bool, AllocError> {
+fn analyses_hold<R: AllocGlobal + Threads + Sync>(
+    rt: &R,
+    runs: &[Run],
+) -> Result<bool, AllocError> {
     let mut hold = true;
     for run in runs {
         let (recorded, props, status, text) = *run;
@@ -227,7 +238,12 @@ fn a_shared_lock_holds_nobody_off(rt: HostRuntime) -> Result<(), Fail> {
 fn alone(alloc: Global, count: usize, props: &str) -> Result<Files, AllocError> {
     let trace = repeated(alloc, "op a\n", count)?;
     let mut files = Vec::new(alloc);
-    add(&mut files, alloc, "manifest", "gptrace 1\nthreads 1\nepochs 1\nroots 1\n")?;
+    add(
+        &mut files,
+        alloc,
+        "manifest",
+        "gptrace 1\nthreads 1\nepochs 1\nroots 1\n",
+    )?;
     add(&mut files, alloc, "t1.trace", trace.as_str())?;
     add(&mut files, alloc, "props", props)?;
     Ok(files)
@@ -241,7 +257,13 @@ fn size_ends<R: AllocGlobal + Threads + Sync>(
     text: &str,
 ) -> Result<bool, AllocError> {
     let files = alone(rt.alloc(), count, "property p\nevent b op b\npattern b@t\n")?;
-    answers(rt, words_of(rt.alloc(), ANALYSE)?.as_slice(), files, 0, text)
+    answers(
+        rt,
+        words_of(rt.alloc(), ANALYSE)?.as_slice(),
+        files,
+        0,
+        text,
+    )
 }
 
 fn sizes_end_so<R: AllocGlobal + Threads + Sync>(rt: &R) -> Result<bool, AllocError> {
@@ -260,7 +282,13 @@ fn too_many_are_told<R: AllocGlobal + Threads + Sync>(rt: &R) -> Result<bool, Al
     let pairs = "property p\nevent a op a\nevent b op b\npattern a@t b@u\n";
     let text = "gpredict 1\nbudget 200\nwindow 1\nproperty p toomany\nsummary 0 0 0\n";
     let files = many_pairs(rt.alloc(), "", pairs)?;
-    answers(rt, words_of(rt.alloc(), ANALYSE)?.as_slice(), files, 0, text)
+    answers(
+        rt,
+        words_of(rt.alloc(), ANALYSE)?.as_slice(),
+        files,
+        0,
+        text,
+    )
 }
 
 #[test]
@@ -280,11 +308,19 @@ fn limit_ends<R: AllocGlobal + Threads + Sync>(
     let alloc = rt.alloc();
     let files = alone(alloc, count, "property p\nevent a op a\npattern a@t\n")?;
     let words = words_with(alloc, &[ANALYSE, budget, "d"])?;
-    Ok(runs_to(rt, words.as_slice(), files, Script::nothing(alloc), status, text))
+    Ok(runs_to(
+        rt,
+        words.as_slice(),
+        files,
+        Script::nothing(alloc),
+        status,
+        text,
+    ))
 }
 
 fn limits_hold<R: AllocGlobal + Threads + Sync>(rt: &R) -> Result<bool, AllocError> {
-    let one = "gpredict 1\nbudget 1000000\nwindow 1\nproperty p 1\ninstance 0 1.0\nfound 1\n1.0\nsummary 1 0 0\n";
+    let one =
+        "gpredict 1\nbudget 1000000\nwindow 1\nproperty p 1\ninstance 0 1.0\nfound 1\n1.0\nsummary 1 0 0\n";
     Ok(
         limit_ends(rt, "--budget=1000", 1_001, 7, "limit 1001 1000\n")?
             && limit_ends(rt, "--budget=1000000", 2, 7, "limit 2 1000000\n")?

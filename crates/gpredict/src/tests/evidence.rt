@@ -1,5 +1,5 @@
 // The evidence in kept reports: certificates that check again, and the logs of spent budgets.
-ghost use Rattle.std.specs.Prelude.{◌≡◌, ◌≤◌, true, length};
+ghost use Rattle.std.specs.Prelude.{◌≡◌, ◌≤◌, true, IfOk, length};
 ghost use Rattle.gp_constraint.specs.Base.{clauses_of};
 ghost use Rattle.gp_constraint.specs.Encoded.{encoded_of};
 ghost use Rattle.gp_constraint.specs.Points.{points_of};
@@ -8,7 +8,7 @@ ghost use Rattle.gp_instance.specs.Instance.{is_instance};
 use super::listing::{ADJ, DONE, JOINS, LATE_AUTH, MID, ONCE, READY, UPDATE, WAITS};
 use super::{ANALYSE, Files, ONE_ROOT, Script, TWO_ROOTS, add, recording, run_on, words_with};
 use gp_clause::Lit;
-use gp_constraint::{Encoded, base, problems_are_valid, query};
+use gp_constraint::{BaseFault, Encoded, base, problems_are_valid, query};
 use gp_derivation::{Certificate, Step, Turn, WorkerRecord, check_certificate};
 use gp_instance::{Instance, instances, lists_exactly};
 use gp_outside::MemoryFolder;
@@ -55,6 +55,16 @@ fn ends_in_negations(assumed: &[Lit], steps: &[Step]) -> bool {
     }
 }
 
+/// The constraints of a window that is not too large.
+fn encode(alloc: Global, window: &Window) -> Result<Encoded, BaseFault>
+    ensures encoded { IfOk result (λ encoded. encoded ≡ encoded_of window.now) }
+    ensures points { IfOk result (λ _. length (points_of window.now) ≤ 2048) }
+    ensures clauses { IfOk result (λ _. length (clauses_of window.now) ≤ 500000) }
+{
+    let encoded = base(alloc, window)?;
+    Ok(encoded)
+}
+
 /// Whether a certificate refutes the query of an instance.
 fn refutes(
     alloc: Global,
@@ -71,8 +81,9 @@ fn refutes(
     requires instance { is_instance window.now property.now instance.now.events ≡ true }
 {
     problems_are_valid();
+    let problem = encoded.problem();
     let query = query(alloc, encoded, window, property, instance)?;
-    let passes = check_certificate(alloc, encoded.problem(), &[], &query, certificate)?;
+    let passes = check_certificate(alloc, problem, &[], &query, certificate)?;
     Ok(passes && ends_in_negations(query.assumed.as_slice(), certificate.steps.as_slice()))
 }
 
@@ -84,7 +95,7 @@ fn refutes_the_one(
     certificate: &Certificate,
 ) -> Result<bool, Fail> {
     lists_exactly();
-    let encoded = base(alloc, window)?;
+    let encoded = encode(alloc, window)?;
     let listed = instances(alloc, window, property, 0)?;
     let [instance] = listed.as_slice() else {
         return Ok(false);
@@ -201,7 +212,8 @@ fn spent_all(record: &WorkerRecord, budget: u32) -> bool {
 /// Whether a report tells one instance as undecided, and its log is that of a budget which was spent.
 fn is_spent(report: &Report, budget: u32) -> bool {
     let answer = only_answer(report);
-    let told = matches!(answer, Some(Answer::Undecided { worker: 1, from: 0, to }) if *to == budget);
+    let told =
+        matches!(answer, Some(Answer::Undecided { worker: 1, from: 0, to }) if *to == budget);
     told && only_record(report).is_some_and(|record| spent_all(record, budget))
 }
 

@@ -39,8 +39,7 @@ pub const READY: &str = "read ready 1\nop use r\n";
 pub const VALUE: &str = "gptrace 1\nthreads 2\nepochs 1\nroots 1\nvalue 1 ready 1\n";
 
 /// Two steps on an object, each under the lock.
-pub const TWICE: &str =
-    "acquire l\nop create c\nrelease l\nacquire l\nop next c\nrelease l\n";
+pub const TWICE: &str = "acquire l\nop create c\nrelease l\nacquire l\nop next c\nrelease l\n";
 
 /// The same two steps, in one hold of the lock.
 pub const ONCE: &str = "acquire l\nop create c\nop next c\nrelease l\n";

@@ -164,12 +164,17 @@ fn instances_are_answered(rt: HostRuntime) -> Result<(), Fail> {
     Ok(())
 }
 
+/// A lock is taken in the first of two windows, and given back in the second.
+pub const FIRST: &str = "acquire l\nmark\nop a\nrelease l\n";
+
+/// A read and an operation under that lock, in the second window.
+pub const SECOND: &str = "mark\nacquire l\nread x 5\nop u\n";
+
+/// The operation under the lock before the one that is held over.
+pub const BACK: &str = "property ord\nevent a op a\nevent u op u\npattern u@t a@s\n";
+
 #[test]
 fn each_window_is_answered_by_itself(rt: HostRuntime) -> Result<(), Fail> {
-    const FIRST: &str = "acquire l\nmark\nop a\nrelease l\n";
-    const SECOND: &str = "mark\nacquire l\nread x 5\nop u\n";
-    const BACK: &str = "property ord\nevent a op a\nevent u op u\npattern u@t a@s\n";
-
     const ROWS: [Run; 4] = [
         (
             [TWO_EPOCHS, FIRST, SECOND],

@@ -5,7 +5,9 @@ ghost use Rattle.gp_constraint.specs.Encoded.{encoded_of};
 ghost use Rattle.gp_constraint.specs.Points.{points_of};
 ghost use Rattle.gp_instance.specs.Instance.{is_instance};
 
-use super::listing::{ADJ, DONE, JOINS, LATE_AUTH, MID, ONCE, READY, UPDATE, WAITS};
+use super::analysing::{BACK, FIRST, SECOND};
+use super::listing::{ADJ, DONE, JOINS, LATE_AUTH, MID, ONCE, READY, TWO_EPOCHS, UPDATE, WAITS};
+use super::sharing::{HOLDS_LATER, ONE_HOLDS, OVER_MARK, READER, SHARED, SHARED_EPOCHS};
 use super::{ANALYSE, Files, ONE_ROOT, Script, TWO_ROOTS, add, recording, run_on, words_with};
 use gp_clause::Lit;
 use gp_constraint::{BaseFault, Encoded, base, problems_are_valid, query};
@@ -29,9 +31,9 @@ fn files_of(alloc: Global, recorded: &Recorded) -> Result<Files, AllocError> {
     Ok(files)
 }
 
-/// The answer of a report that tells one window with one property of one instance.
+/// The answer in the last window of a report, which has one property of one instance.
 fn only_answer(report: &Report) -> Option<&Answer> {
-    let [window] = report.windows() else {
+    let [.., window] = report.windows() else {
         return None;
     };
     let [property] = window.body.properties() else {
@@ -146,7 +148,7 @@ fn report_of<R: AllocGlobal + Threads + Sync>(
     Ok(outcome.report)
 }
 
-/// Whether what is recorded has one instance, and the certificate in its report refutes it.
+/// Whether the last window of what is recorded has one instance, and the certificate in its report refutes it.
 fn is_refuted<R: AllocGlobal + Threads + Sync>(rt: &R, recorded: &Recorded) -> Result<bool, Fail> {
     let Some(report) = report_of(rt, recorded, "--budget=200")? else {
         return Ok(false);
@@ -167,7 +169,7 @@ fn are_refuted<R: AllocGlobal + Threads + Sync>(rt: &R, all: &[Recorded]) -> Res
 
 #[test]
 fn certificates_of_reports_check_again(rt: HostRuntime) -> Result<(), Fail> {
-    const ALL: [Recorded; 4] = [
+    const ALL: [Recorded; 7] = [
         ([ONE_ROOT, WAITS, READY], LATE_AUTH),
         ([TWO_ROOTS, ONCE, UPDATE], MID),
         (
@@ -179,6 +181,9 @@ fn certificates_of_reports_check_again(rt: HostRuntime) -> Result<(), Fail> {
             ADJ,
         ),
         ([ONE_ROOT, JOINS, "op e\n"], DONE),
+        ([TWO_EPOCHS, FIRST, SECOND], BACK),
+        ([SHARED_EPOCHS, OVER_MARK, HOLDS_LATER], BACK),
+        ([SHARED, READER, ONE_HOLDS], ADJ),
     ];
     assert!(rt; are_refuted(&rt, &ALL)?);
     Ok(())

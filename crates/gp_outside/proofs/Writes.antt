@@ -43,7 +43,7 @@ is_prefix (Some bytes) (Some more) piece done rest split grown = (
 )
 
 -- a write failed, so that no byte was written
-pub kept_is_none : (old new : Option (List ℕ)) → Keeps old new → Grows old new []
+kept_is_none : (old new : Option (List ℕ)) → Keeps old new → Grows old new []
 kept_is_none None new keeps = tt
 kept_is_none (Some old) None keeps = absurd keeps
 kept_is_none (Some old) (Some new) keeps = keeps ∙ sym (append-nil old)
@@ -54,6 +54,11 @@ pub write_stopped : (old now next : Option (List ℕ)) (piece rest : List ℕ) (
 write_stopped old now next piece rest n w took =
     let more = write_took old now next piece rest n w took in
     is_prefix old next piece more.done (take (length rest - n) (drop n rest)) more.split more.grown
+
+-- a write failed, so that a prefix of the piece is there
+pub write_failed : (old now next : Option (List ℕ)) (piece rest : List ℕ)
+    → IsWriting old now piece rest → Keeps now next → AppendsFront old next piece
+write_failed old now next piece rest w keeps = write_stopped old now next piece rest 0 w (kept_is_none now next keeps)
 
 all_done : (piece done rest : List ℕ) → length rest ≡ 0 → piece ≡ done ++ rest → piece ≡ done
 all_done piece done rest none split =

@@ -1,4 +1,4 @@
-use Rattle.std.specs.Prelude.{◌≡◌, ℕ, ◌<◌, ◌≤◌, List, [], ◌∷◌, ◌++◌, length, Option, None, Some, if◌then◌else◌}
+use Rattle.std.specs.Prelude.{◌≡◌, ℕ, ◌<◌, ◌≤◌, false, List, [], ◌∷◌, ◌++◌, length, Option, None, Some, if◌then◌else◌}
 use Rattle.std.specs.Str.{bytes_eq}
 
 -- a file: its name and what it holds
@@ -38,3 +38,22 @@ HasNone (Some files) name Cause = file_named files name ≡ None
 abbrev pub HasLonger : Option (List File) → List ℕ → ℕ → Type 0
 HasLonger None name limit = Unit {0}
 HasLonger (Some files) name limit = IsFile (file_named files name) (λ content. limit < length content)
+
+-- every name but this one gives what it gave
+abbrev pub SameBut : List ℕ → List File → List File → Type 0
+SameBut name old new = (other : List ℕ) → bytes_eq other name ≡ false → file_named new other ≡ file_named old other
+
+-- the file of that name holds the bytes, and every other name gives what it gave
+pub record IsWritten (name bytes : List ℕ) (old new : List File) : Type 0 where
+  pub holds : file_named new name ≡ Some bytes
+  pub others : SameBut name old new
+
+-- where files are told, they are told after too, and the one of that name was written
+abbrev pub Writes : Option (List File) → Option (List File) → List ℕ → List ℕ → Type 0
+Writes None new name bytes = new ≡ None
+Writes (Some old) new name bytes = (files : List File) × (new ≡ Some files) × IsWritten name bytes old files
+
+-- where files are told, they are told after too, and what the one of that name holds is open
+abbrev pub Spares : Option (List File) → Option (List File) → List ℕ → Type 0
+Spares None new name = new ≡ None
+Spares (Some old) new name = (files : List File) × (new ≡ Some files) × SameBut name old files

@@ -1,5 +1,6 @@
 pub mod DirFolders
 pub mod Faults
+pub mod FolderLaws
 pub mod Folders
 pub mod MemoryFolders
 pub mod MemorySinks

@@ -2,9 +2,12 @@ use Rattle.gp_outside.specs.Faults.{one_more}
 use Rattle.gp_outside.specs.Folders.{File, file_named}
 use Rattle.gp_outside.specs.declared.folders.ReadFault.TheVariants.{Absent, Failed, TooLong}
 use Rattle.gp_outside.specs.declared.folders.ReadFault.{ReadFault}
+use Rattle.gp_outside.specs.declared.folders.WriteFault.TheVariants as write
+use Rattle.gp_outside.specs.declared.folders.WriteFault.{WriteFault}
 use Rattle.std.specs.Global.{Global, Vec}
 use Rattle.std.specs.List.{list_any}
-use Rattle.std.specs.Prelude.{◌+◌, ◌==◌, Bool, Err, List, None, Ok, Option, Result, Some, String, [], if◌then◌else◌, length, map, nat_lt, string_bytes, take, ℕ}
+use Rattle.std.specs.Prelude.{◌+◌, ◌==◌, Bool, Err, List, None, Ok, Option, Result, Some, String, [], ◌∷◌, if◌then◌else◌, length, map, nat_lt, string_bytes, take, ℕ}
+use Rattle.std.specs.Str.{bytes_eq}
 
 -- a file, from the pair of its name and its bytes
 abbrev pub file_of : String Global × Vec ℕ → File
@@ -49,3 +52,16 @@ read_answer folder name limit = if fails_next folder then Err Failed else answer
 -- the bytes that the next call reads, where there is memory for them
 abbrev pub read_bytes : FolderState → List ℕ → ℕ → List ℕ
 read_bytes folder name limit = if fails_next folder then [] else bytes_by (file_named folder.files name) limit
+
+-- the files after a write: the first of that name holds the bytes, and where none has the name there is one more at the end
+abbrev pub with_file : List File → List ℕ → List ℕ → List File
+with_file [] name bytes = record { name = name; bytes = bytes } ∷ []
+with_file (file ∷ files) name bytes = if bytes_eq file.name name then record file { bytes = bytes } ∷ files else file ∷ with_file files name bytes
+
+-- the answer of the next call to a write, where there is memory for it
+abbrev pub write_answer : FolderState → Result (Unit {0}) WriteFault
+write_answer folder = if fails_next folder then Err write.Failed else Ok tt
+
+-- the folder after the next call was a write, where there is memory for it
+abbrev pub after_write : FolderState → List ℕ → List ℕ → FolderState
+after_write folder name bytes = record (after_call folder) { files = if fails_next folder then folder.files else with_file folder.files name bytes }

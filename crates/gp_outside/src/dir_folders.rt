@@ -1,11 +1,12 @@
-ghost use Rattle.gp_outside.specs.DirFolders.{Moves, faults_after};
+ghost use Rattle.gp_outside.specs.DirFolders.{Moves, faults_after, faults_after_write};
 ghost use Rattle.gp_outside.specs.Folders.{BeginsWith};
 ghost use Rattle.std.specs.Io.KnownBytes.{IsAtEnd};
 ghost use Rattle.std.specs.Prelude.{◌+◌, ◌≡◌, ◌≢◌, ◌≤◌, OnOk, length};
 
-use crate::folders::{Folder, ReadFault};
+use crate::folders::{Folder, ReadFault, WriteFault};
+use crate::writing::write_whole;
 use std::fs;
-use std::io::{ErrorKind, Read};
+use std::io::{self, ErrorKind, Read, Write};
 use std::marker::Model;
 use std::rt::Files;
 
@@ -55,6 +56,27 @@ impl<R: Files> Folder for DirFolder<R> {
         }
         answer
     }
+
+    /// The name is a path, at which a file is made or emptied first. It takes no memory, and each
+    /// error is `Failed`.
+    fn write(&mut self, name: &str, bytes: &[u8]) -> Result<(), WriteFault>
+        ensures later { self.old ≤ self.new }
+        ensures counted { self.new ≡ faults_after_write result self.old }
+        ensures no_memory { result ≢ Err WriteFault.Memory }
+    {
+        let answer = write_file(&self.rt, name, bytes).map_err(|_| WriteFault::Failed);
+        if answer.is_err() {
+            self.faults = self.faults.saturating_add(1);
+        }
+        answer
+    }
+}
+
+// What the file then holds is named by no contract. That each byte is written is the promise of `write_whole`.
+fn write_file<R: Files>(rt: &R, name: &str, bytes: &[u8]) -> io::Result<()> {
+    let mut file = fs::create(rt, name)?;
+    write_whole(&mut file, bytes)?;
+    file.flush()
 }
 
 fn read_file<R: Files>(rt: &R, name: &str, limit: u64, out: &mut Vec<u8>) -> Result<(), ReadFault>
@@ -100,8 +122,8 @@ fn read_within<F: Read>(file: &mut F, limit: u64, out: &mut Vec<u8>) -> Result<(
 #[cfg(test)]
 mod tests {
     use super::*;
-    use std::io;
     use std::io::Error;
+    use std::test::Fail;
 
     // Gives the number of the read twice at each read, and fails at the third.
     #[derive(Drop)]
@@ -133,5 +155,23 @@ mod tests {
             let given = read_within(&mut Broken { reads: 0 }, limit, &mut out);
             assert!(rt; given == answer && out.as_slice() == bytes, "{limit}");
         }
+    }
+
+    fn holds(rt: &HostRuntime, path: &str, bytes: &[u8]) -> Result<bool, Fail> {
+        Ok(fs::read(rt, path)?.as_slice() == bytes)
+    }
+
+    #[test]
+    fn a_file_that_was_written_holds_the_bytes(rt: HostRuntime) -> Result<(), Fail> {
+        let path = "dir_folder_test";
+        let mut long = [7u8; 5000];
+        long[4999] = 8;
+        let mut folder = DirFolder::new(rt.clone()?);
+        for bytes in [long.as_slice(), b"short\n", b""] {
+            assert!(rt; folder.write(path, bytes) == Ok(()) && holds(&rt, path, bytes)?);
+        }
+        assert!(rt; folder.write("dir_folder_test/inner", b"x") == Err(WriteFault::Failed));
+        fs::remove_file(&rt, path)?;
+        Ok(())
     }
 }

@@ -1,5 +1,5 @@
 ghost use Rattle.gp_outside.specs.Faults.{Rose};
-ghost use Rattle.gp_outside.specs.Folders.{BeginsWith, File, HasLonger, HasNone, ReadWhole};
+ghost use Rattle.gp_outside.specs.Folders.{BeginsWith, File, HasLonger, HasNone, ReadWhole, Spares, Writes};
 ghost use Rattle.std.specs.Prelude.{◌+◌, ◌⊎◌, ◌≡◌, ◌≤◌, List, OnOk, Option, length, ℕ};
 
 use std::alloc::AllocError;
@@ -33,7 +33,29 @@ impl From<AllocError> for ReadFault {
     }
 }
 
-/// A place of files that are read by name.
+/// Why a file was not written.
+#[derive(Debug, Clone, Copy, PartialEq, Eq, Error)]
+pub enum WriteFault {
+    /// The write failed. What the file of that name holds is open.
+    #[error("the file could not be written")]
+    Failed,
+    /// There was no memory for the file, and nothing was written.
+    #[error("out of memory")]
+    Memory,
+}
+
+impl From<AllocError> for WriteFault {
+    ghost use Rattle.gp_outside.specs.declared.folders.WriteFault.TheVariants.{Memory};
+    ghost use Rattle.std.specs.Prelude.{◌≡◌};
+
+    ghost from_gives = { λ _ e. e ≡ Memory };
+
+    fn from(_error: AllocError) -> WriteFault {
+        WriteFault::Memory
+    }
+}
+
+/// A place of files that are read and written by name.
 pub trait Folder {
     /// The files, where the folder tells them.
     ghost files: { Self → Option (List File) };
@@ -63,4 +85,13 @@ pub trait Folder {
             length out.new.items ≡ length out.old.items + limit + 1 }
 
         ensures failed { result ≡ Err ReadFault.Failed → Rose (faults self.old) (faults self.new) };
+
+    /// Writes these bytes as the file of that name, in place of what it held.
+    fn write(&mut self, name: &str, bytes: &[u8]) -> Result<(), WriteFault>
+        ensures later { faults self.old ≤ faults self.new }
+        ensures written { OnOk result (Writes (files self.old) (files self.new) name.now bytes.now) }
+        ensures failed { result ≡ Err WriteFault.Failed → Rose (faults self.old) (faults self.new) }
+        ensures spared { result ≡ Err WriteFault.Failed →
+            Spares (files self.old) (files self.new) name.now }
+        ensures unchanged { result ≡ Err WriteFault.Memory → files self.new ≡ files self.old };
 }

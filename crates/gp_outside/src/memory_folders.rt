@@ -1,9 +1,12 @@
 ghost use Rattle.gp_outside.specs.Folders.{file_named};
-ghost use Rattle.gp_outside.specs.MemoryFolders.{after_call, answer_by, bytes_by, fails_next, files_of, read_answer, read_bytes};
+ghost use Rattle.gp_outside.specs.MemoryFolders.{after_call, after_write, answer_by, bytes_by, fails_next, files_of, read_answer, read_bytes, with_file, write_answer};
 ghost use Rattle.std.specs.Option.{option_copied};
-ghost use Rattle.std.specs.Prelude.{◌++◌, ◌≡◌, ◌≢◌, ◌≤◌, IsTrue};
+ghost use Rattle.std.specs.List.{position};
+ghost use Rattle.std.specs.Prelude.{◌++◌, ◌≡◌, ◌≢◌, ◌≤◌, IsTrue, OnErr, OnOk, string_bytes};
+ghost use Rattle.std.specs.Str.{bytes_eq};
 
-use crate::folders::{Folder, ReadFault};
+use crate::folders::{Folder, ReadFault, WriteFault};
+use std::alloc::AllocError;
 use std::marker::Model;
 
 /// Files in memory, for tests. Calls are numbered from 1, and those that the script names fail.
@@ -96,6 +99,28 @@ fn append_within(content: &[u8], limit: u64, out: &mut Vec<u8>) -> Result<(), Re
     Ok(())
 }
 
+// The place of the first file of that name.
+fn place_of(files: &[(String, Vec<u8>)], name: &str) -> Option<usize>
+    ensures { result ≡ position (λ file. bytes_eq (string_bytes file.0) name.now) files.now }
+{
+    files.iter().position(|(own, _)| own.as_str() == name)
+}
+
+// Gives the bytes to the first file of that name, or to a new one at the end.
+fn put_file(files: &mut Vec<(String, Vec<u8>)>, name: &str, bytes: &[u8]) -> Result<(), AllocError>
+    ensures ok { OnOk result
+        (files_of files.new.items ≡ with_file (files_of files.old.items) name.now bytes.now) }
+    ensures err { OnErr result (files.new.items ≡ files.old.items) }
+{
+    let alloc = *files.allocator();
+    let content = Vec::from_slice(alloc, bytes)?;
+    match place_of(files.as_slice(), name) {
+        Some(place) => files[place].1 = content,
+        None => files.push((String::from_str(alloc, name)?, content))?,
+    }
+    Ok(())
+}
+
 impl Folder for MemoryFolder {
     ghost use Rattle.std.specs.Prelude.{Some};
 
@@ -121,5 +146,55 @@ impl Folder for MemoryFolder {
             Some(content) => append_within(content, limit, out),
             None => Err(ReadFault::Absent),
         }
+    }
+
+    /// Exact but for want of memory: which call fails, what each other call writes, and how the
+    /// counts change. A call that fails writes nothing.
+    fn write(&mut self, name: &str, bytes: &[u8]) -> Result<(), WriteFault>
+        ensures later { self.old.faults ≤ self.new.faults }
+        ensures scripted { IsTrue (fails_next self.old) → result ≡ Err WriteFault.Failed }
+        ensures answer { result ≢ Err WriteFault.Memory → result ≡ write_answer self.old }
+        ensures after { result ≢ Err WriteFault.Memory →
+            self.new ≡ after_write self.old name.now bytes.now }
+        ensures memory { result ≡ Err WriteFault.Memory → self.new ≡ after_call self.old }
+    {
+        if self.begin_call() {
+            return Err(WriteFault::Failed);
+        }
+        put_file(&mut self.files, name, bytes)?;
+        Ok(())
+    }
+}
+
+#[cfg(test)]
+mod tests {
+    use super::*;
+    use std::alloc::Global;
+    use std::test::Fail;
+
+    // Writes a file, writes it again, fails once, and writes a second file.
+    fn writes_hold(alloc: Global) -> Result<bool, AllocError> {
+        const ROWS: [(&str, &[u8], Result<(), WriteFault>); 4] = [
+            ("one", b"first", Ok(())),
+            ("one", b"again", Ok(())),
+            ("two", b"lost", Err(WriteFault::Failed)),
+            ("two", b"kept", Ok(())),
+        ];
+        let mut folder = MemoryFolder::new(Vec::new(alloc), vec![in alloc; 3u64]?);
+        let mut hold = true;
+        for (name, bytes, answer) in &ROWS {
+            hold &= folder.write(name, bytes) == *answer;
+        }
+        for (name, bytes) in [("one", b"again".as_slice()), ("two", b"kept")] {
+            let mut out = Vec::new(alloc);
+            hold &= folder.read(name, 9, &mut out) == Ok(()) && out.as_slice() == bytes;
+        }
+        Ok(hold && folder.files().len() == 2)
+    }
+
+    #[test]
+    fn a_file_is_written_in_place_or_at_the_end(rt: HostRuntime) -> Result<(), Fail> {
+        assert!(rt; writes_hold(rt.alloc())?);
+        Ok(())
     }
 }

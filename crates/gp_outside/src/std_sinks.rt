@@ -1,10 +1,10 @@
 ghost use Rattle.gp_outside.specs.Sinks.{Appends, AppendsFront};
 ghost use Rattle.gp_outside.specs.StdSinks.{faults_after};
-ghost use Rattle.std.specs.Io.KnownBytes.{Appends as Grows};
-ghost use Rattle.std.specs.Prelude.{◌≡◌, ◌≢◌, ◌≤◌, None, OnErr, OnOk, length, take};
+ghost use Rattle.std.specs.Prelude.{◌≡◌, ◌≢◌, ◌≤◌, None, OnErr, OnOk};
 
 use crate::outputs::Output;
 use crate::sinks::{PutFault, Sink};
+use crate::writing::write_whole;
 use std::io::Write;
 use std::marker::Model;
 
@@ -54,39 +54,10 @@ impl<W: Write> Sink for StdSink<W> {
         ensures counted { self.new.faults ≡ faults_after result self.old.faults }
         ensures no_memory { result ≢ Err PutFault.Memory }
     {
-        let answer = write_whole(&mut self.writer, piece);
+        let answer = write_whole(&mut self.writer, piece).map_err(|_| PutFault::Failed);
         if answer.is_err() {
             self.faults = self.faults.saturating_add(1);
         }
         answer
-    }
-}
-
-// Writes the piece by as many writes as it takes. Where one takes no byte, a prefix of the piece was written.
-fn write_whole<W: Write>(writer: &mut W, piece: &[u8]) -> Result<(), PutFault>
-    ensures ok { OnOk result (Appends (W.contents writer.old) (W.contents writer.new) piece.now) }
-    ensures err { OnErr result
-        (AppendsFront (W.contents writer.old) (W.contents writer.new) piece.now) }
-    ensures no_memory { result ≢ Err PutFault.Memory }
-{
-    let mut rest = piece;
-    while !rest.is_empty() {
-        let count = write_some(writer, rest);
-        if count == 0 {
-            return Err(PutFault::Failed);
-        }
-        rest = &rest[count..];
-    }
-    Ok(())
-}
-
-// Writes some bytes, from the first one on, and says how many: none where the write fails.
-fn write_some<W: Write>(writer: &mut W, bytes: &[u8]) -> usize
-    ensures bound { result ≤ length bytes.now }
-    ensures bytes { Grows (W.contents writer.old) (W.contents writer.new) (take result bytes.now) }
-{
-    match writer.write(bytes) {
-        Ok(count) => count,
-        Err(_) => 0,
     }
 }

@@ -1,6 +1,6 @@
 use Rattle.std.proofs.Common.{length}
 use Rattle.gp_outside.proofs.Writes.{IsWriting}
-use Rattle.gp_outside.proofs.std_sinks.write_whole.Given as goal
+use Rattle.gp_outside.proofs.writing.write_whole.Given as goal
 
 abbrev pub invariant-loop-rest : goal.invariant-loop-rest
 invariant-loop-rest g l = IsWriting (g.W.Write.contents l.initial.writer) (g.W.Write.contents l.writer) l.piece l.rest

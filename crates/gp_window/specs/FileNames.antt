@@ -1,7 +1,7 @@
 -- The names and limits of the input files of a folder.
 use Rattle.std.specs.Prelude.{ℕ, ◌++◌, List, codes, decimal}
 use Rattle.gp_window.specs.declared.file_name.FileName.{FileName}
-use Rattle.gp_window.specs.declared.file_name.FileName.TheVariants.{Manifest, Trace, Properties, Schedule}
+use Rattle.gp_window.specs.declared.file_name.FileName.TheVariants.{Manifest, Trace, Properties, Schedule, Report}
 
 -- the name of a file in its directory
 abbrev pub name_of : FileName → List ℕ
@@ -9,6 +9,7 @@ name_of Manifest = codes "manifest"
 name_of (Trace thread) = codes "t" ++ decimal thread ++ codes ".trace"
 name_of Properties = codes "props"
 name_of Schedule = codes "schedule"
+name_of Report = codes "report"
 
 -- the most bytes of a file
 abbrev pub limit_of : FileName → ℕ
@@ -16,6 +17,7 @@ limit_of Manifest = 1048576
 limit_of (Trace thread) = 2097152
 limit_of Properties = 262144
 limit_of Schedule = 16777216
+limit_of Report = 67108864
 
 -- the name that is handed to the folder
 abbrev pub path_of : List ℕ → FileName → List ℕ

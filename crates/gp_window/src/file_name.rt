@@ -14,6 +14,8 @@ pub enum FileName {
     Properties,
     /// The schedule.
     Schedule,
+    /// The report.
+    Report,
 }
 
 impl FileName {
@@ -29,6 +31,7 @@ impl FileName {
             }
             FileName::Properties => String::from_str(alloc, "props"),
             FileName::Schedule => String::from_str(alloc, "schedule"),
+            FileName::Report => String::from_str(alloc, "report"),
         }
     }
 
@@ -41,6 +44,7 @@ impl FileName {
             FileName::Trace(_) => 2_097_152,
             FileName::Properties => 262_144,
             FileName::Schedule => 16_777_216,
+            FileName::Report => 67_108_864,
         }
     }
 

@@ -29,3 +29,4 @@ pub mod Encoded
 pub mod QueryNames
 pub mod StartTables
 pub mod NumberingLaws
+pub mod EncodedLaws

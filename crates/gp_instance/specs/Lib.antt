@@ -9,3 +9,4 @@ pub mod Partners
 pub mod Threads
 pub mod Listed
 pub mod Rows
+pub mod ListedLaws

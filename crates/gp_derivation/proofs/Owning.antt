@@ -1,9 +1,10 @@
 -- The loops that test the steps of a certificate and of a shared list.
-use Rattle.std.proofs.Common.{Bool, false, IsTrue, ◌==◌, ◌≡◌, ℕ, ◌+◌, ◌-◌, ◌<◌, ◌≤◌, List, [], ◌∷◌, ◌++◌, length, take, drop, get_or, All, ◌↔◌, refl, ap, sym, ◌∙◌, subst, arith}
+use Rattle.std.proofs.Common.{Bool, false, Option, None, Some, IsTrue, ◌==◌, ◌≡◌, ℕ, ◌+◌, ◌-◌, ◌<◌, ◌≤◌, List, [], ◌∷◌, ◌++◌, length, take, drop, get_or, All, ◌↔◌, refl, ap, sym, ◌∙◌, subst, arith}
 use Rattle.std.proofs.lemmas.Bool.{false≢true}
 use Rattle.std.proofs.lemmas.List.{append-nil, append_assoc, length-append, length-map, take_more, take_all, take-append-drop, map-append}
 use Rattle.std.proofs.lemmas.List.Elements.{All-nil, All-cons, All-append, All-weaker}
 use Rattle.std.specs.List.{slice_get}
+use Rattle.std.specs.Option.{MatchOption}
 use Rattle.gp_clause.specs.declared.edge.Edge.{Edge}
 use Rattle.gp_clause.specs.declared.kind.Kind.{Kind}
 use Rattle.gp_clause.specs.declared.lit.Lit.{Lit}
@@ -12,7 +13,7 @@ use Rattle.gp_clause.specs.Clause.{NamesBelow}
 use Rattle.gp_derivation.specs.declared.step.Step.{Step}
 use Rattle.gp_derivation.specs.Certificate.{clauses_of}
 use Rattle.gp_derivation.specs.Shared.{StepPasses, OwnStepsPass, SharedPasses, FirstFails, FirstOwnFails, usable}
-use Rattle.gp_derivation.specs.Bench.{BenchForm}
+use Rattle.gp_derivation.specs.Bench.{BenchForm, HasLoaded, HasTested}
 use Rattle.gp_derivation.specs.Step.{Passes, named}
 use Rattle.gp_derivation.specs.ListLaws.{slice_get_back}
 use Rattle.gp_derivation.proofs.Sharing.{checks_alone}
@@ -107,11 +108,6 @@ fails_same edges edges' kinds kinds' base base' shared steps place edges_is kind
     subst (λ es. FirstOwnFails es kinds' base' shared steps place) edges_is (subst (λ ks. FirstOwnFails edges ks base' shared steps place) kinds_is
     (subst (λ cs. FirstOwnFails edges kinds cs shared steps place) base_is fails))
 
-pub fails_over : (edges edges' : List Edge) (kinds kinds' : List Kind) (base base' shared : List (List Lit)) (steps steps' : List Step) (place : ℕ) → edges ≡ edges' → kinds ≡ kinds' → base ≡ base'
-    → steps ≡ steps' → FirstOwnFails edges kinds base shared steps place → OwnStepsPass edges' kinds' base' shared [] steps' → ⊥
-fails_over edges edges' kinds kinds' base base' shared steps steps' place edges_is kinds_is base_is steps_is fails passed =
-    fails.fails (passed_first edges kinds base shared steps (place + 1) (own_same edges' edges kinds' kinds base' base shared steps' steps (sym edges_is) (sym kinds_is) (sym base_is) (sym steps_is) passed))
-
 pub shared_passes : (problem : Problem) (steps : List Step) → OwnStepsPass problem.edges problem.kinds problem.clauses [] [] steps → SharedPasses problem steps
 shared_passes problem steps passed = (checks_alone problem.edges problem.kinds problem.clauses steps).0 passed
 
@@ -147,3 +143,24 @@ all_more start now new base own i step clause within is same before pushed =
     let whole : base ++ clauses_of (take i own) ++ clause ∷ [] ≡ base ++ clauses_of (take (i + 1) own) =
     append_assoc base (clauses_of (take i own)) (clause ∷ []) ∙ ap (λ c. base ++ (clauses_of (take i own) ++ c ∷ [])) same ∙ ap (λ cs. base ++ cs) (sym next) in
     pushed ∙ ap P before ∙ ap Q whole
+
+-- clauses are loaded on top of those with which a bench began
+pub loaded_after : (start old new : BenchForm) (base more : List (List Lit)) → old ≡ record start { loaded = base } → new ≡ record start { loaded = base ++ more } → HasLoaded old new
+loaded_after start old new base more before after = (more, after ∙ ap (λ (b : BenchForm). record b { loaded = b.loaded ++ more }) (sym before))
+
+-- a bench from which all was unloaded that was loaded is as before
+pub cleared_same : (start loaded cleared : BenchForm) → start.loaded ≡ [] → loaded ≡ record start { loaded = loaded.loaded } → cleared ≡ record loaded { loaded = [] } → cleared ≡ start
+cleared_same start loaded cleared empty was is = is ∙ ap (λ (b : BenchForm). record b { loaded = [] }) was ∙ ap (λ (cs : List (List Lit)). record start { loaded = cs }) (sym empty)
+
+-- nothing was loaded
+pub tested_none : (old new : BenchForm) (kinds : List Kind) → new ≡ record old { kinds = kinds } → HasTested old new
+tested_none old new kinds is = (kinds, ([], is ∙ ap (λ (cs : List (List Lit)). record old { kinds = kinds; loaded = cs }) (sym (append-nil old.loaded))))
+
+-- the first of a shared list that fails, or none, seen as own steps
+pub shared_first : (problem : Problem) (steps : List Step) (first : Option ℕ)
+    → MatchOption first (OwnStepsPass problem.edges (problem.kinds ++ []) problem.clauses [] [] steps) (FirstOwnFails problem.edges (problem.kinds ++ []) problem.clauses [] steps)
+    → MatchOption first (SharedPasses problem steps) (FirstFails problem steps)
+shared_first problem steps None passed =
+    shared_passes problem steps (own_same problem.edges problem.edges (problem.kinds ++ []) problem.kinds problem.clauses problem.clauses [] steps steps refl (append-nil problem.kinds) refl refl passed)
+shared_first problem steps (Some place) fails =
+    first_fails problem steps place (fails_same problem.edges problem.edges (problem.kinds ++ []) problem.kinds problem.clauses problem.clauses [] steps place refl (append-nil problem.kinds) refl fails)

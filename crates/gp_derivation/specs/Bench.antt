@@ -1,5 +1,5 @@
 -- What a bench keeps, and what callers see of it.
-use Rattle.std.specs.Prelude.{ℕ, ◌≡◌, ◌*◌, ◌<◌, ◌≤◌, ◌^◌, List, [], length, All}
+use Rattle.std.specs.Prelude.{ℕ, ◌≡◌, ◌*◌, ◌<◌, ◌≤◌, ◌^◌, List, [], ◌++◌, length, All}
 use Rattle.gp_clause.specs.declared.edge.Edge.{Edge}
 use Rattle.gp_clause.specs.declared.kind.Kind.{Kind}
 use Rattle.gp_clause.specs.declared.lit.Lit.{Lit}
@@ -18,6 +18,14 @@ pub record BenchForm : Type 0 where
   pub lasting : List Kind
   pub kinds : List Kind
   pub loaded : List (List Lit)
+
+-- more clauses were loaded after those that a bench had
+abbrev pub HasLoaded : BenchForm → BenchForm → Type 0
+HasLoaded old new = (more : List (List Lit)) × (new ≡ record old { loaded = old.loaded ++ more })
+
+-- besides, the locals may have changed
+abbrev pub HasTested : BenchForm → BenchForm → Type 0
+HasTested old new = (kinds : List Kind) × HasLoaded (record old { kinds = kinds }) new
 
 -- between tries no variable has a value, no bound is kept, and each loaded clause is listed in the rows of its literals
 pub record IsReady (bench : Inside) : Type 0 where

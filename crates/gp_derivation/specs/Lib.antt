@@ -13,4 +13,5 @@ pub mod Cones
 pub mod ListLaws
 pub mod Bench
 pub mod Tester
+pub mod Judge
 pub mod SharedLaws

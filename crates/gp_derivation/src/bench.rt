@@ -1,4 +1,4 @@
-ghost use Rattle.std.specs.Prelude.{◌≡◌, ◌+◌, ◌*◌, ◌<◌, ◌≤◌, ◌^◌, ◌↔◌, ℕ, [], ◌∷◌, ◌++◌, length, IsTrue, IfOk, OnOk, OnErr, All, Contains};
+ghost use Rattle.std.specs.Prelude.{◌≡◌, ◌+◌, ◌*◌, ◌<◌, ◌≤◌, ◌^◌, ◌↔◌, ℕ, [], ◌∷◌, ◌++◌, length, IsTrue, IfOk, OnOk, OnErr, All, Contains, take};
 ghost use Rattle.gp_clause.specs.declared.lit.Lit.{Lit};
 ghost use Rattle.gp_clause.specs.Clause.{NamesBelow, NamesOnce};
 ghost use Rattle.gp_clause.specs.Problem.{IsValidKind, IsValidProblem};
@@ -68,11 +68,11 @@ impl Bench {
         })
     }
 
-    // Changes the locals. After want of memory there are none.
+    // Changes the locals, of which the loaded clauses have none. After want of memory there are none.
     pub(crate) fn set_locals(&mut self, locals: &[Kind]) -> Result<(), AllocError>
         requires few { length locals.now < 2 ^ 30 }
         requires locals { All (IsValidKind self.old.points) locals.now }
-        requires empty { self.old.loaded ≡ [] }
+        requires loaded { All (NamesBelow (length self.old.lasting)) self.old.loaded }
         ensures ok { OnOk result (self.new ≡ record self.old { kinds = self.old.lasting ++ locals.now }) }
         ensures err { OnErr result (self.new ≡ record self.old { kinds = self.old.lasting }) }
     {
@@ -105,9 +105,17 @@ impl Bench {
     pub(crate) fn clear(&mut self)
         ensures { self.new ≡ record self.old { loaded = [] } }
     {
-        unlist_all(&mut self.rows, &self.clauses);
-        self.clauses.clear();
-        self.left.clear();
+        self.unload(0);
+    }
+
+    // Unloads all clauses but so many first ones, at the cost of those that go.
+    pub(crate) fn unload(&mut self, count: usize)
+        requires { count ≤ length self.old.loaded }
+        ensures { self.new ≡ record self.old { loaded = take count self.old.loaded } }
+    {
+        unlist_all(&mut self.rows, &self.clauses[count..], count);
+        self.clauses.truncate(count);
+        self.left.truncate(count);
     }
 
     // Whether a clause with these literals passes with the clauses that are loaded. It takes no memory.
@@ -174,6 +182,7 @@ fn derive(
 fn add_rows(rows: &mut Vec<Vec<usize>>, count: usize) -> Result<(), AllocError>
     ensures enough { OnOk result (count ≤ length rows.new.items) }
     ensures more { length rows.old.items ≤ length rows.new.items }
+    ensures keeps { (lit : Lit) (number : ℕ) → Contains (row_of rows.old.items lit) number → Contains (row_of rows.new.items lit) number }
 {
     let alloc = *rows.allocator();
     for _row in rows.len()..count {
@@ -206,22 +215,45 @@ fn note(rows: &mut Vec<Vec<usize>>, lit: Lit, number: usize) -> Result<(), Alloc
     Ok(())
 }
 
-// Empties the rows of the literals of clauses.
-fn unlist_all(rows: &mut Vec<Vec<usize>>, clauses: &[Clause])
-    ensures { length rows.new.items ≡ length rows.old.items }
+// Takes the numbers from the count on out of the rows of the literals of clauses.
+fn unlist_all(rows: &mut Vec<Vec<usize>>, clauses: &[Clause], count: usize)
+    ensures size { length rows.new.items ≡ length rows.old.items }
+    ensures keeps { (lit : Lit) (number : ℕ) → number < count → Contains (row_of rows.old.items lit) number → Contains (row_of rows.new.items lit) number }
 {
     for clause in clauses {
-        unlist(rows, clause.lits());
+        unlist(rows, clause.lits(), count);
     }
 }
 
-// Empties the rows of literals.
-fn unlist(rows: &mut Vec<Vec<usize>>, lits: &[Lit])
-    ensures { length rows.new.items ≡ length rows.old.items }
+// Takes the numbers from the count on out of the rows of literals.
+fn unlist(rows: &mut Vec<Vec<usize>>, lits: &[Lit], count: usize)
+    ensures size { length rows.new.items ≡ length rows.old.items }
+    ensures keeps { (lit : Lit) (number : ℕ) → number < count → Contains (row_of rows.old.items lit) number → Contains (row_of rows.new.items lit) number }
 {
     for lit in lits {
-        if let Some(row) = rows.get_mut(code(*lit)) {
-            row.clear();
+        shorten(rows, *lit, count);
+    }
+}
+
+// Takes the numbers from the count on off the end of the row of a literal.
+fn shorten(rows: &mut Vec<Vec<usize>>, lit: Lit, count: usize)
+    ensures size { length rows.new.items ≡ length rows.old.items }
+    ensures keeps { (one : Lit) (number : ℕ) → number < count → Contains (row_of rows.old.items one) number → Contains (row_of rows.new.items one) number }
+{
+    let place = code(lit);
+    if place < rows.len() {
+        pop_from(&mut rows[place], count);
+    }
+}
+
+// Takes the numbers from the count on off the end of a row.
+fn pop_from(row: &mut Vec<usize>, count: usize)
+    ensures { (number : ℕ) → number < count → Contains row.old.items number → Contains row.new.items number }
+{
+    while let Some(last) = row.as_slice().last().copied() {
+        if last < count {
+            return;
         }
+        row.pop();
     }
 }

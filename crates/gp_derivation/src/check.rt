@@ -1,15 +1,17 @@
 ghost use Rattle.std.specs.Prelude.{◌≡◌, ◌+◌, ◌<◌, ◌^◌, ◌↔◌, [], ◌++◌, length, slice_get, IsTrue, IfOk, OnOk, MatchOption, All};
 ghost use Rattle.std.specs.Option.{option_map};
-ghost use Rattle.gp_clause.specs.Clause.{NamesBelow};
-ghost use Rattle.gp_clause.specs.Problem.{IsValidKind, IsValidProblem, IsValidQuery};
+ghost use Rattle.gp_clause.specs.Clause.{NamesBelow, NamesOnce};
+ghost use Rattle.gp_clause.specs.Problem.{IsValidProblem, IsValidQuery};
+ghost use Rattle.gp_derivation.specs.Bench.{HasLoaded};
 ghost use Rattle.gp_derivation.specs.Certificate.{clauses_of};
 ghost use Rattle.gp_derivation.specs.Shared.{StepPasses, OwnStepsPass, SharedPasses, PassesOver, FirstFails, FirstOwnFails};
-ghost use Rattle.gp_derivation.specs.Step.{named};
+ghost use Rattle.gp_derivation.specs.Step.{Passes, named};
 
 use crate::bench::Bench;
 use crate::certificate::Certificate;
+use crate::judge::Judge;
 use crate::step::Step;
-use gp_clause::{Clause, Kind, Problem, Query};
+use gp_clause::{Clause, Lit, Problem, Query};
 use std::alloc::{AllocError, Global};
 
 /// Whether each own step of a certificate passes over a shared list whose clauses have variables of the problem and the
@@ -26,12 +28,8 @@ pub fn check_certificate(
     requires shared { All (NamesBelow (length problem.now.kinds + length query.now.locals)) (clauses_of shared.now) }
     ensures { IfOk result (λ passes. IsTrue passes ↔ PassesOver problem.now shared.now query.now certificate.now) }
 {
-    let locals = query.locals.as_slice();
-    let mut hinted = Bench::new(alloc, problem, locals)?;
-    let mut all = all_loaded(alloc, problem, locals)?;
-    let base = problem.clauses.as_slice();
-    let steps = certificate.steps.as_slice();
-    match first_to_fail(&mut hinted, &mut all, base, shared, steps)? {
+    let mut judge = Judge::new(alloc, problem)?;
+    match judge.first_to_fail(problem, shared, query, certificate)? {
         None => Ok(true),
         Some(_) => Ok(false),
     }
@@ -46,31 +44,13 @@ pub fn check_shared(
     requires { IsValidProblem problem.now }
     ensures { IfOk result (λ first. MatchOption first (SharedPasses problem.now shared.now) (FirstFails problem.now shared.now)) }
 {
-    let mut hinted = Bench::new(alloc, problem, &[])?;
-    let mut all = all_loaded(alloc, problem, &[])?;
-    let base = problem.clauses.as_slice();
-    match first_to_fail(&mut hinted, &mut all, base, &[], shared)? {
-        None => Ok(None),
-        Some(place) => Ok(Some(place)),
-    }
+    let mut judge = Judge::new(alloc, problem)?;
+    judge.first_shared_to_fail(problem, shared)
 }
 
-// A bench with all clauses of a problem loaded.
-fn all_loaded(alloc: Global, problem: &Problem, locals: &[Kind]) -> Result<Bench, AllocError>
-    requires valid { IsValidProblem problem.now }
-    requires few { length locals.now < 2 ^ 30 }
-    requires locals { All (IsValidKind problem.now.points) locals.now }
-    ensures { IfOk result (λ bench. bench ≡ record { points = problem.now.points; edges = problem.now.edges; lasting = problem.now.kinds; kinds = problem.now.kinds ++ locals.now; loaded = problem.now.clauses }) }
-{
-    let mut bench = Bench::new(alloc, problem, locals)?;
-    for clause in problem.clauses.as_slice() {
-        bench.load(clause.clone()?)?;
-    }
-    Ok(bench)
-}
-
-// The first of some own steps that fails, by a bench for the steps with hints and one with all base clauses loaded.
-fn first_to_fail(
+// The first of some own steps that fails, by a bench for the steps with hints and one with all base clauses loaded, where
+// the clauses of the steps that pass are left loaded.
+pub(crate) fn first_to_fail(
     hinted: &mut Bench,
     all: &mut Bench,
     base: &[Clause],
@@ -81,7 +61,9 @@ fn first_to_fail(
     requires all { all.old ≡ record hinted.old { loaded = base.now } }
     requires base { All (NamesBelow (length hinted.old.kinds)) base.now }
     requires shared { All (NamesBelow (length hinted.old.kinds)) (clauses_of shared.now) }
-    ensures { IfOk result (λ first. MatchOption first (OwnStepsPass hinted.old.edges hinted.old.kinds base.now (clauses_of shared.now) [] own.now) (FirstOwnFails hinted.old.edges hinted.old.kinds base.now (clauses_of shared.now) own.now)) }
+    ensures first { IfOk result (λ first. MatchOption first (OwnStepsPass hinted.old.edges hinted.old.kinds base.now (clauses_of shared.now) [] own.now) (FirstOwnFails hinted.old.edges hinted.old.kinds base.now (clauses_of shared.now) own.now)) }
+    ensures same { hinted.new ≡ hinted.old }
+    ensures all { HasLoaded all.old all.new }
 {
     for (place, step) in own.iter().enumerate() {
         if !step_passes(hinted, all, base, shared, &own[..place], step)? {
@@ -105,7 +87,7 @@ fn step_passes(
     requires all { all.old ≡ record hinted.old { loaded = base.now ++ clauses_of own.now } }
     requires within { All (NamesBelow (length hinted.old.kinds)) (base.now ++ clauses_of shared.now ++ clauses_of own.now) }
     ensures passes { IfOk result (λ passes. IsTrue passes ↔ StepPasses hinted.old.edges hinted.old.kinds (base.now ++ clauses_of shared.now ++ clauses_of own.now) (base.now ++ clauses_of own.now) step.now) }
-    ensures same { OnOk result (hinted.new ≡ hinted.old) }
+    ensures same { hinted.new ≡ hinted.old }
     ensures all { all.new ≡ all.old }
 {
     let hints = step.hints.as_slice();
@@ -116,10 +98,28 @@ fn step_passes(
     if hints.is_empty() {
         return Ok(all.passes(lits));
     }
-    load_hinted(hinted, base, shared, own, hints)?;
-    let passes = hinted.passes(lits);
+    let outcome = passes_hinted(hinted, base, shared, own, hints, lits);
     hinted.clear();
-    Ok(passes)
+    outcome
+}
+
+// Whether a clause passes with the clauses that hints number, which are left loaded.
+fn passes_hinted(
+    bench: &mut Bench,
+    base: &[Clause],
+    shared: &[Step],
+    own: &[Step],
+    hints: &[u32],
+    lits: &[Lit],
+) -> Result<bool, AllocError>
+    requires empty { bench.old.loaded ≡ [] }
+    requires within { All (NamesBelow (length bench.old.kinds)) (base.now ++ clauses_of shared.now ++ clauses_of own.now) }
+    requires once { NamesOnce lits.now }
+    ensures passes { IfOk result (λ passes. IsTrue passes ↔ Passes bench.old.edges bench.old.kinds (named (base.now ++ clauses_of shared.now ++ clauses_of own.now) hints.now) lits.now) }
+    ensures same { bench.new ≡ record bench.old { loaded = bench.new.loaded } }
+{
+    load_hinted(bench, base, shared, own, hints)?;
+    Ok(bench.passes(lits))
 }
 
 // Whether all hints are below the count.
@@ -139,7 +139,8 @@ fn load_hinted(
 ) -> Result<(), AllocError>
     requires empty { bench.old.loaded ≡ [] }
     requires within { All (NamesBelow (length bench.old.kinds)) (base.now ++ clauses_of shared.now ++ clauses_of own.now) }
-    ensures { OnOk result (bench.new ≡ record bench.old { loaded = named (base.now ++ clauses_of shared.now ++ clauses_of own.now) hints.now }) }
+    ensures ok { OnOk result (bench.new ≡ record bench.old { loaded = named (base.now ++ clauses_of shared.now ++ clauses_of own.now) hints.now }) }
+    ensures same { bench.new ≡ record bench.old { loaded = bench.new.loaded } }
 {
     for hint in hints {
         if let Some(clause) = numbered(base, shared, own, *hint as usize) {

@@ -18,7 +18,7 @@ enough (suc n) (suc m) (word ∷ words) few less =
     ap (λ lines. take 100 (word ∷ words) ∷ lines) (enough n m (drop 99 words) (omega arith) (omega arith))
 
 -- the first line of a list, and the others
-cut_line : (words line rest : List (List ℕ)) → words ≡ line ++ rest → length line ≡ min 100 (length words) → 0 < length words → in_lines words ≡ line ∷ in_lines rest
+pub cut_line : (words line rest : List (List ℕ)) → words ≡ line ++ rest → length line ≡ min 100 (length words) → 0 < length words → in_lines words ≡ line ∷ in_lines rest
 cut_line [] line rest whole full some = absurd (omega arith)
 cut_line (word ∷ words) line rest whole full some =
     let first : take 100 (word ∷ words) ≡ line =

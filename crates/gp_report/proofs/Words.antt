@@ -85,7 +85,7 @@ mapped f P each [] are = tt
 mapped f P each (x ∷ xs) are = (each x are.0, mapped f P each xs are.1)
 
 -- the first byte is at least that of `0`
-abbrev BeginsWithDigit : List ℕ → Type 0
+abbrev pub BeginsWithDigit : List ℕ → Type 0
 BeginsWithDigit [] = ⊥
 BeginsWithDigit (b ∷ bytes) = 48 ≤ b
 
@@ -93,7 +93,7 @@ goes_on : (xs ys : List ℕ) → BeginsWithDigit xs → BeginsWithDigit (xs ++ y
 goes_on [] ys is = absurd is
 goes_on (x ∷ xs) ys is = is
 
-decimal_begins : (n : ℕ) → n < 2 ^ 64 → BeginsWithDigit (decimal n)
+pub decimal_begins : (n : ℕ) → n < 2 ^ 64 → BeginsWithDigit (decimal n)
 decimal_begins n lt =
     decimal_by_steps (λ n digits. BeginsWithDigit digits) (λ n below. omega arith) (λ n digits tens is. goes_on digits _ is) n lt
 

@@ -4,4 +4,6 @@ pub mod Entries
 pub mod Tally
 pub mod Printed
 pub mod Typed
+pub mod Reading
+pub mod Telling
 pub mod Laws

@@ -9,7 +9,7 @@ use crate::record::{
 use gp_derivation::Step;
 
 // The variables that can be told: their numbers from 1 go up to 2^31 - 1.
-const VARIABLES: u32 = 2_147_483_647;
+pub(crate) const VARIABLES: u32 = 2_147_483_647;
 
 // Whether a text can tell a report of these parts.
 pub(crate) fn is_report(format: u32, budget: u64, windows: &[WindowRecord]) -> bool

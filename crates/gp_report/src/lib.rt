@@ -6,16 +6,20 @@
 #![tactic(auto)]
 
 mod checks;
+mod fault;
 mod laws;
 mod lines;
 mod printing;
+mod reading;
 mod record;
 mod report;
 mod spelled;
 mod tally;
 
-pub use laws::reports_are_plain;
+pub use fault::{ReportFault, ReportRule};
+pub use laws::{reads_exactly, reports_are_plain, reports_read_again};
 pub use printing::print_report;
+pub use reading::{ReadReport, read_report};
 pub use record::{
     Answer, Entry, MOST_BUDGET, MOST_ENTRIES, MOST_EVENTS, MOST_WORKERS, PropertyBody,
     PropertyRecord, WindowBody, WindowRecord,

@@ -1,2 +1,10 @@
 mod Answering
-mod Working
+mod Turning
+mod Totals
+mod Holding
+mod Moving
+mod Steps
+mod Ordering
+mod Handing
+mod Jobs
+mod Singles

@@ -1,19 +1,21 @@
 -- What one worker does, and what it has done.
-use Rattle.std.specs.Prelude.{ℕ, ◌≡◌, ◌*◌, ◌≤◌, List, [], ◌∷◌, ◌++◌, length, All}
-use Rattle.std.specs.List.{range_with_len}
+use Rattle.std.specs.Prelude.{ℕ, ◌≡◌, ◌*◌, ◌≤◌, List, [], ◌∷◌, ◌++◌, length, map, slice_get, All, IsSomeAnd}
 use Rattle.gp_clause.specs.declared.problem.Problem.{Problem}
 use Rattle.gp_clause.specs.declared.problem.Query.{Query}
+use Rattle.gp_clause.specs.Valuation.{Meets}
 use Rattle.gp_derivation.specs.declared.log.LogEntry.{LogEntry}
 use Rattle.gp_derivation.specs.declared.record.WorkerRecord.{WorkerRecord}
+use Rattle.gp_derivation.specs.Certificate.{Refutes}
 use Rattle.gp_derivation.specs.Log.{IsLearned}
+use Rattle.gp_derivation.specs.Spent.{HasTurnSpentOn}
 use Rattle.gp_search.specs.declared.verdict.Verdict.{Verdict}
 use Rattle.gp_search.specs.declared.verdict.Verdict.TheVariants as verdict
 use Rattle.gp_search.specs.Verdict.{Learns, turn_of}
+use Rattle.gp_workers.specs.declared.crew.Answered.{Answered}
 use Rattle.gp_workers.specs.declared.work.WorkAnswer.{WorkAnswer}
 use Rattle.gp_workers.specs.declared.work.WorkAnswer.TheVariants as answer
 use Rattle.gp_workers.specs.declared.worker.Worker.{Worker}
 use Rattle.gp_workers.specs.Records.{TurnsCover, tickets_of}
-use Rattle.gp_workers.specs.Work.{AnswerEach}
 
 -- the record of a worker so far
 abbrev pub record_of : Worker → WorkerRecord
@@ -26,21 +28,39 @@ pub record IsFresh (worker : Worker) : Type 0 where
 
 -- a worker took one turn more at the query of a ticket: it learned what was added to its log
 pub record TakesTurn (query : Query) (ticket budget : ℕ) (old new : Worker) : Type 0 where
+  pub number : new.number ≡ old.number
   pub problem : new.search.problem ≡ old.search.problem
   pub log : Learns old.search.problem query budget old.search.log new.search.log
   pub turns : new.turns.items ≡ old.turns.items ++ turn_of ticket (length old.search.log) (length new.search.log) ∷ []
 
--- a worker answered some queries, each in a turn of its own, and learned all of its log in these turns
-pub record HasWorked (problem : Problem) (queries : List Query) (budget : ℕ) (worker : Worker) (answers : List WorkAnswer) : Type 0 where
+-- what the worker of a number answers by a verdict of its search
+abbrev pub answer_by : ℕ → Verdict → WorkAnswer
+answer_by number (verdict.Model valuation) = answer.Model valuation
+answer_by number (verdict.Refuted certificate) = answer.Refuted certificate
+answer_by number (verdict.Spent from to) = answer.Spent number from to
+
+-- what an answer of the worker with this number and this record says of the query with a ticket
+abbrev pub IsAnswerBy : Problem → Query → ℕ → ℕ → WorkerRecord → ℕ → WorkAnswer → Type 0
+IsAnswerBy problem query budget number own ticket (answer.Model valuation) = Meets problem query valuation
+IsAnswerBy problem query budget number own ticket (answer.Refuted certificate) = Refutes problem query certificate
+IsAnswerBy problem query budget number own ticket (answer.Spent worker from to) = (worker ≡ number) × HasTurnSpentOn problem query own ticket budget from to
+
+-- the answer to a ticket is an answer to the query of that place
+abbrev pub AnswersOwn : Problem → List Query → ℕ → ℕ → WorkerRecord → Answered → Type 0
+AnswersOwn problem queries budget number own answered =
+    IsSomeAnd (slice_get queries answered.ticket) (λ query. IsAnswerBy problem query budget number own answered.ticket answered.answer)
+
+-- the tickets that are answered
+abbrev pub answered_tickets : List Answered → List ℕ
+answered_tickets answers = map (λ (answered : Answered). answered.ticket) answers
+
+-- a worker answered the queries of the tickets that it drew, each in a turn of its own, and learned all of its log in these
+-- turns
+pub record HasWorked (problem : Problem) (queries : List Query) (budget : ℕ) (drawn : List ℕ) (worker : Worker) (answers : List Answered) : Type 0 where
   pub searches : worker.search.problem ≡ problem
-  pub answered : AnswerEach problem budget (record_of worker ∷ []) 0 queries answers
-  pub tickets : tickets_of (record_of worker) ≡ range_with_len 0 (length queries)
+  pub answered : All (AnswersOwn problem queries budget worker.number (record_of worker)) answers
+  pub told : answered_tickets answers ≡ drawn
+  pub tickets : tickets_of (record_of worker) ≡ drawn
   pub covered : TurnsCover 0 (length worker.search.log) worker.turns.items
   pub learned : All (λ (entry : LogEntry). IsLearned entry.origin) worker.search.log
-  pub few : length worker.search.log ≤ length queries * budget
-
--- what the first worker answers by a verdict of its search
-abbrev pub answer_by_one : Verdict → WorkAnswer
-answer_by_one (verdict.Model valuation) = answer.Model valuation
-answer_by_one (verdict.Refuted certificate) = answer.Refuted certificate
-answer_by_one (verdict.Spent from to) = answer.Spent 1 from to
+  pub few : length worker.search.log ≤ length drawn * budget

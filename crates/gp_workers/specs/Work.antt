@@ -2,10 +2,12 @@
 use Rattle.std.specs.Prelude.{ℕ, ◌≡◌, ◌+◌, ◌-◌, ◌*◌, ◌≤◌, List, [], ◌∷◌, length, slice_get, All, IsSomeAnd}
 use Rattle.gp_clause.specs.declared.problem.Problem.{Problem}
 use Rattle.gp_clause.specs.declared.problem.Query.{Query}
+use Rattle.gp_clause.specs.Problem.{IsValidProblem, IsValidQuery}
 use Rattle.gp_clause.specs.Valuation.{Meets}
 use Rattle.gp_derivation.specs.declared.record.WorkerRecord.{WorkerRecord}
 use Rattle.gp_derivation.specs.Certificate.{Refutes}
 use Rattle.gp_derivation.specs.Spent.{HasTurnSpentOn}
+use Rattle.gp_search.specs.Verdict.{IsSolvable}
 use Rattle.gp_workers.specs.declared.work.WindowWork.{WindowWork}
 use Rattle.gp_workers.specs.declared.work.WorkAnswer.{WorkAnswer}
 use Rattle.gp_workers.specs.declared.work.WorkAnswer.TheVariants.{Model, Refuted, Spent}
@@ -41,3 +43,10 @@ pub record CanBeWorked (problem : Problem) (queries : List Query) (budget : ℕ)
   pub few_clauses : length problem.clauses ≤ 500000
   pub least : 1 ≤ budget
   pub few : length queries * budget ≤ 1000000
+
+-- what can be asked of workers: valid queries to a valid problem whose edges can be kept, few enough for the budget
+pub record CanBeAsked (problem : Problem) (queries : List Query) (budget : ℕ) : Type 0 where
+  pub valid : IsValidProblem problem
+  pub solvable : IsSolvable problem.edges
+  pub each : All (IsValidQuery problem) queries
+  pub few : CanBeWorked problem queries budget

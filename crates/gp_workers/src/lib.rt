@@ -1,10 +1,24 @@
 // The workers of a window: its queries are answered once each, every answer with its evidence, and every worker keeps a
-// record of what it learned and in which turn. One worker answers them all, in order, by one search.
+// record of what it learned and in which turn.
+//
+// The number of a query is its ticket. Each worker has a search of its own, draws a ticket by one atomic step on a word that
+// all share, answers the query, and ends when none is left. Then their drawers are put together into one, which knows that
+// each ticket was drawn once, and the answers are sorted by ticket. One worker does the same in the calling thread.
 #![tactic(auto)]
 
+mod all;
+mod crew;
+mod drawers;
+mod drawing;
+mod gathering;
 mod one;
+mod ticket_rule;
 mod work;
 mod worker;
+mod working;
 
+pub use all::work_all;
+pub use drawers::{Drawer, Tickets};
 pub use one::work_one;
+pub use ticket_rule::Hand;
 pub use work::{WindowWork, WorkAnswer};

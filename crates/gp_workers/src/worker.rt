@@ -1,8 +1,7 @@
-ghost use Rattle.std.specs.Prelude.{◌≡◌, ◌≤◌, [], ◌∷◌, IfOk, OnOk};
+ghost use Rattle.std.specs.Prelude.{◌≡◌, ◌≤◌, IfOk, OnOk};
 ghost use Rattle.gp_clause.specs.Problem.{IsValidProblem, IsValidQuery};
 ghost use Rattle.gp_search.specs.Verdict.{IsSolvable, HasRoom};
-ghost use Rattle.gp_workers.specs.Inside.{answer_by_one, record_of, IsFresh, TakesTurn};
-ghost use Rattle.gp_workers.specs.Work.{IsAnswerTo};
+ghost use Rattle.gp_workers.specs.Inside.{answer_by, record_of, IsAnswerBy, IsFresh, TakesTurn};
 
 use crate::work::WorkAnswer;
 use gp_clause::{Problem, Query, Row};
@@ -10,28 +9,35 @@ use gp_derivation::{Turn, WorkerRecord};
 use gp_search::{Search, Verdict};
 use std::alloc::{AllocError, Global};
 
-// A worker that takes nothing from others: its search, and its turns so far.
+// A worker that takes nothing from others: its number, from 1, its search, and its turns so far.
 #[derive(Debug, Drop)]
 pub(crate) struct Worker<'a> {
+    pub(crate) number: u32,
     search: Search<'a>,
     turns: Vec<Turn>,
 }
 
 impl<'a> Worker<'a> {
     // A worker before its first turn.
-    pub(crate) fn new(alloc: Global, problem: &'a Problem) -> Result<Worker<'a>, AllocError>
+    pub(crate) fn new(
+        alloc: Global,
+        problem: &'a Problem,
+        number: u32,
+    ) -> Result<Worker<'a>, AllocError>
         requires valid { IsValidProblem problem.now }
         requires solvable { IsSolvable problem.now.edges }
         ensures problem { IfOk result (λ worker. worker.search.problem ≡ problem.now) }
+        ensures number { IfOk result (λ worker. worker.number ≡ number) }
         ensures fresh { IfOk result IsFresh }
     {
         Ok(Worker {
+            number,
             search: Search::new(alloc, problem)?,
             turns: Vec::new(alloc),
         })
     }
 
-    // Answers the query of a ticket in a turn, as the worker of number 1.
+    // Answers the query of a ticket in a turn.
     pub(crate) fn answer(
         &mut self,
         ticket: u64,
@@ -43,7 +49,7 @@ impl<'a> Worker<'a> {
         requires few { HasRoom self.old.search budget }
         ensures turn { OnOk result (TakesTurn query.now ticket budget self.old self.new) }
         ensures answer { IfOk result
-            (IsAnswerTo self.old.search.problem query.now budget (record_of self.new ∷ []) ticket) }
+            (IsAnswerBy self.old.search.problem query.now budget self.old.number (record_of self.new) ticket) }
     {
         let begins = self.search.log().len() as u32;
         let verdict = self.search.ask(query, budget)?;
@@ -54,14 +60,18 @@ impl<'a> Worker<'a> {
             learned: begins,
             ends,
         })?;
-        Ok(answer_of(verdict))
+        Ok(answer_of(self.number, verdict))
     }
 
     // What the worker did. Takes no memory.
     pub(crate) fn into_record(self) -> WorkerRecord
         ensures { result ≡ record_of self.entry }
     {
-        let Worker { search, turns } = self;
+        let Worker {
+            number: _,
+            search,
+            turns,
+        } = self;
         let offered = Row::new(*turns.allocator());
         WorkerRecord {
             log: search.into_log(),
@@ -71,15 +81,15 @@ impl<'a> Worker<'a> {
     }
 }
 
-// The answer of worker 1 by a verdict of its search.
-fn answer_of(verdict: Verdict) -> WorkAnswer
-    ensures { result ≡ answer_by_one verdict }
+// The answer of the worker of a number by a verdict of its search.
+fn answer_of(number: u32, verdict: Verdict) -> WorkAnswer
+    ensures { result ≡ answer_by number verdict }
 {
     match verdict {
         Verdict::Model(valuation) => WorkAnswer::Model(valuation),
         Verdict::Refuted(certificate) => WorkAnswer::Refuted(certificate),
         Verdict::Spent { from, to } => WorkAnswer::Spent {
-            worker: 1,
+            worker: number,
             from,
             to,
         },

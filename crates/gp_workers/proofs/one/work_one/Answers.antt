@@ -1,25 +1,13 @@
--- What the worker did with all queries is the work.
-use Rattle.std.proofs.Common.{◌≡◌, ◌∙◌, sym, ap, subst, List, [], ◌∷◌, All}
-use Rattle.gp_clause.specs.declared.problem.Problem.{Problem}
-use Rattle.gp_clause.specs.Problem.{IsValidQuery}
-use Rattle.gp_derivation.specs.declared.record.WorkerRecord.{WorkerRecord}
-use Rattle.gp_workers.specs.declared.work.WindowWork.{WindowWork}
-use Rattle.gp_workers.specs.declared.work.WorkAnswer.{WorkAnswer}
-use Rattle.gp_workers.specs.Inside.{HasWorked, record_of}
-use Rattle.gp_workers.proofs.Working.{all_done}
+-- What the one worker handed back is the work.
+use Rattle.std.proofs.Common.{◌∙◌, sym, subst, IfOk}
+use Rattle.gp_workers.specs.Work.{IsWork}
 use Rattle.gp_workers.proofs.one.work_one.Goals as goal
-
-pub answer_all-requires-clause-queries : goal.answer_all-requires-clause-queries
-answer_all-requires-clause-queries g c = subst (λ (p : Problem). All (IsValidQuery p) c.args.queries.now) (sym c.in_ok-worker.ensures.problem) c.requires.queries
 
 pub returns : goal.returns
 returns g c =
+    let tickets = c.in_ok-tickets.tickets in
     let problem = c.args.problem.now in
     let queries = c.args.queries.now in
-    let worker = c.answer_all.new.worker in
-    let work : WindowWork = record { answers = c.from_vec.result; records = c.from_vec-2.result } in
-    let worked : HasWorked problem queries c.args.budget worker c.from_vec.result =
-    subst (λ (answers : List WorkAnswer). HasWorked problem queries c.args.budget worker answers) (sym c.from_vec.ensures)
-    (subst (λ (p : Problem). HasWorked p queries c.args.budget worker c.in_ok-answers.answers.items) c.in_ok-worker.ensures.problem c.in_ok-answers.ensures) in
-    let records : c.from_vec-2.result ≡ record_of worker ∷ [] = c.from_vec-2.ensures ∙ c.in_ok-records.ensures.items ∙ ap (λ (own : WorkerRecord). own ∷ []) c.into_record.ensures in
-    all_done problem queries c.args.budget worker work worked records
+    let crew = c.in_ok-tickets.ensures.crew in
+    subst (λ n. IfOk c.into_work.result (IsWork problem queries n c.args.budget)) crew
+    (c.into_work.ensures tickets problem queries c.args.budget (c.in_ok-of.ensures.gathered tickets problem queries c.args.budget c.in_ok-worked.ensures) (c.in_ok-of.ensures.first ∙ sym crew) c.in_ok-tickets.ensures.count)

@@ -1,0 +1,30 @@
+-- A single drawer, before its first draw, after a number and at the end.
+use Rattle.std.proofs.Common.{◌≡◌, ◌∙◌, sym, ap, ℕ, zero, suc, ◌+◌, ◌<◌, List, [], ◌∷◌, Some, length, get_or, arith}
+use Rattle.std.specs.List.{slice_get}
+use Rattle.std.proofs.lemmas.List.{length_push}
+use Rattle.gp_workers.specs.declared.drawers.Drawer.{Drawer}
+use Rattle.gp_workers.specs.declared.drawers.Tickets.{Tickets}
+use Rattle.gp_workers.specs.declared.ticket_rule.Hand.{Hand}
+use Rattle.gp_workers.specs.Drawers.{hand_of, IsDrawerOf, IsSingle, IsUnused}
+use Rattle.gp_workers.specs.Tickets.{drew, told_none}
+
+pub unused_is_single : (tickets : Tickets) (drawer : Drawer) → IsUnused tickets drawer → IsSingle tickets 0 drawer
+unused_is_single tickets drawer is = record { own = is.0; one = ap (λ (h : Hand). h.drawers) is.1; told = ap (λ (h : Hand). h.nones) is.1 }
+
+pub still_single : (tickets : Tickets) (old new : Drawer) (ticket : ℕ) → IsSingle tickets 0 old → IsDrawerOf tickets new → hand_of new ≡ drew (hand_of old) ticket → IsSingle tickets 0 new
+still_single tickets old new ticket single own is = record { own = own; one = ap (λ (h : Hand). h.drawers) is ∙ single.one; told = ap (λ (h : Hand). h.nones) is ∙ single.told }
+
+pub told_single : (tickets : Tickets) (old new : Drawer) → IsSingle tickets 0 old → IsDrawerOf tickets new → hand_of new ≡ told_none (hand_of old) → IsSingle tickets 1 new
+told_single tickets old new single own is = record { own = own; one = ap (λ (h : Hand). h.drawers) is ∙ single.one; told = ap (λ (h : Hand). h.nones) is ∙ ap (λ n. n + 1) single.told }
+
+-- a drawer that drew one number more had drawn fewer than there are
+pub fewer_drawn : (tickets : Tickets) (old new : Drawer) (ticket : ℕ) → IsDrawerOf tickets new → hand_of new ≡ drew (hand_of old) ticket → length (hand_of old).drawn < tickets.count
+fewer_drawn tickets old new ticket own is =
+    let more : length (hand_of new).drawn ≡ length (hand_of old).drawn + 1 = ap (λ (h : Hand). length h.drawn) is ∙ length_push (hand_of old).drawn ticket in
+    omega (arith, more, new.sound.few, own.same_count)
+
+-- what an index names is there
+pub there : {X : Type 0} (xs : List X) (i : ℕ) (x : X) → i < length xs → x ≡ get_or xs i x → slice_get xs i ≡ Some x
+there [] i x within is = absurd (omega (arith, within))
+there (y ∷ xs) zero x within is = ap Some (sym is)
+there (y ∷ xs) (suc i) x within is = there xs i x (omega (arith, within)) is

@@ -1,0 +1,14 @@
+use Rattle.std.proofs.Common.{◌≡◌, ◌-◌, length}
+use Rattle.gp_workers.specs.Drawers.{hand_of, IsSingle}
+use Rattle.gp_workers.specs.Inside.{HasWorked}
+use Rattle.gp_workers.proofs.working.answer_drawn.Given as goal
+
+abbrev pub decreases-loop-ticket : goal.decreases-loop-ticket
+decreases-loop-ticket g l = length l.queries - length (hand_of l.drawer).drawn
+
+abbrev pub invariant-loop-ticket : goal.invariant-loop-ticket
+invariant-loop-ticket g l = record {
+  number : l.worker.number ≡ l.initial.worker.number;
+  single : IsSingle l.tickets 0 l.drawer;
+  worked : HasWorked l.initial.worker.search.problem l.queries l.budget (hand_of l.drawer).drawn l.worker l.answers.items;
+}

@@ -1,0 +1,33 @@
+use crate::drawers::Drawer;
+use crate::work::WorkAnswer;
+use gp_derivation::WorkerRecord;
+
+// The answer to the query of a ticket.
+#[derive(Debug, Drop)]
+pub(crate) struct Answered {
+    pub(crate) ticket: u64,
+    pub(crate) answer: WorkAnswer,
+}
+
+// What a worker does: its number, from 1, and the drawer of its tickets.
+#[derive(Drop)]
+pub(crate) struct Job {
+    pub(crate) number: u32,
+    pub(crate) drawer: Drawer,
+}
+
+// What a worker hands back: its answers in the order in which it drew their tickets, its record, and its drawer.
+#[derive(Drop)]
+pub(crate) struct Worked {
+    pub(crate) answers: Vec<Answered>,
+    pub(crate) record: WorkerRecord,
+    pub(crate) drawer: Drawer,
+}
+
+// What was gathered of the first workers: their answers, their records by number, and one drawer for theirs.
+#[derive(Drop)]
+pub(crate) struct Gathered {
+    pub(crate) answers: Vec<Answered>,
+    pub(crate) records: Vec<WorkerRecord>,
+    pub(crate) drawer: Drawer,
+}

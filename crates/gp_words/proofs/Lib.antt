@@ -1,0 +1,4 @@
+pub mod Names
+pub mod Permuted
+pub mod Walks
+pub mod WordForms

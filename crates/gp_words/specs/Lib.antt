@@ -1,0 +1,6 @@
+pub mod Argument
+pub mod Reading
+pub mod Value
+pub mod Command
+pub mod Order
+pub mod Forms

@@ -1,0 +1,95 @@
+ghost use Rattle.std.specs.Prelude.{◌≡◌, option_map};
+ghost use Rattle.gp_words.specs.Reading.{gives, is_hyphened, is_option_word, read_any, read_option, read_word, reading_form};
+
+use crate::argument::{Argument, option_named};
+
+/// What the next word may be.
+#[derive(Clone, Copy, Debug)]
+pub enum Expected {
+    /// An option, a plain word, or the end of the options.
+    AnyWord,
+    /// The value of this option, whose name was the last word.
+    ValueOf(Argument),
+    /// A plain word, since the options have ended.
+    PlainWord,
+}
+
+/// An option with its value, or the folder with the plain word that names it.
+#[derive(Clone, Copy, Debug)]
+pub struct Given<'a> {
+    pub argument: Argument,
+    pub value: &'a str,
+}
+
+/// What one word gives, and what may come after it.
+#[derive(Clone, Copy, Debug)]
+pub struct Reading<'a> {
+    pub given: Option<Given<'a>>,
+    pub next: Expected,
+}
+
+/// Reads one word. It is refused where it cannot come here.
+pub fn read_word(expected: Expected, word: &str) -> Option<Reading<'_>>
+    ensures { option_map reading_form result ≡ read_word expected word.now }
+{
+    match expected {
+        Expected::AnyWord => read_any(word),
+        Expected::ValueOf(_) if is_hyphened(word) => None,
+        Expected::ValueOf(option) => Some(gives(option, word, Expected::AnyWord)),
+        Expected::PlainWord => Some(gives(Argument::Folder, word, Expected::PlainWord)),
+    }
+}
+
+fn read_any(word: &str) -> Option<Reading<'_>>
+    ensures { option_map reading_form result ≡ read_any word.now }
+{
+    if word == "--" {
+        Some(Reading {
+            given: None,
+            next: Expected::PlainWord,
+        })
+    } else if is_option_word(word) {
+        read_option(word)
+    } else {
+        Some(gives(Argument::Folder, word, Expected::AnyWord))
+    }
+}
+
+fn read_option(word: &str) -> Option<Reading<'_>>
+    ensures { option_map reading_form result ≡ read_option word.now }
+{
+    match word.split_once('=') {
+        Some((name, value)) => Some(gives(option_named(name)?, value, Expected::AnyWord)),
+        None => Some(Reading {
+            given: None,
+            next: Expected::ValueOf(option_named(word)?),
+        }),
+    }
+}
+
+fn gives<'a>(argument: Argument, value: &'a str, next: Expected) -> Reading<'a>
+    ensures { reading_form result ≡ gives argument value.now next }
+{
+    Reading {
+        given: Some(Given { argument, value }),
+        next,
+    }
+}
+
+fn is_hyphened(word: &str) -> bool
+    ensures { result ≡ is_hyphened word.now }
+{
+    match word.as_bytes() {
+        [] => false,
+        [first, ..] => *first == b'-',
+    }
+}
+
+fn is_option_word(word: &str) -> bool
+    ensures { result ≡ is_option_word word.now }
+{
+    match word.as_bytes() {
+        [] | [_] => false,
+        [first, _, ..] => *first == b'-',
+    }
+}

@@ -1,0 +1,34 @@
+ghost use Rattle.std.specs.Prelude.{◌≡◌};
+ghost use Rattle.gp_words.specs.Command.{task_named};
+
+/// What the program is asked to do.
+#[derive(Clone, Copy, Debug, PartialEq, Eq)]
+pub enum Task {
+    /// To answer each instance of each property in each window.
+    Analyse,
+    /// To list these instances.
+    List,
+    /// To say whether a schedule can happen.
+    Replay,
+    /// To check the evidence in a report again.
+    Check,
+    /// To make a recording, and properties for it.
+    Make,
+    /// To print a report with its shared steps once.
+    Compact,
+}
+
+/// The task of this name.
+pub fn task_named(name: &str) -> Option<Task>
+    ensures { result ≡ task_named name.now }
+{
+    match name {
+        "analyse" => Some(Task::Analyse),
+        "list" => Some(Task::List),
+        "replay" => Some(Task::Replay),
+        "check" => Some(Task::Check),
+        "make" => Some(Task::Make),
+        "compact" => Some(Task::Compact),
+        _ => None,
+    }
+}

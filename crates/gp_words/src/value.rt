@@ -1,0 +1,43 @@
+ghost use Rattle.std.specs.Prelude.{◌≡◌, map, option_map, string_bytes};
+ghost use Rattle.gp_words.specs.Reading.{given_form};
+ghost use Rattle.gp_words.specs.Value.{value_now, value_of};
+
+use crate::argument::Argument;
+use crate::reading::{Expected, Given, read_word};
+
+/// The value that the words give an argument, where they give one. They are refused where one of them
+/// is, where an option waits for a value at their end, and where the argument is given twice.
+///
+/// Each argument is looked up by a walk of its own, since the words are few and nothing is stored so.
+pub fn value_of(words: &[String], argument: Argument) -> Option<Option<&str>>
+    ensures { option_map (option_map (λ value. value.now)) result ≡ value_of argument (map string_bytes words.now) }
+{
+    let mut expected = Expected::AnyWord;
+    let mut value = None;
+    for word in words {
+        let reading = read_word(expected, word.as_str())?;
+        value = value_now(value, reading.given, argument)?;
+        expected = reading.next;
+    }
+    match expected {
+        Expected::ValueOf(_) => None,
+        Expected::AnyWord | Expected::PlainWord => Some(value),
+    }
+}
+
+/// The value so far, or the one that was given now; both are refused.
+fn value_now<'a>(
+    value: Option<&'a str>,
+    given: Option<Given<'a>>,
+    argument: Argument,
+) -> Option<Option<&'a str>>
+    ensures { option_map (option_map (λ value. value.now)) result ≡ value_now argument (option_map (λ value. value.now) value.entry) (option_map given_form given.entry) }
+{
+    match given {
+        Some(given) if given.argument == argument => match value {
+            None => Some(Some(given.value)),
+            Some(_) => None,
+        },
+        _ => Some(value),
+    }
+}

@@ -1,0 +1,5 @@
+pub mod Growing
+pub mod Traces
+pub mod Runs
+pub mod Leading
+pub mod Apart

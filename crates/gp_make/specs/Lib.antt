@@ -1,0 +1,8 @@
+pub mod Draws
+pub mod Files
+pub mod MadeFileForm
+pub mod Program
+pub mod Run
+pub mod Texts
+pub mod Traces
+pub mod Writing

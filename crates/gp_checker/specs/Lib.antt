@@ -1,0 +1,9 @@
+pub mod First
+pub mod Reasons
+pub mod Accepted
+pub mod Rejected
+pub mod Checked
+pub mod Sound
+pub mod Basis
+pub mod Laws
+pub mod WindowLaws

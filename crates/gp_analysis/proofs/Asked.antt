@@ -8,11 +8,13 @@ use Rattle.gp_clause.specs.declared.problem.Query.{Query}
 use Rattle.gp_clause.specs.Problem.{IsValidQuery}
 use Rattle.gp_constraint.specs.Base.{base_of}
 use Rattle.gp_constraint.specs.Encoded.{EncodedForm}
+use Rattle.gp_constraint.specs.EncodedLaws.{IsEncoded, few_clauses, query_valid}
 use Rattle.gp_constraint.specs.Query.{query_of}
 use Rattle.gp_instance.specs.declared.instance.Instance.{Instance}
 use Rattle.gp_instance.specs.declared.instance.InstancesFault.{InstancesFault}
 use Rattle.gp_instance.specs.declared.instance.InstancesFault.TheVariants.{Memory, TooMany}
 use Rattle.gp_instance.specs.Instances.{due_instances}
+use Rattle.gp_instance.specs.ListedLaws.{AreListed, IsListed, are_listed}
 use Rattle.gp_property.specs.Property.{IsProperty}
 use Rattle.gp_property.specs.PropertyForm.{PropertyForm}
 use Rattle.gp_window.specs.WindowForm.{WindowForm}
@@ -21,8 +23,6 @@ use Rattle.gp_workers.specs.Work.{CanBeWorked, IsWork}
 use Rattle.gp_analysis.specs.Laws.{Laws}
 use Rattle.gp_analysis.specs.Queries.{found_of, queries_from, queries_of}
 use Rattle.gp_analysis.specs.Tickets.{found_count, properties_count}
-use Rattle.gp_analysis.proofs.Bounds.{IsEncoded, few_clauses}
-use Rattle.gp_analysis.proofs.Found.{AreListed, IsListed, are_listed}
 
 own_count : (window : WindowForm) (property : PropertyForm) (due : Result (List Instance) InstancesFault) → length (queries_of window property (found_of due)) ≡ found_count due
 own_count window property (Ok found) = length-map found (λ (instance : Instance). query_of window property instance.events)
@@ -37,17 +37,12 @@ query_count window number (property ∷ properties) =
     let both = length-append (queries_of window property (found_of (due_instances window property number))) (queries_from window (number + 1) properties) in
     omega (arith, own, rest, both)
 
--- the query of a listed instance is valid
-pub query_valid : Laws → (window : WindowForm) (encoded : EncodedForm) → IsEncoded window encoded → (property : PropertyForm) (instance : Instance)
-    → IsListed window property instance.events → IsValidQuery (base_of window) (query_of window property instance.events)
-query_valid laws window encoded is property instance listed = laws.valid.query window property instance.events is.points listed.few listed.instance
-
 each_valid : Laws → (window : WindowForm) (encoded : EncodedForm) → IsEncoded window encoded → (property : PropertyForm) (found : List Instance)
     → AllByRecursion (λ (instance : Instance). IsListed window property instance.events) found → All (IsValidQuery (base_of window)) (queries_of window property (Some found))
 each_valid laws window encoded is property [] listed = All-nil (IsValidQuery (base_of window))
 each_valid laws window encoded is property (instance ∷ found) listed =
     All-cons (IsValidQuery (base_of window)) (query_of window property instance.events) (queries_of window property (Some found))
-    (query_valid laws window encoded is property instance listed.0) (each_valid laws window encoded is property found listed.1)
+    (query_valid laws.valid window encoded is property instance.events listed.0.few listed.0.instance) (each_valid laws window encoded is property found listed.1)
 
 own_valid : Laws → (window : WindowForm) (encoded : EncodedForm) → IsEncoded window encoded → (property : PropertyForm) (due : Result (List Instance) InstancesFault)
     → AreListed window property due → All (IsValidQuery (base_of window)) (queries_of window property (found_of due))
@@ -74,7 +69,7 @@ can_be_worked window encoded is properties budget least limit = record {
 }
 
 -- the work on the queries is work on those of the window
-pub is_work : (window : WindowForm) (properties : List PropertyForm) (problem : Problem) (queries : List Query) (budget : ℕ) (work : WindowWork) → problem ≡ base_of window → queries ≡ queries_from window 0 properties
-    → IsWork problem queries 1 budget work → IsWork (base_of window) (queries_from window 0 properties) 1 budget work
-is_work window properties problem queries budget work own asked is =
-    subst (λ (p : Problem). IsWork p (queries_from window 0 properties) 1 budget work) own (subst (λ (qs : List Query). IsWork problem qs 1 budget work) asked is)
+pub is_work : (window : WindowForm) (properties : List PropertyForm) (problem : Problem) (queries : List Query) (count budget : ℕ) (work : WindowWork) → problem ≡ base_of window → queries ≡ queries_from window 0 properties
+    → IsWork problem queries count budget work → IsWork (base_of window) (queries_from window 0 properties) count budget work
+is_work window properties problem queries count budget work own asked is =
+    subst (λ (p : Problem). IsWork p (queries_from window 0 properties) count budget work) own (subst (λ (qs : List Query). IsWork problem qs count budget work) asked is)

@@ -5,6 +5,7 @@ use Rattle.gp_clause.specs.declared.problem.Query.{Query}
 use Rattle.gp_clause.specs.Problem.{IsValidQuery}
 use Rattle.gp_constraint.specs.Base.{base_of}
 use Rattle.gp_constraint.specs.Encoded.{EncodedForm, base_due}
+use Rattle.gp_constraint.specs.EncodedLaws.{IsEncoded, is_encoded, is_valid, query_valid}
 use Rattle.gp_constraint.specs.Query.{query_of}
 use Rattle.gp_derivation.specs.declared.certificate.Certificate.{Certificate}
 use Rattle.gp_derivation.specs.declared.record.WorkerRecord.{WorkerRecord}
@@ -12,6 +13,7 @@ use Rattle.gp_derivation.specs.Certificate.{Refutes}
 use Rattle.gp_instance.specs.declared.instance.Instance.{Instance}
 use Rattle.gp_instance.specs.declared.instance.InstancesFault.{InstancesFault}
 use Rattle.gp_instance.specs.declared.instance.InstancesFault.TheVariants.{Memory, TooMany}
+use Rattle.gp_instance.specs.ListedLaws.{AreListed, IsListed}
 use Rattle.gp_property.specs.PropertyForm.{PropertyForm}
 use Rattle.gp_report.specs.declared.record.Answer.{Answer}
 use Rattle.gp_report.specs.declared.record.Answer.TheVariants.{Found, Impossible, Undecided}
@@ -28,9 +30,6 @@ use Rattle.gp_analysis.specs.Laws.{Laws}
 use Rattle.gp_analysis.specs.Queries.{found_of, queries_of}
 use Rattle.gp_analysis.specs.Telling.{CanTell, CanTellEach, IsSound, TellsAnswer, TellsEach, TellsFound}
 use Rattle.gp_analysis.specs.Tickets.{found_count}
-use Rattle.gp_analysis.proofs.Asked.{query_valid}
-use Rattle.gp_analysis.proofs.Bounds.{IsEncoded, is_encoded, is_valid}
-use Rattle.gp_analysis.proofs.Found.{AreListed, IsListed}
 
 -- what is known of a window whose workers share no steps
 abbrev pub unshared : ℕ → List WorkerRecord → Evidence
@@ -90,7 +89,7 @@ each_answered window can budget ticket workers property [] more answers (entry �
 each_answered window can budget ticket workers property (instance ∷ found) more [] entries left listed each tells = absurd each
 each_answered window can budget ticket workers property (instance ∷ found) more (answer ∷ answers) [] left listed each tells = absurd tells
 each_answered window can budget ticket workers property (instance ∷ found) more (answer ∷ answers) (entry ∷ entries) left listed each tells =
-    let valid = query_valid can.laws window can.encoded can.is property instance listed.0 in
+    let valid = query_valid can.laws.valid window can.encoded can.is property instance.events listed.0.few listed.0.instance in
     let rest = each_answered window can budget (ticket + 1) workers property found more answers entries left listed.1 each.1 tells.2 in
     ((tells.0, one_answered window can budget ticket workers property instance.events answer entry.answer valid each.0 tells.1, rest.0), λ next is. rest.1 next (omega (arith, is)))
 

@@ -9,6 +9,7 @@ use Rattle.gp_clause.specs.declared.lit.Lit.{Lit}
 use Rattle.gp_clause.specs.declared.problem.Query.{Query}
 use Rattle.gp_clause.specs.Problem.{IsValidProblem, IsValidQuery}
 use Rattle.gp_constraint.specs.Base.{base_of}
+use Rattle.gp_constraint.specs.EncodedLaws.{is_valid, query_valid}
 use Rattle.gp_constraint.specs.Query.{query_of}
 use Rattle.gp_derivation.specs.declared.record.WorkerRecord.{WorkerRecord}
 use Rattle.gp_derivation.specs.declared.step.Step.{Step}
@@ -17,6 +18,7 @@ use Rattle.gp_instance.specs.declared.instance.Instance.{Instance}
 use Rattle.gp_instance.specs.declared.instance.InstancesFault.{InstancesFault}
 use Rattle.gp_instance.specs.declared.instance.InstancesFault.TheVariants.{Memory, TooMany}
 use Rattle.gp_instance.specs.Instances.{due_instances}
+use Rattle.gp_instance.specs.ListedLaws.{AreListed, IsListed, are_listed}
 use Rattle.gp_property.specs.Property.{IsProperty}
 use Rattle.gp_property.specs.PropertyForm.{PropertyForm}
 use Rattle.gp_report.specs.declared.record.Answer.{Answer}
@@ -30,10 +32,7 @@ use Rattle.gp_window.specs.declared.schedule.EventId.{EventId}
 use Rattle.gp_window.specs.WindowForm.{WindowForm}
 use Rattle.gp_analysis.specs.Answered.{AnswersEach, AnswersListed, AnswersProperties, IsAnswer}
 use Rattle.gp_analysis.specs.Tickets.{found_count}
-use Rattle.gp_analysis.proofs.Asked.{query_valid}
-use Rattle.gp_analysis.proofs.Bounds.{is_valid}
 use Rattle.gp_analysis.proofs.Evidence.{IsAnswerable, unshared}
-use Rattle.gp_analysis.proofs.Found.{AreListed, IsListed, are_listed}
 
 told_steps : (edges : List Edge) (kinds : List Kind) (earlier : List (List Lit)) (steps : List Step) → length kinds < 2 ^ 31 - 1 → StepsCheck edges kinds earlier steps → All IsToldStep steps
 told_steps edges kinds earlier [] few checks = All-nil IsToldStep
@@ -76,7 +75,7 @@ told_entries window can budget ticket workers few property (instance ∷ found) 
 told_entries window can budget ticket workers few property (instance ∷ found) (entry ∷ entries) listed each =
     let rest = told_entries window can budget (ticket + 1) workers few property found entries listed.1 each.2 in
     let size : length entry.events ≡ length instance.events = ap (λ (ids : List EventId). length ids) each.0 in
-    let valid = query_valid can.laws window can.encoded can.is property instance listed.0 in
+    let valid = query_valid can.laws.valid window can.encoded can.is property instance.events listed.0.few listed.0.instance in
     record {
       size = ap suc rest.size;
       each = All-cons IsEntry entry entries (record {

@@ -1,5 +1,3 @@
-mod Found
-mod Bounds
 mod Asked
 mod Gathered
 mod Evidence
@@ -8,3 +6,4 @@ mod Told
 mod OnWay
 mod Windows
 mod Agreement
+mod Acceptance

@@ -8,6 +8,7 @@ use Rattle.gp_derivation.specs.declared.record.WorkerRecord.{WorkerRecord}
 use Rattle.gp_derivation.specs.declared.step.Step.{Step}
 use Rattle.gp_instance.specs.declared.instance.Instance.{Instance}
 use Rattle.gp_instance.specs.Instances.{due_instances}
+use Rattle.gp_instance.specs.ListedLaws.{are_listed}
 use Rattle.gp_property.specs.Property.{IsProperty}
 use Rattle.gp_property.specs.PropertyForm.{PropertyForm}
 use Rattle.gp_report.specs.declared.record.PropertyRecord.{PropertyRecord}
@@ -26,7 +27,6 @@ use Rattle.gp_analysis.specs.Tickets.{found_count, properties_count}
 use Rattle.gp_analysis.proofs.Asked.{query_count}
 use Rattle.gp_analysis.proofs.Evidence.{IsAnswerable, can_tell, found_answered, unshared}
 use Rattle.gp_analysis.proofs.Fitting.{told_records}
-use Rattle.gp_analysis.proofs.Found.{are_listed}
 use Rattle.gp_analysis.proofs.Gathered.{rest_at}
 
 -- some properties are answered, and with what answers the rest, the first of which has this number, they are all
@@ -37,9 +37,9 @@ pub record IsOnWay (window : WindowForm) (all rest : List PropertyForm) (budget 
   pub told : (more : List PropertyRecord) → AnswersProperties window (unshared budget workers) number ticket rest more → AnswersProperties window (unshared budget workers) 0 0 all (records ++ more)
 
 -- at first
-pub none_answered : (window : WindowForm) (all : List PropertyForm) (budget : ℕ) (work : WindowWork) (found : List (Option (List Instance))) (left : List WorkAnswer) (records : List PropertyRecord)
-    → found ≡ found_from window 0 all → left ≡ work.answers → records ≡ [] → IsWork (base_of window) (queries_from window 0 all) 1 budget work → IsOnWay window all all budget 0 work.records found left records
-none_answered window all budget work found left records lists answers none is = record {
+pub none_answered : (window : WindowForm) (all : List PropertyForm) (count budget : ℕ) (work : WindowWork) (found : List (Option (List Instance))) (left : List WorkAnswer) (records : List PropertyRecord)
+    → found ≡ found_from window 0 all → left ≡ work.answers → records ≡ [] → IsWork (base_of window) (queries_from window 0 all) count budget work → IsOnWay window all all budget 0 work.records found left records
+none_answered window all count budget work found left records lists answers none is = record {
   ticket = 0;
   lists = lists;
   answers = subst (AnswerEach (base_of window) budget work.records 0 (queries_from window 0 all)) (sym answers) is.answers;
@@ -88,34 +88,34 @@ all_answered window all budget number workers found left records way =
     subst (λ rs. AnswersProperties window (unshared budget workers) 0 0 all rs) (append-nil records) (way.told [] tt)
 
 -- until all are; then the record answers the window, and can be told
-pub record IsDone (window : WindowForm) (properties : List PropertyForm) (budget : ℕ) (told : WindowRecord) : Type 0 where
-  pub answered : AnswersWindow properties 1 budget window told
+pub record IsDone (window : WindowForm) (properties : List PropertyForm) (count budget : ℕ) (told : WindowRecord) : Type 0 where
+  pub answered : AnswersWindow properties count budget window told
   pub fits : IsWindowRecord 1 told
 
-pub all_done : (window : WindowForm) → IsAnswerable window → (encoded : EncodedForm) → base_due window ≡ Ok encoded → (properties : List PropertyForm) → All IsProperty properties → (budget number place : ℕ) (work : WindowWork)
-    (found : List (Option (List Instance))) (left : List WorkAnswer) (records : List PropertyRecord) (shared : List Step) (workers : List WorkerRecord) → IsWork (base_of window) (queries_from window 0 properties) 1 budget work
+pub all_done : (window : WindowForm) → IsAnswerable window → (encoded : EncodedForm) → base_due window ≡ Ok encoded → (properties : List PropertyForm) → All IsProperty properties → (count budget number place : ℕ) → count ≤ 16 → (work : WindowWork)
+    (found : List (Option (List Instance))) (left : List WorkAnswer) (records : List PropertyRecord) (shared : List Step) (workers : List WorkerRecord) → IsWork (base_of window) (queries_from window 0 properties) count budget work
     → IsOnWay window properties [] budget place work.records found left records → shared ≡ [] → workers ≡ work.records
-    → IsDone window properties budget (record { number = number; shared = shared; body = told.Answers records; records = workers })
-all_done window can encoded due properties are budget number place work found left records shared workers is way none same =
-    subst (λ (steps : List Step). IsDone window properties budget (record { number = number; shared = steps; body = told.Answers records; records = workers })) (sym none)
-    (subst (λ (others : List WorkerRecord). IsDone window properties budget (record { number = number; shared = []; body = told.Answers records; records = others })) (sym same) done)
+    → IsDone window properties count budget (record { number = number; shared = shared; body = told.Answers records; records = workers })
+all_done window can encoded due properties are count budget number place most work found left records shared workers is way none same =
+    subst (λ (steps : List Step). IsDone window properties count budget (record { number = number; shared = steps; body = told.Answers records; records = workers })) (sym none)
+    (subst (λ (others : List WorkerRecord). IsDone window properties count budget (record { number = number; shared = []; body = told.Answers records; records = others })) (sym same) done)
   where
     answers : AnswersProperties window (unshared budget work.records) 0 0 properties records
     answers = all_answered window properties budget place work.records found left records way
 
-    own : AreWorkers (base_of window) 1 (properties_count window 0 properties) work.records
+    own : AreWorkers (base_of window) count (properties_count window 0 properties) work.records
     own = record {
       counted = is.workers;
       each = is.records;
       once = subst (λ n. EachOnce n work.records) (query_count window 0 properties) is.once;
     }
 
-    done : IsDone window properties budget (record { number = number; shared = []; body = told.Answers records; records = work.records })
+    done : IsDone window properties count budget (record { number = number; shared = []; body = told.Answers records; records = work.records })
     done = record {
-      answered = subst (λ due. AnswersBody window properties 1 (unshared budget work.records) due (told.Answers records)) (sym due) (answers, own);
+      answered = subst (λ due. AnswersBody window properties count (unshared budget work.records) due (told.Answers records)) (sym due) (answers, own);
       fits = record {
         shared = All-nil IsToldStep;
         first_format = λ one. refl;
-        body = told_records window can budget 0 0 work.records (omega (arith, is.workers)) properties records (recursion_from_All IsProperty properties are) answers;
+        body = told_records window can budget 0 0 work.records (omega (arith, is.workers, most)) properties records (recursion_from_All IsProperty properties are) answers;
       };
     }

@@ -89,20 +89,20 @@ zip_more R (first ∷ windows) [] window told each own = absurd each
 zip_more R (first ∷ windows) (other ∷ records) window told each own = (each.0, zip_more R windows records window told each.1 own)
 
 -- the windows before k are told: each record has its number, answers its window and fits
-pub record AreTold (r : RecordingForm) (ps : List PropertyForm) (budget k : ℕ) (records : List WindowRecord) : Type 0 where
+pub record AreTold (r : RecordingForm) (ps : List PropertyForm) (count budget k : ℕ) (records : List WindowRecord) : Type 0 where
   pub place : k ≡ length records + 1
   pub numbered : map (λ (told : WindowRecord). told.number) records ≡ numbers_from 1 (length records)
-  pub answered : AllZip (AnswersWindow ps 1 budget) (map (window_of r) (numbers_from 1 (length records))) records
+  pub answered : AllZip (AnswersWindow ps count budget) (map (window_of r) (numbers_from 1 (length records))) records
   pub fit : All (IsWindowRecord 1) records
 
 -- at first none is
-pub none_told : (r : RecordingForm) (ps : List PropertyForm) (budget k : ℕ) → k ≡ 1 → AreTold r ps budget k []
-none_told r ps budget k is = record { place = is; numbered = refl; answered = tt; fit = All-nil (IsWindowRecord 1) }
+pub none_told : (r : RecordingForm) (ps : List PropertyForm) (count budget k : ℕ) → k ≡ 1 → AreTold r ps count budget k []
+none_told r ps count budget k is = record { place = is; numbered = refl; answered = tt; fit = All-nil (IsWindowRecord 1) }
 
 -- then one window more is
-one_told : (r : RecordingForm) (ps : List PropertyForm) (budget k : ℕ) (records : List WindowRecord) (told : WindowRecord) → AreTold r ps budget k records → told.number ≡ k
-    → AnswersWindow ps 1 budget (window_of r k) told → IsWindowRecord 1 told → AreTold r ps budget (k + 1) (records ++ told ∷ [])
-one_told r ps budget k records told before number answered fit =
+one_told : (r : RecordingForm) (ps : List PropertyForm) (count budget k : ℕ) (records : List WindowRecord) (told : WindowRecord) → AreTold r ps count budget k records → told.number ≡ k
+    → AnswersWindow ps count budget (window_of r k) told → IsWindowRecord 1 told → AreTold r ps count budget (k + 1) (records ++ told ∷ [])
+one_told r ps count budget k records told before number answered fit =
     let size : length (records ++ told ∷ []) ≡ length records + 1 = length_push records told in
     let place : 1 + length records ≡ k = omega (arith, before.place) in
     let numbers : numbers_from 1 (length (records ++ told ∷ [])) ≡ numbers_from 1 (length records) ++ k ∷ [] =
@@ -113,28 +113,28 @@ one_told r ps budget k records told before number answered fit =
       place = omega (arith, size, before.place);
       numbered = map-append (λ (w : WindowRecord). w.number) records (told ∷ []) ∙ ap (λ (ns : List ℕ). ns ++ told.number ∷ []) before.numbered
           ∙ ap (λ (n : ℕ). numbers_from 1 (length records) ++ n ∷ []) number ∙ sym numbers;
-      answered = subst (λ (ws : List WindowForm). AllZip (AnswersWindow ps 1 budget) ws (records ++ told ∷ [])) (sym windows)
-          (zip_more (AnswersWindow ps 1 budget) (map (window_of r) (numbers_from 1 (length records))) records (window_of r k) told before.answered answered);
+      answered = subst (λ (ws : List WindowForm). AllZip (AnswersWindow ps count budget) ws (records ++ told ∷ [])) (sym windows)
+          (zip_more (AnswersWindow ps count budget) (map (window_of r) (numbers_from 1 (length records))) records (window_of r k) told before.answered answered);
       fit = All-push (IsWindowRecord 1) records told before.fit fit;
     }
 
 -- the same of the window at which a walk stands
-pub next_told : (r : RecordingForm) (ps : List PropertyForm) (budget : ℕ) (walk : WalkForm) (window : WindowForm) (records more : List WindowRecord) (told : WindowRecord) → walk.recording ≡ r → window ≡ window_of walk.recording walk.number
-    → AreTold r ps budget walk.number records → told.number ≡ window.number → AnswersWindow ps 1 budget window told → IsWindowRecord 1 told → more ≡ records ++ told ∷ [] → AreTold r ps budget (walk.number + 1) more
-next_told r ps budget walk window records more told same cut before number answered fit pushed =
+pub next_told : (r : RecordingForm) (ps : List PropertyForm) (count budget : ℕ) (walk : WalkForm) (window : WindowForm) (records more : List WindowRecord) (told : WindowRecord) → walk.recording ≡ r → window ≡ window_of walk.recording walk.number
+    → AreTold r ps count budget walk.number records → told.number ≡ window.number → AnswersWindow ps count budget window told → IsWindowRecord 1 told → more ≡ records ++ told ∷ [] → AreTold r ps count budget (walk.number + 1) more
+next_told r ps count budget walk window records more told same cut before number answered fit pushed =
     let here : window ≡ window_of r walk.number = cut ∙ ap (λ s. window_of s walk.number) same in
-    subst (AreTold r ps budget (walk.number + 1)) (sym pushed)
-    (one_told r ps budget walk.number records told before (number ∙ ap (λ (w : WindowForm). w.number) here) (subst (λ w. AnswersWindow ps 1 budget w told) here answered) fit)
+    subst (AreTold r ps count budget (walk.number + 1)) (sym pushed)
+    (one_told r ps count budget walk.number records told before (number ∙ ap (λ (w : WindowForm). w.number) here) (subst (λ w. AnswersWindow ps count budget w told) here answered) fit)
 
 -- what was told so far is a report
-pub is_report : (r : RecordingForm) (ps : List PropertyForm) (budget k : ℕ) (records : List WindowRecord) → 1 ≤ budget → budget ≤ 1000000 → AreTold r ps budget k records
+pub is_report : (r : RecordingForm) (ps : List PropertyForm) (count budget k : ℕ) (records : List WindowRecord) → 1 ≤ budget → budget ≤ 1000000 → AreTold r ps count budget k records
     → IsReport (record { format = 1; budget = budget; windows = records })
-is_report r ps budget k records some few are = record { format = inl refl; budget_some = some; budget_few = few; numbered = are.numbered; windows = are.fit }
+is_report r ps count budget k records some few are = record { format = inl refl; budget_some = some; budget_few = few; numbered = are.numbered; windows = are.fit }
 
 -- and after the last window it answers the recording
-pub all_told : (r : RecordingForm) (ps : List PropertyForm) (budget k : ℕ) (records : List WindowRecord) (report : ReportForm) → k ≡ r.manifest.epochs → AreTold r ps budget (k + 1) records
-    → report ≡ record { format = 1; budget = budget; windows = records } → IsAnswered r ps 1 budget report
-all_told r ps budget k records report last are is =
+pub all_told : (r : RecordingForm) (ps : List PropertyForm) (count budget k : ℕ) (records : List WindowRecord) (report : ReportForm) → k ≡ r.manifest.epochs → AreTold r ps count budget (k + 1) records
+    → report ≡ record { format = 1; budget = budget; windows = records } → IsAnswered r ps count budget report
+all_told r ps count budget k records report last are is =
     let size : length records ≡ r.manifest.epochs = omega (arith, are.place, last) in
-    subst (IsAnswered r ps 1 budget) (sym is)
-    (record { same_budget = refl; windows = subst (λ n. AllZip (AnswersWindow ps 1 budget) (map (window_of r) (numbers_from 1 n)) records) size are.answered })
+    subst (IsAnswered r ps count budget) (sym is)
+    (record { same_budget = refl; windows = subst (λ n. AllZip (AnswersWindow ps count budget) (map (window_of r) (numbers_from 1 n)) records) size are.answered })

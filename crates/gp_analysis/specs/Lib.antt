@@ -4,3 +4,4 @@ pub mod Queries
 pub mod Telling
 pub mod Laws
 pub mod Agreement
+pub mod Acceptance

@@ -2,7 +2,7 @@
 // it, by a certificate that no schedule does, or by the part of a worker's log that spent the budget.
 //
 // A window's constraints are made once. Its instances are listed, property by property; each is a query, whose ticket is
-// its number in that list; a worker answers the queries, and each answer is told with its evidence.
+// its number in that list; the workers answer the queries, each query once, and each answer is told with its evidence.
 #![tactic(auto)]
 
 mod analysing;
@@ -15,4 +15,4 @@ mod window;
 
 pub use analysing::analyse;
 pub use counting::{MOST_WORK, asked_total};
-pub use laws::reports_agree;
+pub use laws::{answered_is_accepted, reports_agree};

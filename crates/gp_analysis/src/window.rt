@@ -18,26 +18,32 @@ use gp_report::{WindowBody, WindowRecord};
 use gp_text::Row;
 use gp_window::Window;
 use gp_witness::schedules_are_complete;
-use gp_workers::{WindowWork, work_one};
+use gp_workers::{WindowWork, work_all};
 use std::alloc::{AllocError, Global};
+use std::thread::Threads;
 
 // What is told of a window: its constraints are too large, or each of its instances is answered.
-pub(crate) fn window_record<G: Gate>(
+pub(crate) fn window_record<R: Threads + Sync, G: Gate + Sync>(
+    rt: &R,
     alloc: Global,
     window: &Window,
     properties: &[Property],
+    workers: u32,
     budget: u64,
     gate: &G,
 ) -> Result<WindowRecord, AllocError>
     requires few { length properties.now ≤ 64 }
+    requires workers { (1 ≤ workers) × (workers ≤ 16) }
     requires budget { 1 ≤ budget }
     requires limit { asked_of (base_due window.now) (properties_count window.now 0 properties.now) * budget ≤ 1000000 }
     ensures number { IfOk result (λ told. told.number ≡ window.now.number) }
-    ensures answered { IfOk result (AnswersWindow properties.now 1 budget window.now) }
+    ensures answered { IfOk result (AnswersWindow properties.now workers budget window.now) }
     ensures fits { IfOk result (IsWindowRecord 1) }
 {
     match base(alloc, window) {
-        Ok(encoded) => answered_record(alloc, window, &encoded, properties, budget, gate),
+        Ok(encoded) => answered_record(
+            rt, alloc, window, &encoded, properties, workers, budget, gate,
+        ),
         Err(BaseFault::TooLarge { events, clauses }) => Ok(WindowRecord {
             number: window.number(),
             shared: Row::new(alloc),
@@ -49,36 +55,44 @@ pub(crate) fn window_record<G: Gate>(
 }
 
 // What is told of a window that has these constraints.
-fn answered_record<G: Gate>(
+fn answered_record<R: Threads + Sync, G: Gate + Sync>(
+    rt: &R,
     alloc: Global,
     window: &Window,
     encoded: &Encoded,
     properties: &[Property],
+    workers: u32,
     budget: u64,
     gate: &G,
 ) -> Result<WindowRecord, AllocError>
     requires few { length properties.now ≤ 64 }
+    requires workers { (1 ≤ workers) × (workers ≤ 16) }
     requires budget { 1 ≤ budget }
     requires limit { properties_count window.now 0 properties.now * budget ≤ 1000000 }
     requires due { base_due window.now ≡ Ok encoded.now }
     ensures number { IfOk result (λ told. told.number ≡ window.now.number) }
-    ensures answered { IfOk result (AnswersWindow properties.now 1 budget window.now) }
+    ensures answered { IfOk result (AnswersWindow properties.now workers budget window.now) }
     ensures fits { IfOk result (IsWindowRecord 1) }
 {
     let listing = listing_of(alloc, window, encoded, properties)?;
-    worked_record(alloc, window, encoded, properties, &listing, budget, gate)
+    worked_record(
+        rt, alloc, window, encoded, properties, &listing, workers, budget, gate,
+    )
 }
 
-// A worker answers the queries; then each answer is told, property by property.
-fn worked_record<G: Gate>(
+// The workers answer the queries; then each answer is told, property by property.
+fn worked_record<R: Threads + Sync, G: Gate + Sync>(
+    rt: &R,
     alloc: Global,
     window: &Window,
     encoded: &Encoded,
     properties: &[Property],
     listing: &Listing,
+    workers: u32,
     budget: u64,
     gate: &G,
 ) -> Result<WindowRecord, AllocError>
+    requires workers { (1 ≤ workers) × (workers ≤ 16) }
     requires budget { 1 ≤ budget }
     requires limit { properties_count window.now 0 properties.now * budget ≤ 1000000 }
     requires due { base_due window.now ≡ Ok encoded.now }
@@ -86,16 +100,18 @@ fn worked_record<G: Gate>(
     requires found { listing.now.found.items ≡ found_from window.now 0 properties.now }
     requires queries { listing.now.queries.items ≡ queries_from window.now 0 properties.now }
     ensures number { IfOk result (λ told. told.number ≡ window.now.number) }
-    ensures answered { IfOk result (AnswersWindow properties.now 1 budget window.now) }
+    ensures answered { IfOk result (AnswersWindow properties.now workers budget window.now) }
     ensures fits { IfOk result (IsWindowRecord 1) }
 {
     laws();
     let number = window.number();
     let queries = listing.queries.as_slice();
-    let WindowWork { answers, records } = work_one(
+    let WindowWork { answers, records } = work_all(
+        rt,
         alloc,
         encoded.problem(),
         queries,
+        workers,
         budget,
         gate,
     )?;

@@ -15,10 +15,11 @@ use gp_analysis::analyse;
 use gp_outside::{Gate, PutFault, Sink};
 use gp_report::{Answer, Entry, PropertyRecord, Report, WindowRecord, print_report};
 use std::alloc::Global;
+use std::thread::Threads;
 
 /// Answers each instance of what would be listed, and writes the report.
-pub fn put_analysis<S: Sink, G: Gate>(
-    alloc: Global,
+pub fn put_analysis<R: AllocGlobal + Threads + Sync, S: Sink, G: Gate + Sync>(
+    rt: &R,
     sink: &mut S,
     listing: &Listing,
     budget: u64,
@@ -28,13 +29,15 @@ pub fn put_analysis<S: Sink, G: Gate>(
     ensures { IsPut (Analysis (analysis_form listing.now budget)) result (S.written sink.old) (S.written sink.new) (S.faults sink.old) (S.faults sink.new) }
 {
     match analyse(
-        alloc,
+        rt,
+        rt.alloc(),
         &listing.recording,
         listing.properties.as_slice(),
+        1,
         budget,
         gate,
     ) {
-        Ok(report) => put_report(alloc, sink, report),
+        Ok(report) => put_report(rt.alloc(), sink, report),
         Err(_) => Outcome::of(6),
     }
 }

@@ -56,7 +56,7 @@ pub fn run<R: AllocGlobal + Threads + Sync, F: Folder, S: Sink, G: Gate + Sync>(
     ensures range { result.status ≤ 7 }
 {
     match due_to(rt, words, folder) {
-        Ok(due) => put_due(rt.alloc(), sink, &due, gate),
+        Ok(due) => put_due(rt, sink, &due, gate),
         Err(Halt::ReadFault) => Outcome::of(4),
         Err(Halt::Memory) => Outcome::of(6),
     }

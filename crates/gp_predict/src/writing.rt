@@ -19,17 +19,24 @@ use gp_property::Property;
 use gp_text::Row;
 use gp_window::{Recording, WindowWalk};
 use std::alloc::Global;
+use std::thread::Threads;
 
 /// Puts what is due to a sink, each line of its text by one call.
-pub fn put_due<S: Sink, G: Gate>(alloc: Global, sink: &mut S, due: &Due, gate: &G) -> Outcome
+pub fn put_due<R: AllocGlobal + Threads + Sync, S: Sink, G: Gate + Sync>(
+    rt: &R,
+    sink: &mut S,
+    due: &Due,
+    gate: &G,
+) -> Outcome
     requires range { EndsIn IsDone (expected_of due.now) }
     requires limits { IsWithinLimits due.now }
     ensures { IsPut (expected_of due.now) result (S.written sink.old) (S.written sink.new) (S.faults sink.old) (S.faults sink.new) }
 {
+    let alloc = rt.alloc();
     match due {
         Due::Whole(answer) => put_answer(sink, answer),
         Due::InPieces(listing) => put_list(alloc, sink, listing),
-        Due::Analysis { listing, budget } => put_analysis(alloc, sink, listing, *budget, gate),
+        Due::Analysis { listing, budget } => put_analysis(rt, sink, listing, *budget, gate),
     }
 }
 

@@ -7,4 +7,4 @@ decreases-loop-walk g l = l.recording.manifest.epochs - l.walk.number
 
 abbrev pub invariant-loop-walk : goal.invariant-loop-walk
 invariant-loop-walk g l =
-    (l.walk.recording ≡ l.recording) × AreTold l.recording l.properties l.budget l.walk.number l.windows
+    (l.walk.recording ≡ l.recording) × AreTold l.recording l.properties l.workers l.budget l.walk.number l.windows

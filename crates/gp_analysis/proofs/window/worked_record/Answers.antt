@@ -1,43 +1,54 @@
 -- The queries can be worked; one property more is answered, until all are.
-use Rattle.std.proofs.Common.{◌≡◌, ◌∙◌, sym, ap, subst, ◌+◌, ◌-◌, ◌<◌, length, drop, take, All, arith}
+use Rattle.std.proofs.Common.{◌≡◌, ◌∙◌, sym, subst, ◌+◌, ◌-◌, ◌<◌, length, drop, take, All, arith}
 use Rattle.std.proofs.lemmas.List.{drop_all}
 use Rattle.std.proofs.lemmas.List.Elements.{recursion_from_All}
 use Rattle.gp_clause.specs.declared.problem.Problem.{Problem}
 use Rattle.gp_clause.specs.Problem.{IsValidProblem, IsValidQuery}
 use Rattle.gp_constraint.specs.Base.{base_of}
-use Rattle.gp_constraint.specs.Encoded.{EncodedForm}
+use Rattle.gp_constraint.specs.EncodedLaws.{is_encoded, is_valid}
 use Rattle.gp_constraint.specs.Laws.{IsSolvable}
 use Rattle.gp_property.specs.Property.{IsProperty}
 use Rattle.gp_workers.specs.Work.{CanBeWorked}
 use Rattle.gp_analysis.specs.Queries.{queries_from}
 use Rattle.gp_analysis.proofs.Asked.{can_be_worked, is_work, queries_valid}
-use Rattle.gp_analysis.proofs.Bounds.{is_encoded, is_valid}
 use Rattle.gp_analysis.proofs.Evidence.{answerable}
 use Rattle.gp_analysis.proofs.OnWay.{IsOnWay, all_done, next_can, none_answered, one_more, stands_at}
 use Rattle.gp_analysis.proofs.window.worked_record.Goals as goal
 
-pub work_one-requires : goal.work_one-requires
-work_one-requires g c =
+pub work_all-requires-clause-valid : goal.work_all-requires-clause-valid
+work_all-requires-clause-valid g c _ _ =
     let is = is_encoded c.args.window.now c.args.encoded.now c.requires.due in
-    let problem : c.problem.result.now ≡ base_of c.args.window.now = c.problem.ensures.problem ∙ ap (λ (e : EncodedForm). e.problem) is.same in
+    subst IsValidProblem (sym (c.problem.ensures.problem ∙ is.problem)) (is_valid c.laws.ensures.valid c.args.window.now c.args.encoded.now is)
+
+pub work_all-requires-clause-solvable : goal.work_all-requires-clause-solvable
+work_all-requires-clause-solvable g c _ _ =
+    let is = is_encoded c.args.window.now c.args.encoded.now c.requires.due in
+    subst (λ (p : Problem). IsSolvable p.edges) (sym (c.problem.ensures.problem ∙ is.problem)) (c.laws.ensures.valid.solvable c.args.window.now)
+
+pub work_all-requires-clause-queries : goal.work_all-requires-clause-queries
+work_all-requires-clause-queries g c _ _ =
+    let is = is_encoded c.args.window.now c.args.encoded.now c.requires.due in
+    let problem : c.problem.result.now ≡ base_of c.args.window.now = c.problem.ensures.problem ∙ is.problem in
     let queries : c.as_slice-queries.result.now ≡ queries_from c.args.window.now 0 c.args.properties.now = c.as_slice-queries.ensures.value ∙ c.requires.queries in
-    record {
-      valid = subst IsValidProblem (sym problem) (is_valid c.laws.ensures.valid c.args.window.now c.args.encoded.now is);
-      solvable = subst (λ (p : Problem). IsSolvable p.edges) (sym problem) (c.laws.ensures.valid.solvable c.args.window.now);
-      queries = subst (λ (p : Problem). All (IsValidQuery p) c.as_slice-queries.result.now) (sym problem) (subst (All (IsValidQuery (base_of c.args.window.now))) (sym queries)
-          (queries_valid c.laws.ensures c.args.window.now c.args.encoded.now is 0 c.args.properties.now (recursion_from_All IsProperty c.args.properties.now c.requires.properties)));
-      few = subst (λ (p : Problem). CanBeWorked p c.as_slice-queries.result.now c.args.budget) (sym problem)
-          (subst (λ qs. CanBeWorked (base_of c.args.window.now) qs c.args.budget) (sym queries)
-          (can_be_worked c.args.window.now c.args.encoded.now is c.args.properties.now c.args.budget c.requires.budget c.requires.limit));
-    }
+    subst (λ (p : Problem). All (IsValidQuery p) c.as_slice-queries.result.now) (sym problem) (subst (All (IsValidQuery (base_of c.args.window.now))) (sym queries)
+    (queries_valid c.laws.ensures c.args.window.now c.args.encoded.now is 0 c.args.properties.now (recursion_from_All IsProperty c.args.properties.now c.requires.properties)))
+
+pub work_all-requires-clause-few : goal.work_all-requires-clause-few
+work_all-requires-clause-few g c _ _ =
+    let is = is_encoded c.args.window.now c.args.encoded.now c.requires.due in
+    let problem : c.problem.result.now ≡ base_of c.args.window.now = c.problem.ensures.problem ∙ is.problem in
+    let queries : c.as_slice-queries.result.now ≡ queries_from c.args.window.now 0 c.args.properties.now = c.as_slice-queries.ensures.value ∙ c.requires.queries in
+    subst (λ (p : Problem). CanBeWorked p c.as_slice-queries.result.now c.args.budget) (sym problem)
+    (subst (λ qs. CanBeWorked (base_of c.args.window.now) qs c.args.budget) (sym queries)
+    (can_be_worked c.args.window.now c.args.encoded.now is c.args.properties.now c.args.budget c.requires.budget c.requires.limit))
 
 pub loop-property-init : goal.loop-property-init
 loop-property-init g c =
     let is = is_encoded c.args.window.now c.args.encoded.now c.requires.due in
-    let problem : c.problem.result.now ≡ base_of c.args.window.now = c.problem.ensures.problem ∙ ap (λ (e : EncodedForm). e.problem) is.same in
+    let problem : c.problem.result.now ≡ base_of c.args.window.now = c.problem.ensures.problem ∙ is.problem in
     let queries : c.as_slice-queries.result.now ≡ queries_from c.args.window.now 0 c.args.properties.now = c.as_slice-queries.ensures.value ∙ c.requires.queries in
-    let work = is_work c.args.window.now c.args.properties.now c.problem.result.now c.as_slice-queries.result.now c.args.budget c.in_ok-answers.field-0 problem queries c.in_ok-answers.ensures in
-    none_answered c.args.window.now c.args.properties.now c.args.budget c.in_ok-answers.field-0 c.as_slice-left.result.now c.of-untold.result c.new-told.result (c.as_slice-left.ensures.value ∙ c.requires.found) c.of-untold.ensures c.new-told.ensures work
+    let work = is_work c.args.window.now c.args.properties.now c.problem.result.now c.as_slice-queries.result.now c.args.workers c.args.budget c.in_ok-answers.field-0 problem queries c.in_ok-answers.ensures in
+    none_answered c.args.window.now c.args.properties.now c.args.workers c.args.budget c.in_ok-answers.field-0 c.as_slice-left.result.now c.of-untold.result c.new-told.result (c.as_slice-left.ensures.value ∙ c.requires.found) c.of-untold.ensures c.new-told.ensures work
 
 pub property_record-requires-clause-answers : goal.property_record-requires-clause-answers
 property_record-requires-clause-answers g c =
@@ -63,12 +74,12 @@ loop-property-preserved g c =
 pub returns : goal.returns
 returns g c =
     let is = is_encoded c.args.window.now c.args.encoded.now c.requires.due in
-    let problem : c.problem.result.now ≡ base_of c.args.window.now = c.problem.ensures.problem ∙ ap (λ (e : EncodedForm). e.problem) is.same in
+    let problem : c.problem.result.now ≡ base_of c.args.window.now = c.problem.ensures.problem ∙ is.problem in
     let queries : c.as_slice-queries.result.now ≡ queries_from c.args.window.now 0 c.args.properties.now = c.as_slice-queries.ensures.value ∙ c.requires.queries in
-    let work = is_work c.args.window.now c.args.properties.now c.problem.result.now c.as_slice-queries.result.now c.args.budget c.in_ok-answers.field-0 problem queries c.in_ok-answers.ensures in
+    let work = is_work c.args.window.now c.args.properties.now c.problem.result.now c.as_slice-queries.result.now c.args.workers c.args.budget c.in_ok-answers.field-0 problem queries c.in_ok-answers.ensures in
     let can = answerable c.args.window.now c.args.encoded.now c.laws.ensures c.number-number.ensures.window c.requires.due in
     let way = subst (λ rest. IsOnWay c.args.window.now c.args.properties.now rest c.args.budget c.loop-property.property-index c.in_ok-answers.field-0.records c.loop-property.left.now c.loop-property.untold c.loop-property.told)
     (drop_all c.loop-property.property-index c.args.properties.now c.loop-property-test.false) c.loop-property.invariant in
-    let done = all_done c.args.window.now can c.args.encoded.now c.requires.due c.args.properties.now c.requires.properties c.args.budget c.number-number.result c.loop-property.property-index c.in_ok-answers.field-0 c.loop-property.left.now c.loop-property.untold
+    let done = all_done c.args.window.now can c.args.encoded.now c.requires.due c.args.properties.now c.requires.properties c.args.workers c.args.budget c.number-number.result c.loop-property.property-index c.requires.workers.1 c.in_ok-answers.field-0 c.loop-property.left.now c.loop-property.untold
     c.loop-property.told c.new.result c.from_vec.result work way c.new.ensures (c.from_vec.ensures ∙ c.into_vec.ensures) in
     record { number = c.number-number.ensures.value; answered = done.answered; fits = done.fits }

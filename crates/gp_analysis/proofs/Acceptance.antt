@@ -1,0 +1,105 @@
+-- A report of format 1 that is answered is accepted.
+use Rattle.std.proofs.Common.{◌≡◌, sym, ap, ◌∙◌, subst, ℕ, ◌+◌, ◌-◌, List, [], ◌∷◌, Option, Some, None, Result, Ok, Err, All, IsSomeAnd, slice_get}
+use Rattle.std.specs.List.{AllZip, enumerate_from}
+use Rattle.std.proofs.lemmas.List.Elements.{All-head, All-tail}
+use Rattle.gp_clause.specs.declared.problem.Problem.{Problem}
+use Rattle.gp_clause.specs.declared.problem.Query.{Query}
+use Rattle.gp_constraint.specs.declared.fault.BaseFault.{BaseFault}
+use Rattle.gp_constraint.specs.declared.fault.BaseFault.TheVariants as no_window
+use Rattle.gp_constraint.specs.Base.{base_of}
+use Rattle.gp_constraint.specs.Encoded.{EncodedForm, base_due}
+use Rattle.gp_constraint.specs.Query.{query_of}
+use Rattle.gp_derivation.specs.declared.record.WorkerRecord.{WorkerRecord}
+use Rattle.gp_derivation.specs.declared.step.Step.{Step}
+use Rattle.gp_derivation.specs.Shared.{SharedPasses}
+use Rattle.gp_derivation.specs.Spent.{HasTurnSpentOn}
+use Rattle.gp_instance.specs.declared.instance.Instance.{Instance}
+use Rattle.gp_instance.specs.declared.instance.InstancesFault.{InstancesFault}
+use Rattle.gp_instance.specs.declared.instance.InstancesFault.TheVariants.{Memory, TooMany}
+use Rattle.gp_instance.specs.Instances.{due_instances}
+use Rattle.gp_property.specs.PropertyForm.{PropertyForm}
+use Rattle.gp_report.specs.declared.record.Answer.{Answer}
+use Rattle.gp_report.specs.declared.record.Answer.TheVariants.{Found, Impossible, Undecided}
+use Rattle.gp_report.specs.declared.record.Entry.{Entry}
+use Rattle.gp_report.specs.declared.record.PropertyBody.{PropertyBody}
+use Rattle.gp_report.specs.declared.record.PropertyBody.TheVariants as body
+use Rattle.gp_report.specs.declared.record.PropertyRecord.{PropertyRecord}
+use Rattle.gp_report.specs.declared.record.WindowBody.{WindowBody}
+use Rattle.gp_report.specs.declared.record.WindowBody.TheVariants as told
+use Rattle.gp_report.specs.declared.record.WindowRecord.{WindowRecord}
+use Rattle.gp_report.specs.Report.{IsWindowRecord}
+use Rattle.gp_window.specs.declared.schedule.EventId.{EventId}
+use Rattle.gp_window.specs.WindowForm.{WindowForm}
+use Rattle.gp_checker.specs.Accepted.{AcceptsAnswer, AcceptsBody, AcceptsEntry, AcceptsListed, AcceptsProperty, AcceptsWindow, windows_of}
+use Rattle.gp_analysis.specs.Acceptance.{AnsweredIsAccepted}
+use Rattle.gp_analysis.specs.Answered.{AnswersBody, AnswersEach, AnswersListed, AnswersProperties, AnswersWindow, Evidence, IsAnswer}
+
+-- a turn that is spent has as many entries as its budget
+turn_counted : (problem : Problem) (query : Query) (worker : WorkerRecord) (ticket budget from to : ℕ) → HasTurnSpentOn problem query worker ticket budget from to → to ≡ from + budget
+turn_counted problem query worker ticket budget from to (turn, within, ticketed, spent) = sym spent.ends ∙ spent.learning.counted ∙ ap (λ (n : ℕ). n + budget) spent.begins
+
+spent_counted : (problem : Problem) (query : Query) (own : Option WorkerRecord) (ticket budget from to : ℕ)
+    → IsSomeAnd own (λ (worker : WorkerRecord). HasTurnSpentOn problem query worker ticket budget from to) → to ≡ from + budget
+spent_counted problem query None ticket budget from to spent = absurd spent
+spent_counted problem query (Some worker) ticket budget from to spent = turn_counted problem query worker ticket budget from to spent
+
+module _ (window : WindowForm) (known : Evidence) where
+  answer_accepted : (property : PropertyForm) (ticket : ℕ) (ids : List EventId) (answer : Answer)
+      → IsAnswer window known property ticket ids answer → AcceptsAnswer window known.budget known.shared property ids answer
+  answer_accepted property ticket ids (Found schedule) is = (is.feasible, is.matches)
+  answer_accepted property ticket ids (Impossible certificate) is = (is.refutes.checks.own, is.refutes.ends)
+  answer_accepted property ticket ids (Undecided worker from to) is =
+      spent_counted (base_of window) (query_of window property ids) (slice_get known.workers (worker - 1)) ticket known.budget from to is.own
+
+  entries_accepted : (property : PropertyForm) (ticket : ℕ) (instances : List Instance) (entries : List Entry)
+      → AnswersEach window known property ticket instances entries → AllZip (AcceptsEntry window known.budget known.shared property) instances entries
+  entries_accepted property ticket [] [] is = tt
+  entries_accepted property ticket [] (entry ∷ entries) is = absurd is
+  entries_accepted property ticket (instance ∷ instances) [] is = absurd is
+  entries_accepted property ticket (instance ∷ instances) (entry ∷ entries) is =
+      ((is.0, answer_accepted property ticket instance.events entry.answer is.1), entries_accepted property (ticket + 1) instances entries is.2)
+
+  listed_accepted : (property : PropertyForm) (ticket : ℕ) (found : Result (List Instance) InstancesFault) (told : PropertyBody)
+      → AnswersListed window known property ticket found told → AcceptsListed window known.budget known.shared property found told
+  listed_accepted property ticket (Err TooMany) body.TooMany is = tt
+  listed_accepted property ticket (Err TooMany) (body.Entries entries) is = absurd is
+  listed_accepted property ticket (Err Memory) told is = absurd is
+  listed_accepted property ticket (Ok instances) body.TooMany is = absurd is
+  listed_accepted property ticket (Ok instances) (body.Entries entries) is = entries_accepted property ticket instances entries is
+
+  properties_accepted : (number ticket : ℕ) (properties : List PropertyForm) (records : List PropertyRecord)
+      → AnswersProperties window known number ticket properties records → AllZip (AcceptsProperty window known.budget known.shared) (enumerate_from number properties) records
+  properties_accepted number ticket [] [] is = tt
+  properties_accepted number ticket [] (told ∷ more) is = absurd is
+  properties_accepted number ticket (property ∷ properties) [] is = absurd is
+  properties_accepted number ticket (property ∷ properties) (told ∷ more) is =
+      ((is.0, listed_accepted property ticket (due_instances window property number) told.body is.1), properties_accepted (number + 1) _ properties more is.2)
+
+  body_accepted : (properties : List PropertyForm) (count : ℕ) (due : Result EncodedForm BaseFault) (told : WindowBody) → SharedPasses (base_of window) known.shared
+      → AnswersBody window properties count known due told → AcceptsBody window known.budget properties known.shared due told
+  body_accepted properties count (Err (no_window.TooLarge events clauses)) (told.TooLarge more_events more_clauses) passes is = (is.0, is.1)
+  body_accepted properties count (Err (no_window.TooLarge events clauses)) (told.Answers records) passes is = absurd is
+  body_accepted properties count (Err no_window.Memory) told passes is = absurd is
+  body_accepted properties count (Ok encoded) (told.TooLarge events clauses) passes is = absurd is
+  body_accepted properties count (Ok encoded) (told.Answers records) passes is = (passes, properties_accepted 0 0 properties records is.0)
+
+-- no shared steps pass
+none_pass : (problem : Problem) (shared : List Step) → shared ≡ [] → SharedPasses problem shared
+none_pass problem shared none = subst (SharedPasses problem) (sym none) tt
+
+windows_accepted : (properties : List PropertyForm) (count budget format : ℕ) (windows : List WindowForm) (records : List WindowRecord) → format ≡ 1 → All (IsWindowRecord format) records
+    → AllZip (AnswersWindow properties count budget) windows records → AllZip (AcceptsWindow properties budget) windows records
+windows_accepted properties count budget format [] [] first fit is = tt
+windows_accepted properties count budget format [] (told ∷ records) first fit is = absurd is
+windows_accepted properties count budget format (window ∷ windows) [] first fit is = absurd is
+windows_accepted properties count budget format (window ∷ windows) (told ∷ records) first fit is =
+    let here : IsWindowRecord format told = All-head (IsWindowRecord format) told records fit in
+    let known : Evidence = record { budget = budget; shared = told.shared; workers = told.records } in (
+      body_accepted window known properties count (base_due window) told.body (none_pass (base_of window) told.shared (here.first_format first)) is.0,
+      windows_accepted properties count budget format windows records first (All-tail (IsWindowRecord format) told records fit) is.1,
+    )
+
+pub answered_accepted : AnsweredIsAccepted
+answered_accepted recording properties count budget report fits first is =
+    subst (λ (n : ℕ). AllZip (AcceptsWindow properties n) (windows_of recording) report.windows) (sym is.same_budget)
+    (windows_accepted properties count budget report.format (windows_of recording) report.windows first fits.windows is.windows)

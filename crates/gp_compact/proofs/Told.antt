@@ -1,0 +1,205 @@
+-- A text can tell what a report becomes.
+use Rattle.std.proofs.Common.{◌≡◌, refl, ap, sym, ◌∙◌, subst, inr, ℕ, zero, suc, ◌+◌, ◌-◌, ◌≤◌, Bool, true, false, List, [], ◌∷◌, ◌++◌, Option, Result, Ok, Err, length, map, take, All, arith}
+use Rattle.std.specs.Prelude.{if◌then◌else◌}
+use Rattle.std.specs.List.{AllZip, list_any}
+use Rattle.std.proofs.lemmas.List.{length-map}
+use Rattle.std.proofs.lemmas.List.Elements.{All-append, All-cons, All-head, All-map, All-nil, All-push, All-tail, All-take, All-weaker}
+use Rattle.gp_constraint.specs.declared.fault.BaseFault.{BaseFault}
+use Rattle.gp_constraint.specs.Encoded.{EncodedForm, base_due}
+use Rattle.gp_derivation.specs.declared.step.Step.{Step}
+use Rattle.gp_derivation.specs.Numbering.{with_hints}
+use Rattle.gp_report.specs.declared.record.Answer.{Answer}
+use Rattle.gp_report.specs.declared.record.Answer.TheVariants.{Found, Impossible, Undecided}
+use Rattle.gp_report.specs.declared.record.Entry.{Entry}
+use Rattle.gp_report.specs.declared.record.PropertyBody.{PropertyBody}
+use Rattle.gp_report.specs.declared.record.PropertyBody.TheVariants.{TooMany, Entries}
+use Rattle.gp_report.specs.declared.record.PropertyRecord.{PropertyRecord}
+use Rattle.gp_report.specs.declared.record.WindowBody.{WindowBody}
+use Rattle.gp_report.specs.declared.record.WindowBody.TheVariants.{TooLarge, Answers}
+use Rattle.gp_report.specs.declared.record.WindowRecord.{WindowRecord}
+use Rattle.gp_report.specs.Entries.{entries_among, entries_in}
+use Rattle.gp_report.specs.Report.{IsEntry, IsPropertyBody, IsPropertyRecord, IsReport, IsToldAnswer, IsToldStep, IsWindowBody, IsWindowRecord}
+use Rattle.gp_report.specs.ReportForm.{ReportForm}
+use Rattle.gp_window.specs.RecordingForm.{RecordingForm}
+use Rattle.gp_window.specs.WindowForm.{WindowForm, numbers_from}
+use Rattle.gp_compact.specs.declared.moving.Sizes.{Sizes}
+use Rattle.gp_checker.specs.Accepted.{windows_of}
+use Rattle.gp_compact.specs.Compact.{IsSameWindow, answer_by, are_few, body_by, compacted_by, compacted_over, compacted_window, compacted_windows, entries_by, entries_told, entry_by, over_list, own_steps, property_by, sizes_of, with_entries}
+use Rattle.gp_compact.specs.Moving.{are_movable, compacted_steps, first_own, front_of, moved_step, moves, new_number, place_of, places_of, raised, staying, step_eq, with_certificate, with_moved, with_step, with_steps}
+use Rattle.gp_compact.proofs.NewNumbers.{staying_all}
+
+-- new hints keep a step such that it can be told
+hinted_told : (f : ℕ → ℕ) (steps : List Step) → All IsToldStep steps → All IsToldStep (map (with_hints f) steps)
+hinted_told f steps told = All-map IsToldStep (with_hints f) steps told
+
+compacted_told : (sizes : Sizes) (list steps : List Step) → All IsToldStep steps → All IsToldStep (compacted_steps sizes list steps)
+compacted_told sizes list steps told = by (are_movable (first_own sizes) steps)
+  where
+    by : (b : Bool) → All IsToldStep (if b then map (with_hints (new_number sizes (length list) (places_of sizes list steps))) (staying (places_of sizes list steps) steps) else map (with_hints (raised sizes (length list - sizes.shared))) steps)
+    by true = hinted_told (new_number sizes (length list) (places_of sizes list steps)) (staying (places_of sizes list steps) steps) (staying_all IsToldStep (places_of sizes list steps) steps told)
+    by false = hinted_told (raised sizes (length list - sizes.shared)) steps told
+
+-- the shared list can be told with what moves into it
+moved_told : (sizes : Sizes) (list : List Step) (places : List (Option ℕ)) (step : Step) → All IsToldStep list → IsToldStep step → All IsToldStep (with_moved sizes list places step)
+moved_told sizes list places step told one = by (moves sizes places step)
+  where
+    pushed : (b : Bool) → All IsToldStep (if b then list else (list ++ moved_step sizes places step ∷ []))
+    pushed true = told
+    pushed false = All-push IsToldStep list (moved_step sizes places step) told one
+
+    by : (b : Bool) → All IsToldStep (if b then with_step list (moved_step sizes places step) else list)
+    by true = pushed (list_any (step_eq (moved_step sizes places step)) list)
+    by false = told
+
+steps_told : (sizes : Sizes) (list : List Step) (places : List (Option ℕ)) (steps : List Step) → All IsToldStep list → All IsToldStep steps → All IsToldStep (with_steps sizes list places steps)
+steps_told sizes list places [] told own = told
+steps_told sizes list places (step ∷ steps) told own =
+    let more = with_moved sizes list places step in
+    steps_told sizes more (places ++ place_of sizes more places step ∷ []) steps
+    (moved_told sizes list places step told (All-head IsToldStep step steps own)) (All-tail IsToldStep step steps own)
+
+certificate_told : (sizes : Sizes) (list steps : List Step) → All IsToldStep list → All IsToldStep steps → All IsToldStep (with_certificate sizes list steps)
+certificate_told sizes list steps told own = by (are_movable (first_own sizes) steps)
+  where
+    by : (b : Bool) → All IsToldStep (if b then with_steps sizes list [] (front_of steps) else list)
+    by true = steps_told sizes list [] (front_of steps) told (All-take IsToldStep (length steps - 1) steps own)
+    by false = told
+
+abbrev OwnTold : Entry → Type 0
+OwnTold entry = All IsToldStep (own_steps entry.answer)
+
+entries_list_told : (sizes : Sizes) (list : List Step) (entries : List Entry) → All IsToldStep list → All OwnTold entries → All IsToldStep (with_entries sizes list entries)
+entries_list_told sizes list [] told own = told
+entries_list_told sizes list (entry ∷ entries) told own =
+    entries_list_told sizes (with_certificate sizes list (own_steps entry.answer)) entries
+    (certificate_told sizes list (own_steps entry.answer) told (All-head OwnTold entry entries own)) (All-tail OwnTold entry entries own)
+
+-- the steps of the entries of a window can be told
+answer_own : (answer : Answer) → IsToldAnswer answer → All IsToldStep (own_steps answer)
+answer_own (Found schedule) told = All-nil IsToldStep
+answer_own (Impossible certificate) told = told
+answer_own (Undecided worker from to) told = All-nil IsToldStep
+
+property_own : (body : PropertyBody) → IsPropertyBody body → All OwnTold (entries_in body)
+property_own TooMany told = All-nil OwnTold
+property_own (Entries entries) told = All-weaker IsEntry OwnTold (λ entry is. answer_own entry.answer is.answer) entries told.1
+
+properties_own : (properties : List PropertyRecord) → All IsPropertyRecord properties → All OwnTold (entries_among properties)
+properties_own [] told = All-nil OwnTold
+properties_own (property ∷ properties) told =
+    All-append OwnTold (entries_in property.body) (entries_among properties)
+    (property_own property.body (All-head IsPropertyRecord property properties told)) (properties_own properties (All-tail IsPropertyRecord property properties told))
+
+body_own : (shared : List Step) (body : WindowBody) → IsWindowBody shared body → All OwnTold (entries_told body)
+body_own shared (TooLarge events clauses) told = All-nil OwnTold
+body_own shared (Answers properties) told = properties_own properties told
+
+-- and so can its answers over another list
+module _ (f : List Step → List Step) (keeps : (steps : List Step) → All IsToldStep steps → All IsToldStep (f steps)) where
+  answer_told : (answer : Answer) → IsToldAnswer answer → IsToldAnswer (answer_by f answer)
+  answer_told (Found schedule) told = told
+  answer_told (Impossible certificate) told = keeps certificate.steps told
+  answer_told (Undecided worker from to) told = told
+
+  property_told : (body : PropertyBody) → IsPropertyBody body → IsPropertyBody (entries_by f body)
+  property_told TooMany told = told
+  property_told (Entries entries) told = (
+    omega (arith, told.0, length-map entries (entry_by f)),
+    All-map IsEntry (entry_by f) entries (All-weaker IsEntry (λ (entry : Entry). IsEntry (entry_by f entry)) (λ entry is. record { some = is.some; few = is.few; answer = answer_told entry.answer is.answer }) entries told.1),
+  )
+
+  answers_told : (shared : List Step) (properties : List PropertyRecord) → IsWindowBody shared (Answers properties) → All IsPropertyRecord (map (property_by f) properties)
+  answers_told shared properties told =
+      All-map IsPropertyRecord (property_by f) properties
+      (All-weaker IsPropertyRecord (λ (property : PropertyRecord). IsPropertyRecord (property_by f property)) (λ property is. property_told property.body is) properties told)
+
+over_told : (sizes : Sizes) (shared : List Step) (body : WindowBody) → IsWindowBody shared body
+    → IsWindowBody (with_entries sizes shared (entries_told body)) (body_by (compacted_steps sizes (with_entries sizes shared (entries_told body))) body)
+over_told sizes shared (TooLarge events clauses) told = told
+over_told sizes shared (Answers properties) told =
+    answers_told (compacted_steps sizes (with_entries sizes shared (entries_told (Answers properties)))) (compacted_told sizes (with_entries sizes shared (entries_told (Answers properties)))) shared properties told
+
+by_told : (format : ℕ) (sizes : Sizes) (told : WindowRecord) → IsWindowRecord format told → IsWindowRecord 2 (compacted_by sizes told)
+by_told format sizes told is = by (are_few sizes told.body)
+  where
+    by : (b : Bool) → IsWindowRecord 2 (if b then over_list sizes (with_entries sizes told.shared (entries_told told.body)) told else told)
+    by true = record {
+      shared = entries_list_told sizes told.shared (entries_told told.body) is.shared (body_own told.shared told.body is.body);
+      first_format = λ wrong. absurd (omega (arith, wrong));
+      body = over_told sizes told.shared told.body is.body;
+    }
+    by false = record { shared = is.shared; first_format = λ wrong. absurd (omega (arith, wrong)); body = is.body }
+
+window_told : (format : ℕ) (window : WindowForm) (told : WindowRecord) → IsWindowRecord format told → IsWindowRecord 2 (compacted_window window told)
+window_told format window told is = by (base_due window)
+  where
+    by : (due : Result EncodedForm BaseFault) → IsWindowRecord 2 (compacted_over due told)
+    by (Ok encoded) = by_told format (sizes_of encoded told.shared) told is
+    by (Err fault) = record { shared = is.shared; first_format = λ wrong. absurd (omega (arith, wrong)); body = is.body }
+
+windows_told : (format : ℕ) (windows : List WindowForm) (records : List WindowRecord) → All (IsWindowRecord format) records → All (IsWindowRecord 2) (compacted_windows windows records)
+windows_told format [] records told =
+    All-weaker (IsWindowRecord format) (IsWindowRecord 2) (λ one is. record { shared = is.shared; first_format = λ wrong. absurd (omega (arith, wrong)); body = is.body }) records told
+windows_told format (window ∷ windows) [] told = All-nil (IsWindowRecord 2)
+windows_told format (window ∷ windows) (one ∷ records) told =
+    All-cons (IsWindowRecord 2) (compacted_window window one) (compacted_windows windows records)
+    (window_told format window one (All-head (IsWindowRecord format) one records told)) (windows_told format windows records (All-tail (IsWindowRecord format) one records told))
+
+-- numbers stay
+by_number : (sizes : Sizes) (told : WindowRecord) → (compacted_by sizes told).number ≡ told.number
+by_number sizes told = by (are_few sizes told.body)
+  where
+    by : (b : Bool) → (if b then over_list sizes (with_entries sizes told.shared (entries_told told.body)) told else told).number ≡ told.number
+    by true = refl
+    by false = refl
+
+window_number : (window : WindowForm) (told : WindowRecord) → (compacted_window window told).number ≡ told.number
+window_number window told = by (base_due window)
+  where
+    by : (due : Result EncodedForm BaseFault) → (compacted_over due told).number ≡ told.number
+    by (Ok encoded) = by_number (sizes_of encoded told.shared) told
+    by (Err fault) = refl
+
+abbrev number_in : WindowRecord → ℕ
+number_in window = window.number
+
+windows_numbers : (windows : List WindowForm) (records : List WindowRecord) → map number_in (compacted_windows windows records) ≡ map number_in records
+windows_numbers [] records = refl
+windows_numbers (window ∷ windows) [] = refl
+windows_numbers (window ∷ windows) (one ∷ records) = λ i. window_number window one i ∷ windows_numbers windows records i
+
+-- windows that are told alike have the same numbers, and can be told alike
+same_numbers : (ones others : List WindowRecord) → AllZip IsSameWindow ones others → map number_in others ≡ map number_in ones
+same_numbers [] [] same = refl
+same_numbers [] (other ∷ others) same = absurd same
+same_numbers (one ∷ ones) [] same = absurd same
+same_numbers (one ∷ ones) (other ∷ others) same = λ i. same.0.number i ∷ same_numbers ones others same.1 i
+
+same_told : (ones others : List WindowRecord) → AllZip IsSameWindow ones others → All (IsWindowRecord 2) ones → All (IsWindowRecord 2) others
+same_told [] [] same told = told
+same_told [] (other ∷ others) same told = absurd same
+same_told (one ∷ ones) [] same told = absurd same
+same_told (one ∷ ones) (other ∷ others) same told =
+    let is = All-head (IsWindowRecord 2) one ones told in
+    All-cons (IsWindowRecord 2) other others
+    (record {
+      shared = subst (All IsToldStep) (sym same.0.shared) is.shared;
+      first_format = λ wrong. absurd (omega (arith, wrong));
+      body = subst (λ (shared : List Step). IsWindowBody shared other.body) (sym same.0.shared) (subst (IsWindowBody one.shared) (sym same.0.body) is.body);
+    })
+    (same_told ones others same.1 (All-tail (IsWindowRecord 2) one ones told))
+
+-- the report that is made can be told
+pub report_told : (recording : RecordingForm) (report : ReportForm) (made : List WindowRecord) → IsReport report → AllZip IsSameWindow (compacted_windows (windows_of recording) report.windows) made
+    → IsReport (record { format = 2; budget = report.budget; windows = made })
+report_told recording report made is same =
+    let all = compacted_windows (windows_of recording) report.windows in
+    let numbers : map number_in made ≡ map number_in report.windows = same_numbers all made same ∙ windows_numbers (windows_of recording) report.windows in
+    let count : length report.windows ≡ length made = sym (length-map report.windows number_in) ∙ sym (ap length numbers) ∙ length-map made number_in in
+    record {
+      format = inr refl;
+      budget_some = is.budget_some;
+      budget_few = is.budget_few;
+      numbered = numbers ∙ is.numbered ∙ ap (numbers_from 1) count;
+      windows = same_told all made same (windows_told report.format (windows_of recording) report.windows is.windows);
+    }

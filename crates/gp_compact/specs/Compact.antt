@@ -1,0 +1,131 @@
+-- The report in which those steps of a window's certificates that rest on its base alone stand once, in its shared list.
+use Rattle.std.specs.Prelude.{ℕ, ◌≡◌, ◌+◌, ◌^◌, ◌↔◌, Bool, List, [], ◌∷◌, Result, Ok, Err, if◌then◌else◌, fold, length, map, nat_lt, sum_by}
+use Rattle.std.specs.List.{AllZip}
+use Rattle.gp_constraint.specs.declared.fault.BaseFault.{BaseFault}
+use Rattle.gp_constraint.specs.Encoded.{EncodedForm, base_due}
+use Rattle.gp_derivation.specs.declared.step.Step.{Step}
+use Rattle.gp_property.specs.PropertyForm.{PropertyForm}
+use Rattle.gp_report.specs.declared.record.Answer.{Answer}
+use Rattle.gp_report.specs.declared.record.Answer.TheVariants.{Impossible}
+use Rattle.gp_report.specs.declared.record.Entry.{Entry}
+use Rattle.gp_report.specs.declared.record.PropertyBody.{PropertyBody}
+use Rattle.gp_report.specs.declared.record.PropertyBody.TheVariants.{TooMany, Entries}
+use Rattle.gp_report.specs.declared.record.PropertyRecord.{PropertyRecord}
+use Rattle.gp_report.specs.declared.record.WindowBody.{WindowBody}
+use Rattle.gp_report.specs.declared.record.WindowBody.TheVariants.{TooLarge, Answers}
+use Rattle.gp_report.specs.declared.record.WindowRecord.{WindowRecord}
+use Rattle.gp_report.specs.Entries.{entries_among, properties_in}
+use Rattle.gp_report.specs.ReportForm.{ReportForm}
+use Rattle.gp_window.specs.RecordingForm.{RecordingForm}
+use Rattle.gp_window.specs.WindowForm.{WindowForm}
+use Rattle.gp_compact.specs.declared.moving.Sizes.{Sizes}
+use Rattle.gp_checker.specs.Accepted.{IsAccepted, windows_of}
+use Rattle.gp_compact.specs.Moving.{compacted_steps, first_own, with_certificate}
+use Rattle.gp_compact.specs.SameRecords.{IsSameWorker}
+
+-- the steps of an answer's certificate
+abbrev pub own_steps : Answer → List Step
+own_steps (Impossible certificate) = certificate.steps
+own_steps _ = []
+
+-- the entries that a window is told with
+abbrev pub entries_told : WindowBody → List Entry
+entries_told body = entries_among (properties_in body)
+
+-- a shared list with those steps of the certificates of some entries that move
+abbrev pub with_entries : Sizes → List Step → List Entry → List Step
+with_entries sizes shared entries = fold (λ list (entry : Entry). with_certificate sizes list (own_steps entry.answer)) shared entries
+
+-- how many steps the certificates of some entries have
+abbrev pub steps_in : List Entry → ℕ
+steps_in entries = sum_by (λ (entry : Entry). length (own_steps entry.answer)) entries
+
+-- an answer with the steps of its certificate made into others
+abbrev pub answer_by : (List Step → List Step) → Answer → Answer
+answer_by f (Impossible certificate) = Impossible (record { steps = f certificate.steps })
+answer_by f answer = answer
+
+-- an entry with such an answer
+abbrev pub entry_by : (List Step → List Step) → Entry → Entry
+entry_by f entry = record { events = entry.events; answer = answer_by f entry.answer }
+
+-- what is told of a property, with such answers
+abbrev pub entries_by : (List Step → List Step) → PropertyBody → PropertyBody
+entries_by f TooMany = TooMany
+entries_by f (Entries entries) = Entries (map (entry_by f) entries)
+
+abbrev pub property_by : (List Step → List Step) → PropertyRecord → PropertyRecord
+property_by f property = record { name = property.name; body = entries_by f property.body }
+
+-- what is told of a window, with such answers
+abbrev pub body_by : (List Step → List Step) → WindowBody → WindowBody
+body_by f (TooLarge events clauses) = TooLarge events clauses
+body_by f (Answers properties) = Answers (map (property_by f) properties)
+
+-- by what the steps of a window are numbered that has these constraints and shared steps
+abbrev pub sizes_of : EncodedForm → List Step → Sizes
+sizes_of encoded shared = record {
+  clauses = length encoded.problem.clauses;
+  variables = length encoded.problem.kinds;
+  shared = length shared;
+}
+
+-- whether base clauses, shared steps and all steps of certificates are together fewer than 2^31
+abbrev pub are_few : Sizes → WindowBody → Bool
+are_few sizes body = nat_lt (first_own sizes + steps_in (entries_told body)) (2 ^ 31)
+
+-- a window with this new shared list, over which its answers are told
+abbrev pub over_list : Sizes → List Step → WindowRecord → WindowRecord
+over_list sizes shared told = record {
+  number = told.number;
+  shared = shared;
+  body = body_by (compacted_steps sizes shared) told.body;
+  records = told.records;
+}
+
+-- a window with these sizes: its steps move where all are few
+abbrev pub compacted_by : Sizes → WindowRecord → WindowRecord
+compacted_by sizes told = if are_few sizes told.body then over_list sizes (with_entries sizes told.shared (entries_told told.body)) told else told
+
+-- a window whose constraints are these: nothing moves where it is too large
+abbrev pub compacted_over : Result EncodedForm BaseFault → WindowRecord → WindowRecord
+compacted_over (Ok encoded) told = compacted_by (sizes_of encoded told.shared) told
+compacted_over (Err fault) told = told
+
+-- the record of a window
+abbrev pub compacted_window : WindowForm → WindowRecord → WindowRecord
+compacted_window window told = compacted_over (base_due window) told
+
+-- the records of some windows; those over the epochs stay as they are
+abbrev pub compacted_windows : List WindowForm → List WindowRecord → List WindowRecord
+compacted_windows (window ∷ windows) (told ∷ more) = compacted_window window told ∷ compacted_windows windows more
+compacted_windows [] more = more
+compacted_windows (window ∷ windows) [] = []
+
+-- a report in format 2, with the steps moved window by window
+abbrev pub compacted : RecordingForm → ReportForm → ReportForm
+compacted recording report = record {
+  format = 2;
+  budget = report.budget;
+  windows = compacted_windows (windows_of recording) report.windows;
+}
+
+-- two windows are told alike, and their workers did the same
+pub record IsSameWindow (one other : WindowRecord) : Type 0 where
+  pub number : other.number ≡ one.number
+  pub shared : other.shared ≡ one.shared
+  pub body : other.body ≡ one.body
+  pub records : AllZip IsSameWorker one.records other.records
+
+-- a report is the compacted one
+pub record IsCompacted (recording : RecordingForm) (report made : ReportForm) : Type 0 where
+  pub format : made.format ≡ (compacted recording report).format
+  pub budget : made.budget ≡ (compacted recording report).budget
+  pub windows : AllZip IsSameWindow (compacted recording report).windows made.windows
+
+-- a compacted report is accepted exactly where the report is of which it was made
+pub record CompactKeepsAcceptance : Type 0 where
+  pub definition : (recording : RecordingForm) (properties : List PropertyForm) (report : ReportForm)
+      → IsAccepted recording properties (compacted recording report) ↔ IsAccepted recording properties report
+  pub made : (recording : RecordingForm) (properties : List PropertyForm) (report made : ReportForm) → IsCompacted recording report made
+      → IsAccepted recording properties made ↔ IsAccepted recording properties report

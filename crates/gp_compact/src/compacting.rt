@@ -1,0 +1,205 @@
+ghost use Rattle.std.specs.Prelude.{◌≡◌, ◌+◌, ◌++◌, ◌<◌, ◌^◌, if◌then◌else◌, true, IfOk, List, None, Ok, Some, length, min};
+ghost use Rattle.std.specs.List.{AllZip};
+ghost use Rattle.gp_constraint.specs.Encoded.{base_due};
+ghost use Rattle.gp_report.specs.declared.record.WindowRecord.{WindowRecord};
+ghost use Rattle.gp_window.specs.WindowForm.{window_of};
+ghost use Rattle.gp_checker.specs.Accepted.{windows_of};
+ghost use Rattle.gp_compact.specs.Compact.{CompactKeepsAcceptance, IsCompacted, IsSameWindow, are_few, compacted_by, compacted_windows, compacted_window, entries_told, own_steps, sizes_of, steps_in};
+
+use crate::copying::{copy_steps, copy_workers};
+use crate::moving::Sizes;
+use crate::rewriting::{Rewriting, rewrite_body};
+use crate::sharing::share;
+use gp_constraint::{BaseFault, Encoded, base, problems_are_valid};
+use gp_derivation::Step;
+use gp_report::{Answer, Entry, Report, WindowBody, WindowRecord};
+use gp_text::Row;
+use gp_window::{Recording, Window, WindowWalk};
+use std::alloc::{AllocError, Global};
+
+// Nothing moves in a window with so many base clauses, shared steps and steps of certificates together, or more.
+const MOST_STEPS: u64 = 2_147_483_648;
+
+/// The report in format 2, where each step of a certificate that rests on the base of its window alone stands in the
+/// shared steps of the window, once for all certificates that use it.
+pub fn compact(alloc: Global, recording: &Recording, report: &Report) -> Result<Report, AllocError>
+    ensures { IfOk result (IsCompacted recording.now report.now) }
+{
+    let windows = compact_windows(alloc, recording, report.windows())?;
+    Ok(Report::new(2, report.budget(), windows))
+}
+
+/// A law: a compacted report is accepted exactly where the report is of which it was made.
+pub fn compact_keeps_acceptance()
+    ensures { CompactKeepsAcceptance }
+{
+    problems_are_valid();
+}
+
+fn compact_windows(
+    alloc: Global,
+    recording: &Recording,
+    records: &[WindowRecord],
+) -> Result<Row<WindowRecord>, AllocError>
+    ensures { IfOk result (AllZip IsSameWindow (compacted_windows (windows_of recording.now) records.now)) }
+{
+    let mut made = Vec::new(alloc);
+    let mut walk = WindowWalk::new(alloc, recording)?;
+    loop {
+        let number = walk.number();
+        let Some(told) = records.get(number as usize - 1) else {
+            return Ok(Row::from_vec(made));
+        };
+        made.push(compact_cut(alloc, &walk, told)?)?;
+        let Some(next) = walk.advance()? else {
+            return with_rest(alloc, made, &records[number as usize..]);
+        };
+        walk = next;
+    }
+}
+
+// These windows, and copies of those over the epochs.
+fn with_rest(
+    alloc: Global,
+    made: Vec<WindowRecord>,
+    records: &[WindowRecord],
+) -> Result<Row<WindowRecord>, AllocError>
+    ensures { IfOk result (λ whole. (ones : List WindowRecord) → AllZip IsSameWindow ones made.items → AllZip IsSameWindow (ones ++ records.now) whole) }
+{
+    let mut whole = made;
+    for told in records {
+        whole.push(copy_window(alloc, told)?)?;
+    }
+    Ok(Row::from_vec(whole))
+}
+
+// The record of the window at which a walk stands.
+fn compact_cut(
+    alloc: Global,
+    walk: &WindowWalk,
+    told: &WindowRecord,
+) -> Result<WindowRecord, AllocError>
+    ensures { IfOk result (IsSameWindow (compacted_window (window_of walk.now.recording walk.now.number) told.now)) }
+{
+    let window = walk.window(alloc)?;
+    compact_window(alloc, &window, told)
+}
+
+fn compact_window(
+    alloc: Global,
+    window: &Window,
+    told: &WindowRecord,
+) -> Result<WindowRecord, AllocError>
+    ensures { IfOk result (IsSameWindow (compacted_window window.now told.now)) }
+{
+    match base(alloc, window) {
+        Ok(encoded) => compact_encoded(alloc, window, &encoded, told),
+        Err(BaseFault::TooLarge { .. }) => copy_window(alloc, told),
+        Err(BaseFault::Memory) => Err(AllocError),
+    }
+}
+
+// The record of a window that has these constraints.
+fn compact_encoded(
+    alloc: Global,
+    window: &Window,
+    encoded: &Encoded,
+    told: &WindowRecord,
+) -> Result<WindowRecord, AllocError>
+    requires { base_due window.now ≡ Ok encoded.now }
+    ensures { IfOk result (IsSameWindow (compacted_by (sizes_of encoded.now told.now.shared) told.now)) }
+{
+    problems_are_valid();
+    match sizes_of(encoded, told) {
+        Some(sizes) => compact_by(alloc, sizes, told),
+        None => copy_window(alloc, told),
+    }
+}
+
+// By what the steps of a window are numbered, where they are few.
+fn sizes_of(encoded: &Encoded, told: &WindowRecord) -> Option<Sizes>
+    requires clauses { length encoded.now.problem.clauses < 2 ^ 30 }
+    requires kinds { length encoded.now.problem.kinds < 2 ^ 30 }
+    ensures { result ≡ (if are_few (sizes_of encoded.now told.now.shared) told.now.body then Some (sizes_of encoded.now told.now.shared) else None) }
+{
+    let problem = encoded.problem();
+    let clauses = problem.clauses.len();
+    let shared = told.shared.len();
+    let first = (clauses as u64).saturating_add(shared as u64);
+    if count_steps(first, &told.body) >= MOST_STEPS {
+        return None;
+    }
+    Some(Sizes {
+        clauses: clauses as u32,
+        variables: problem.kinds.len() as u32,
+        shared: shared as u32,
+    })
+}
+
+// A number and the steps of a window's certificates together, or the greatest number if they do not fit.
+fn count_steps(count: u64, body: &WindowBody) -> u64
+    ensures { result ≡ min (count + steps_in (entries_told body.now)) 18446744073709551615 }
+{
+    let mut count = count;
+    for property in body.properties() {
+        count = count_among(count, property.body.entries());
+    }
+    count
+}
+
+fn count_among(count: u64, entries: &[Entry]) -> u64
+    ensures { result ≡ min (count + steps_in entries.now) 18446744073709551615 }
+{
+    let mut count = count;
+    for entry in entries {
+        count = count.saturating_add(count_own(&entry.answer) as u64);
+    }
+    count
+}
+
+// How many steps the certificate of an answer has.
+fn count_own(answer: &Answer) -> usize
+    ensures { result ≡ length (own_steps answer.now) }
+{
+    match answer {
+        Answer::Impossible(certificate) => certificate.steps.len(),
+        Answer::Found(_) => 0,
+        Answer::Undecided { .. } => 0,
+    }
+}
+
+fn compact_by(alloc: Global, sizes: Sizes, told: &WindowRecord) -> Result<WindowRecord, AllocError>
+    requires few { are_few sizes told.now.body ≡ true }
+    requires shared { sizes.shared ≡ length told.now.shared }
+    ensures { IfOk result (IsSameWindow (compacted_by sizes told.now)) }
+{
+    let list = share(alloc, sizes, told.shared.as_slice(), &told.body)?;
+    let over = Rewriting::Over { sizes, list: &list };
+    let body = rewrite_body(alloc, &over, &told.body)?;
+    with_body(alloc, list.into_vec(), body, told)
+}
+
+fn copy_window(alloc: Global, told: &WindowRecord) -> Result<WindowRecord, AllocError>
+    ensures { IfOk result (IsSameWindow told.now) }
+{
+    let shared = copy_steps(alloc, told.shared.as_slice())?;
+    let body = rewrite_body(alloc, &Rewriting::Kept, &told.body)?;
+    with_body(alloc, shared, body, told)
+}
+
+// A window with these shared steps and answers.
+fn with_body(
+    alloc: Global,
+    shared: Vec<Step>,
+    body: WindowBody,
+    told: &WindowRecord,
+) -> Result<WindowRecord, AllocError>
+    ensures { IfOk result (IsSameWindow (record { number = told.now.number; shared = shared.items; body = body; records = told.now.records })) }
+{
+    Ok(WindowRecord {
+        number: told.number,
+        shared: Row::from_vec(shared),
+        body,
+        records: copy_workers(alloc, told.records.as_slice())?,
+    })
+}

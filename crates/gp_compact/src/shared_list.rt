@@ -1,0 +1,119 @@
+ghost use Rattle.std.specs.Prelude.{◌≡◌, [], ◌∷◌, ◌++◌, ◌<◌, ◌^◌, IfOk, List, OnErr, OnOk, length, position, Some};
+ghost use Rattle.gp_derivation.specs.declared.step.Step.{Step};
+ghost use Rattle.gp_compact.specs.Keys.{IsKeyOf, TellsFirsts};
+ghost use Rattle.gp_compact.specs.Moving.{step_eq, with_step};
+
+use gp_clause::Lit;
+use gp_derivation::Step;
+use std::alloc::{AllocError, Global};
+use std::collections::HashMap;
+use std::marker::Model;
+
+// What a step says, by which it is found.
+#[derive(Debug, PartialEq, Eq, Hash, Drop)]
+struct StepKey {
+    lits: Vec<Lit>,
+    hints: Vec<u32>,
+}
+
+// The shared steps of a window. The first place of a step is found by its hash.
+#[derive(Debug, Drop)]
+pub(crate) struct SharedList {
+    steps: Vec<Step>,
+    firsts: HashMap<StepKey, u32>,
+}
+
+impl Model for SharedList {
+    ghost use Rattle.std.specs.Prelude.{List};
+    ghost use Rattle.gp_derivation.specs.declared.step.Step.{Step};
+    ghost use Rattle.gp_compact.specs.Keys.{TellsFirsts};
+
+    ghost Value = { List Step };
+
+    ghost view = { λ list. list.steps.items };
+
+    ghost invariant = { λ list. TellsFirsts list.firsts.entries list.steps.items };
+}
+
+impl SharedList {
+    pub(crate) fn new(alloc: Global) -> SharedList
+        ensures { result ≡ [] }
+    {
+        SharedList {
+            steps: Vec::new(alloc),
+            firsts: HashMap::new(alloc),
+        }
+    }
+
+    pub(crate) fn as_slice(&self) -> &[Step]
+        ensures { result.now ≡ self.now }
+    {
+        self.steps.as_slice()
+    }
+
+    pub(crate) fn into_vec(self) -> Vec<Step>
+        ensures { result.items ≡ self }
+    {
+        let SharedList { steps, .. } = self;
+        steps
+    }
+
+    // The first place of a step that is equal to this one.
+    pub(crate) fn first_place(&self, alloc: Global, step: &Step) -> Result<Option<u32>, AllocError>
+        ensures { IfOk result (λ place. place ≡ position (step_eq step.now) self.now) }
+    {
+        let key = key_of(alloc, step)?;
+        Ok(self.firsts.get(&key).copied())
+    }
+
+    // Puts a step at the end, whether or not an equal one stands in the list.
+    pub(crate) fn push(&mut self, alloc: Global, step: Step) -> Result<(), AllocError>
+        requires { length self.old < 2 ^ 32 }
+        ensures { OnOk result (self.new ≡ self.old ++ step ∷ []) }
+    {
+        let key = key_of(alloc, &step)?;
+        self.steps.reserve(1)?;
+        put_first(&mut self.firsts, key, self.steps.len() as u32)?;
+        self.steps.push_reserved(step);
+        Ok(())
+    }
+
+    // Puts a step at the end, unless an equal one stands in the list. Its first place.
+    pub(crate) fn add(&mut self, alloc: Global, step: Step) -> Result<u32, AllocError>
+        requires { length self.old < 2 ^ 32 }
+        ensures list { OnOk result (self.new ≡ with_step self.old step) }
+        ensures place { IfOk result (λ place. position (step_eq step) self.new ≡ Some place) }
+    {
+        match self.first_place(alloc, &step)? {
+            Some(first) => Ok(first),
+            None => {
+                let place = self.steps.len() as u32;
+                self.push(alloc, step)?;
+                Ok(place)
+            }
+        }
+    }
+}
+
+// Puts the place of a step at the end of a list into the table of the list, unless an equal one stands there.
+fn put_first(firsts: &mut HashMap<StepKey, u32>, key: StepKey, place: u32) -> Result<(), AllocError>
+    ensures ok { OnOk result ((step : Step) (steps : List Step) → IsKeyOf step key → length steps ≡ place → TellsFirsts firsts.old.entries steps → TellsFirsts firsts.new.entries (steps ++ step ∷ [])) }
+    ensures err { OnErr result (firsts.new.entries ≡ firsts.old.entries) }
+{
+    match firsts.get(&key).copied() {
+        Some(_first) => Ok(()),
+        None => {
+            firsts.insert(key, place)?;
+            Ok(())
+        }
+    }
+}
+
+fn key_of(alloc: Global, step: &Step) -> Result<StepKey, AllocError>
+    ensures { IfOk result (λ key. IsKeyOf step.now key) }
+{
+    Ok(StepKey {
+        lits: Vec::from_slice(alloc, step.clause.lits())?,
+        hints: Vec::from_slice(alloc, step.hints.as_slice())?,
+    })
+}

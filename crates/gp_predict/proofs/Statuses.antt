@@ -1,7 +1,7 @@
 -- The statuses that what is due can end with.
-use Rattle.std.proofs.Common.{◌≡◌, ℕ, ◌≤◌, inl, inr, arith}
+use Rattle.std.proofs.Common.{◌≡◌, ℕ, ◌≤◌, inl, inr, subst, arith}
 use Rattle.std.specs.Prelude.{◌⊎◌}
-use Rattle.gp_predict.specs.Analysing.{Expected}
+use Rattle.gp_predict.specs.Expected.{Expected}
 use Rattle.gp_predict.specs.Due.{EndsIn, IsOfTask}
 use Rattle.gp_predict.specs.Run.{HasStatus, IsDone}
 
@@ -36,3 +36,10 @@ pub within : (expected : Expected) (status : ℕ) → EndsIn IsDone expected
 within expected status ends (inl has) = at_most_seven status (ends status has)
 within expected status ends (inr (inl five)) = omega arith
 within expected status ends (inr (inr six)) = omega arith
+
+-- nor is it the refusal of the words
+pub not_words : (expected : Expected) (status : ℕ) → EndsIn IsOfTask expected
+    → HasStatus status expected ⊎ (status ≡ 5) ⊎ (status ≡ 6) → status ≡ 2 → ⊥
+not_words expected status ends (inl has) is = no_words (subst IsOfTask is (ends status has))
+not_words expected status ends (inr (inl five)) is = omega arith
+not_words expected status ends (inr (inr six)) is = omega arith

@@ -1,11 +1,15 @@
 pub mod Analysing
 pub mod Answer
+pub mod Asking
 pub mod Content
 pub mod Due
+pub mod Expected
 pub mod Lines
 pub mod Listing
+pub mod Making
 pub mod Refusal
 pub mod Replaying
 pub mod Run
 pub mod Stage
-pub mod Words
+pub mod Submission
+pub mod Verdict

@@ -15,6 +15,10 @@ use Rattle.gp_property.specs.declared.fault.PropertyFault.{PropertyFault}
 use Rattle.gp_property.specs.declared.fault.PropertyFault.TheVariants as property
 use Rattle.gp_replay.specs.declared.schedule.ScheduleFault.{ScheduleFault}
 use Rattle.gp_replay.specs.declared.schedule.ScheduleFault.TheVariants as schedule
+use Rattle.gp_report.specs.declared.fault.ReportFault.{ReportFault}
+use Rattle.gp_report.specs.declared.fault.ReportFault.TheVariants as report
+use Rattle.gp_report.specs.declared.fault.ReportRule.{ReportRule}
+use Rattle.gp_report.specs.declared.fault.ReportRule.TheVariants as rule
 use Rattle.gp_predict.specs.declared.answer.Answer.{Answer}
 
 -- a status with a text of one line
@@ -97,3 +101,18 @@ properties_refusal (property.TooManyAtoms line) = refused_at file.Properties lin
 properties_refusal (property.UnknownEvent line) = refused_at file.Properties line (codes "unknownevent")
 properties_refusal (property.RegionUse line) = refused_at file.Properties line (codes "regionuse")
 properties_refusal property.Memory = never_due
+
+-- the word by which a rule of reports is told
+abbrev pub rule_word : ReportRule → List ℕ
+rule_word rule.Form = codes "form"
+rule_word rule.Order = codes "order"
+rule_word rule.Length = codes "length"
+rule_word rule.Clause = codes "clause"
+rule_word rule.End = codes "end"
+rule_word rule.After = codes "after"
+
+-- a text that is no report
+abbrev pub report_refusal : ReportFault → Answer
+report_refusal (report.Text fault) = text_refusal file.Report fault
+report_refusal (report.Rule line rule) = refused_at file.Report line (rule_word rule)
+report_refusal report.Memory = never_due

@@ -3,9 +3,10 @@
 // `run` reads a recording, which is the separate traces of the threads of one run. Task replay reads a
 // schedule, and says whether it can happen: `feasible N`, or `stuck P R` with the place and the rule of
 // the first event that may not happen. Task list reads properties, and lists the instances of each in
-// each window. Task analyse answers each of these instances, and writes the report. The contract of `run`
-// is stated by one definition, what is due to the words and the files: a text with its status, or an
-// analysis. A file that breaks a rule is refused by its name, the line and the rule; a fault of the folder
+// each window. Task analyse answers each of these instances, and writes the report; task check says whether
+// a report holds, whoever wrote it, and task compact tells it shorter. Task make writes a recording. The contract of `run`
+// is stated by one definition, what is due to the words and the files: a text with its status, an
+// analysis, or the verdict on a report. A file that breaks a rule is refused by its name, the line and the rule; a fault of the folder
 // or of the sink is never told as an answer.
 #![tactic(auto)]
 
@@ -15,13 +16,15 @@ mod content;
 mod due;
 mod lines;
 mod listing;
+mod making;
 mod outcome;
 mod refusal;
 mod replaying;
 mod reporting;
 mod stop;
+mod submission;
 mod top;
-mod words;
+mod verdict;
 mod writing;
 
 pub use outcome::Outcome;

@@ -1,7 +1,9 @@
 ghost use Rattle.std.specs.Prelude.{ℕ, ◌≡◌, ◌≢◌, ◌≤◌, ◌<◌, ◌-◌, ◌^◌, ◌++◌, ◌∷◌, [], List, Some, Err, IfOk, IfErr, OnOk, length};
+ghost use Rattle.std.specs.List.{AllByRecursion};
 ghost use Rattle.gp_outside.specs.Faults.{Rose};
 ghost use Rattle.gp_outside.specs.Folders.{File};
 ghost use Rattle.gp_instance.specs.Instances.{due_instances};
+ghost use Rattle.gp_property.specs.Property.{IsProperty};
 ghost use Rattle.gp_property.specs.Reading.{properties_of};
 ghost use Rattle.gp_analysis.specs.Tickets.{found_count, properties_count};
 ghost use Rattle.gp_predict.specs.Listing.{instance_lines, listing_at, properties_at, properties_lines, property_lines, told_lines};
@@ -40,6 +42,7 @@ pub fn listing_at<R: AllocGlobal + Threads + Sync, F: Folder>(
     ensures told { (files : List File) → F.files folder.old ≡ Some files
         → Gives refusal_of result (listing_at files directory.now) }
     ensures few { IfOk result (λ listing. length listing.properties ≤ 64) }
+    ensures valid { IfOk result (λ listing. AllByRecursion IsProperty listing.properties) }
     ensures refused { IfErr result IsRefusal }
     ensures fault { result ≡ Err Stop.ReadFault → Rose (F.faults folder.old) (F.faults folder.new) }
 {
@@ -61,6 +64,7 @@ fn properties_at<F: Folder>(
     ensures told { (files : List File) → F.files folder.old ≡ Some files
         → Gives refusal_of result (properties_at files directory.now) }
     ensures few { IfOk result (λ properties. length properties ≤ 64) }
+    ensures valid { IfOk result (λ properties. AllByRecursion IsProperty properties) }
     ensures refused { IfErr result IsRefusal }
     ensures fault { result ≡ Err Stop.ReadFault → Rose (F.faults folder.old) (F.faults folder.new) }
 {
@@ -72,6 +76,7 @@ fn properties_from(alloc: Global, bytes: &[u8]) -> Result<Row<Property>, Stop>
     requires { length bytes.now < 2 ^ 32 - 1 }
     ensures due { Gives refusal_of result (or_refused properties_refusal (properties_of bytes.now)) }
     ensures few { IfOk result (λ properties. length properties ≤ 64) }
+    ensures valid { IfOk result (λ properties. AllByRecursion IsProperty properties) }
     ensures refused { IfErr result IsRefusal }
     ensures no_fault { result ≢ Err Stop.ReadFault }
 {

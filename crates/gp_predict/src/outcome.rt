@@ -5,8 +5,9 @@ use gp_report::Report;
 /// What the program ends with.
 #[derive(Debug, Drop)]
 pub struct Outcome {
-    /// 0 feasible, listed, or answered and nothing is found; 1 stuck, or something is found; 2 the words are refused,
-    /// 3 an input file is refused, 4 the folder failed, 5 the sink failed, 6 want of memory, 7 too much work is asked.
+    /// 0 feasible, listed, accepted, made, or answered and nothing is found; 1 stuck, rejected, or something is found; 2 the
+    /// words are refused, 3 an input file is refused, 4 the folder failed, 5 the sink failed, 6 want of memory, 7 too much
+    /// work is asked.
     pub status: u8,
     /// The report of task analyse, where it was made and its writing was begun.
     pub report: Option<Report>,

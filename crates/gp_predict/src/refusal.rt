@@ -1,9 +1,10 @@
 ghost use Rattle.std.specs.Prelude.{◌≡◌, IfOk};
-ghost use Rattle.gp_predict.specs.Refusal.{content_refusal, properties_refusal, recording_refusal, recording_refused, refused_as, refused_at, schedule_refusal, text_refusal, trace_refusal, two_holders};
+ghost use Rattle.gp_predict.specs.Refusal.{content_refusal, properties_refusal, recording_refusal, recording_refused, refused_as, refused_at, report_refusal, rule_word, schedule_refusal, text_refusal, trace_refusal, two_holders};
 
 use crate::answer::{Answer, line_of, one_line};
 use gp_property::PropertyFault;
 use gp_replay::ScheduleFault;
+use gp_report::{ReportFault, ReportRule};
 use gp_text::{Name, TextFault, print_u64};
 use gp_trace::TraceFault;
 use gp_window::{ContentFault, FileName, RecordingFault};
@@ -93,6 +94,33 @@ pub fn properties_refusal(alloc: Global, fault: PropertyFault) -> Result<Answer,
             "regionuse",
         ),
         PropertyFault::Memory => Err(AllocError),
+    }
+}
+
+/// The refusal of a text that is no report. Want of memory has none.
+pub fn report_refusal(alloc: Global, fault: ReportFault) -> Result<Answer, AllocError>
+    ensures text { IfOk result (λ answer. answer ≡ report_refusal fault) }
+    ensures status { IfOk result (λ answer. answer.status ≡ 3) }
+{
+    match fault {
+        ReportFault::Text(fault) => text_refusal(alloc, FileName::Report, fault),
+        ReportFault::Rule { line, rule } => {
+            refused_at(alloc, FileName::Report, line, rule_word(rule))
+        }
+        ReportFault::Memory => Err(AllocError),
+    }
+}
+
+fn rule_word(rule: ReportRule) -> &'static str
+    ensures { result.now ≡ rule_word rule }
+{
+    match rule {
+        ReportRule::Form => "form",
+        ReportRule::Order => "order",
+        ReportRule::Length => "length",
+        ReportRule::Clause => "clause",
+        ReportRule::End => "end",
+        ReportRule::After => "after",
     }
 }
 

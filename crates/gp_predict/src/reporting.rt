@@ -1,44 +1,98 @@
-ghost use Rattle.std.specs.Prelude.{◌≡◌, ◌≤◌, ◌<◌, ◌++◌, Err, OnOk, OnErr, length};
+ghost use Rattle.std.specs.Prelude.{◌≡◌, ◌≤◌, ◌<◌, ◌++◌, Err, IfOk, OnOk, OnErr, length};
 ghost use Rattle.std.specs.List.{list_any};
 ghost use Rattle.gp_outside.specs.Faults.{Rose};
 ghost use Rattle.gp_outside.specs.Sinks.{Appends, AppendsFront};
 ghost use Rattle.gp_report.specs.Entries.{entries_among, entries_of, is_found};
 ghost use Rattle.gp_report.specs.declared.record.Entry.{Entry};
-ghost use Rattle.gp_predict.specs.Analysing.{AnalysisForm, Analysis, CanBeAnalysed, analysis_form, report_status};
+ghost use Rattle.gp_predict.specs.Analysing.{CanBeAnalysed, analysis_form, report_status};
 ghost use Rattle.gp_predict.specs.Due.{IsPut};
-ghost use Rattle.gp_predict.specs.Run.{Answers, report_text};
+ghost use Rattle.gp_predict.specs.Expected.{AnalysisForm, Analysis, Compacted};
+ghost use Rattle.gp_predict.specs.Run.{Answers, IsCompactText, report_text};
 
+use crate::due::Asked;
 use crate::listing::Listing;
 use crate::outcome::Outcome;
+use crate::submission::Submission;
 use crate::writing::status_of_fault;
 use gp_analysis::analyse;
+use gp_compact::compact;
 use gp_outside::{Gate, PutFault, Sink};
 use gp_report::{Answer, Entry, PropertyRecord, Report, WindowRecord, print_report};
-use std::alloc::Global;
+use gp_text::Row;
+use std::alloc::{AllocError, Global};
 use std::thread::Threads;
 
-/// Answers each instance of what would be listed, and writes the report.
+/// The format that tells the steps which the certificates of a window share by themselves.
+const COMPACT: u32 = 2;
+
+/// Answers each instance of what would be listed, and writes the report in the format that is asked for.
 pub fn put_analysis<R: AllocGlobal + Threads + Sync, S: Sink, G: Gate + Sync>(
     rt: &R,
     sink: &mut S,
     listing: &Listing,
-    budget: u64,
+    asked: Asked,
     gate: &G,
 ) -> Outcome
-    requires { CanBeAnalysed listing.now budget }
-    ensures { IsPut (Analysis (analysis_form listing.now budget)) result (S.written sink.old) (S.written sink.new) (S.faults sink.old) (S.faults sink.new) }
+    requires { CanBeAnalysed listing.now asked }
+    ensures { IsPut (Analysis (analysis_form listing.now asked)) result (S.written sink.old) (S.written sink.new) (S.faults sink.old) (S.faults sink.new) }
 {
-    match analyse(
-        rt,
-        rt.alloc(),
-        &listing.recording,
-        listing.properties.as_slice(),
-        1,
-        budget,
-        gate,
-    ) {
+    match analysis_report(rt, listing, asked, gate) {
         Ok(report) => put_report(rt.alloc(), sink, report),
         Err(_) => Outcome::of(6),
+    }
+}
+
+/// The report of an analysis, in the format that is asked for.
+fn analysis_report<R: AllocGlobal + Threads + Sync, G: Gate + Sync>(
+    rt: &R,
+    listing: &Listing,
+    asked: Asked,
+    gate: &G,
+) -> Result<Report, AllocError>
+    requires { CanBeAnalysed listing.now asked }
+    ensures { IfOk result (Answers (analysis_form listing.now asked)) }
+{
+    let recording = &listing.recording;
+    let properties = listing.properties.as_slice();
+    let report = analyse(
+        rt,
+        rt.alloc(),
+        recording,
+        properties,
+        asked.workers,
+        asked.budget,
+        gate,
+    )?;
+    if asked.format == COMPACT {
+        return compact(rt.alloc(), recording, &report);
+    }
+    Ok(report)
+}
+
+/// Writes the compact form of a report. It is not kept, since no analysis was made.
+pub fn put_compacted<S: Sink>(alloc: Global, sink: &mut S, submission: &Submission) -> Outcome
+    ensures { IsPut (Compacted submission.now) result (S.written sink.old) (S.written sink.new) (S.faults sink.old) (S.faults sink.new) }
+{
+    match compacted_text(alloc, submission) {
+        Ok(text) => put_compacted_text(sink, submission, text.as_slice()),
+        Err(_) => Outcome::of(6),
+    }
+}
+
+fn compacted_text(alloc: Global, submission: &Submission) -> Result<Row<u8>, AllocError>
+    ensures { IfOk result (λ text. IsCompactText submission.now text) }
+{
+    let report = compact(alloc, &submission.listing.recording, &submission.report)?;
+    print_report(alloc, &report)
+}
+
+fn put_compacted_text<S: Sink>(sink: &mut S, submission: &Submission, text: &[u8]) -> Outcome
+    requires { IsCompactText submission.now text.now }
+    ensures { IsPut (Compacted submission.now) result (S.written sink.old) (S.written sink.new) (S.faults sink.old) (S.faults sink.new) }
+{
+    match put_each_line(sink, text) {
+        Ok(()) => Outcome::of(0),
+        Err(fault) => Outcome::of(status_of_fault(fault)),
     }
 }
 

@@ -1,30 +1,34 @@
-ghost use Rattle.std.specs.Prelude.{ℕ, ◌≡◌, ◌≤◌, ◌⊎◌, List, Some, None, Err, IfOk, IfErr, map, string_bytes};
+ghost use Rattle.std.specs.Prelude.{ℕ, ◌≡◌, ◌≢◌, ◌≤◌, ◌⊎◌, true, List, Some, None, Err, IfOk, IfErr, map, string_bytes};
 ghost use Rattle.gp_outside.specs.Faults.{Rose};
 ghost use Rattle.gp_outside.specs.Folders.{File};
-ghost use Rattle.gp_predict.specs.Answer.{due_answer, task_at};
-ghost use Rattle.gp_predict.specs.Due.{EndsIn, IsOfTask, IsWithinLimits, expected_of};
+ghost use Rattle.gp_predict.specs.Answer.{due_answer, due_by, reads_files, task_at, words_refused};
+ghost use Rattle.gp_predict.specs.Due.{EndsIn, IsOfTask, IsPut, IsRun, IsWithinLimits, expected_of};
+ghost use Rattle.gp_predict.specs.Expected.{Text};
+ghost use Rattle.gp_predict.specs.Making.{LeavesFiles};
 ghost use Rattle.gp_predict.specs.Run.{HasStatus, IsBegun, IsDone, IsGiven, KeepsReport, WhereDue};
 ghost use Rattle.gp_predict.specs.Stage.{GivesAs, IsRefusal};
-ghost use Rattle.gp_predict.specs.Words.{command_of, form_of};
+ghost use Rattle.gp_words.specs.Command.{IsInRanges, command_of, form_of};
 
-use crate::analysing::analysing_at;
+use crate::analysing::{analysing_at, asked_of};
 use crate::answer::words_refused;
 use crate::due::Due;
 use crate::listing::listing_at;
+use crate::making::{made_answer, make_at, recipe_of};
 use crate::outcome::Outcome;
 use crate::replaying::replay_at;
 use crate::stop::Stop;
-use crate::words::{Command, Task, command_of};
-use crate::writing::put_due;
+use crate::submission::submission_at;
+use crate::writing::{put_answer, put_due};
 use gp_outside::{Folder, Gate, Sink};
-use std::alloc::AllocError;
+use gp_words::{Command, Task, command_of};
+use std::alloc::Global;
 use std::thread::Threads;
 
 /// Does what the words ask for, with the files of the folder, and writes the text to the sink.
 ///
-/// `words` are the words after the program's name: `--task=replay`, `--task=list` or `--task=analyse`, perhaps
-/// `--budget=B`, and the folder that holds `manifest`, `t1.trace` and so on, and `schedule` or `props`. The worker of task
-/// analyse passes the gate before each query.
+/// `words` are the words after the program's name: options, of which `--task` is one, and the folder that holds
+/// `manifest`, `t1.trace` and so on, and `props`, `schedule` or `report`. A worker of task analyse passes the gate before
+/// each query.
 pub fn run<R: AllocGlobal + Threads + Sync, F: Folder, S: Sink, G: Gate + Sync>(
     rt: &R,
     words: &[String],
@@ -52,58 +56,58 @@ pub fn run<R: AllocGlobal + Threads + Sync, F: Folder, S: Sink, G: Gate + Sync>(
     ensures kept_report { result.status ≡ 5 → WhereDue
         (due_answer (map string_bytes words.now) (F.files folder.old))
         (KeepsReport result.report) }
-    ensures kept { F.files folder.new ≡ F.files folder.old }
+    // Task make alone changes files; what it leaves of them is said by status.
+    ensures kept { LeavesFiles (command_of (map string_bytes words.now)) result.status
+        (F.files folder.old) (F.files folder.new) }
     ensures range { result.status ≤ 7 }
 {
-    match due_to(rt, words, folder) {
-        Ok(due) => put_due(rt, sink, &due, gate),
-        Err(Halt::ReadFault) => Outcome::of(4),
-        Err(Halt::Memory) => Outcome::of(6),
-    }
-}
-
-/// Why no answer was reached.
-enum Halt {
-    /// The folder failed.
-    ReadFault,
-    /// Want of memory.
-    Memory,
-}
-
-impl From<AllocError> for Halt {
-    ghost use Rattle.std.specs.Prelude.{◌≡◌};
-    ghost use Rattle.gp_predict.specs.declared.top.Halt.TheVariants.{Memory};
-
-    ghost from_gives = { λ _ e. e ≡ Memory };
-
-    fn from(_error: AllocError) -> Halt {
-        Halt::Memory
-    }
-}
-
-/// What is due; a refusal is an answer too.
-fn due_to<R: AllocGlobal + Threads + Sync, F: Folder>(
-    rt: &R,
-    words: &[String],
-    folder: &mut F,
-) -> Result<Due, Halt>
-    ensures later { F.faults folder.old ≤ F.faults folder.new }
-    ensures kept { F.files folder.new ≡ F.files folder.old }
-    ensures due { IfOk result (λ given. WhereDue
-        (due_answer (map string_bytes words.now) (F.files folder.old)) (λ expected. expected_of given ≡ expected)) }
-    ensures words { IfOk result (λ given. HasStatus 2 (expected_of given) → command_of (map string_bytes words.now) ≡ None) }
-    ensures range { IfOk result (λ given. EndsIn IsDone (expected_of given)) }
-    ensures limits { IfOk result IsWithinLimits }
-    ensures fault { result ≡ Err Halt.ReadFault → Rose (F.faults folder.old) (F.faults folder.new) }
-{
     let Some(command) = command_of(words) else {
-        return Ok(Due::Whole(words_refused(rt.alloc())?));
+        return put_words_refused(rt.alloc(), sink);
     };
-    match task_at(rt, &command, folder) {
-        Ok(due) => Ok(due),
-        Err(Stop::Refused(answer)) => Ok(Due::Whole(answer)),
-        Err(Stop::ReadFault) => Err(Halt::ReadFault),
-        Err(Stop::Memory) => Err(Halt::Memory),
+    if reads_files(command.task) {
+        answer(rt, &command, folder, sink, gate)
+    } else {
+        make_at(rt.alloc(), &command, folder, sink)
+    }
+}
+
+/// Refuses the words.
+fn put_words_refused<S: Sink>(alloc: Global, sink: &mut S) -> Outcome
+    ensures { IsPut (Text words_refused) result (S.written sink.old) (S.written sink.new) (S.faults sink.old) (S.faults sink.new) }
+{
+    match words_refused(alloc) {
+        Ok(answer) => put_answer(sink, &answer),
+        Err(_) => Outcome::of(6),
+    }
+}
+
+fn reads_files(task: Task) -> bool
+    ensures { result ≡ reads_files task }
+{
+    match task {
+        Task::Make => false,
+        Task::Replay | Task::List | Task::Analyse | Task::Check | Task::Compact => true,
+    }
+}
+
+/// Does what a command asks for that reads files. A refusal is an answer too.
+fn answer<R: AllocGlobal + Threads + Sync, F: Folder, S: Sink, G: Gate + Sync>(
+    rt: &R,
+    command: &Command<'_>,
+    folder: &mut F,
+    sink: &mut S,
+    gate: &G,
+) -> Outcome
+    requires { IsInRanges (form_of command.now) }
+    ensures run { IsRun (due_by true (form_of command.now) (F.files folder.old)) result (S.written sink.old) (S.written sink.new) (S.faults sink.old) (S.faults sink.new) (F.faults folder.old) (F.faults folder.new) }
+    ensures kept { F.files folder.new ≡ F.files folder.old }
+    ensures words { result.status ≢ 2 }
+{
+    match task_at(rt, command, folder) {
+        Ok(due) => put_due(rt, sink, &due, gate),
+        Err(Stop::Refused(answer)) => put_answer(sink, &answer),
+        Err(Stop::ReadFault) => Outcome::of(4),
+        Err(Stop::Memory) => Outcome::of(6),
     }
 }
 
@@ -113,8 +117,7 @@ fn task_at<R: AllocGlobal + Threads + Sync, F: Folder>(
     command: &Command<'_>,
     folder: &mut F,
 ) -> Result<Due, Stop>
-    requires least { 1 ≤ command.now.budget }
-    requires most { command.now.budget ≤ 1000000 }
+    requires { IsInRanges (form_of command.now) }
     ensures later { F.faults folder.old ≤ F.faults folder.new }
     ensures kept { F.files folder.new ≡ F.files folder.old }
     ensures told { (files : List File) → F.files folder.old ≡ Some files
@@ -128,6 +131,9 @@ fn task_at<R: AllocGlobal + Threads + Sync, F: Folder>(
     match command.task {
         Task::Replay => Ok(Due::Whole(replay_at(rt, folder, directory)?)),
         Task::List => Ok(Due::InPieces(listing_at(rt, folder, directory)?)),
-        Task::Analyse => analysing_at(rt, folder, directory, command.budget),
+        Task::Analyse => analysing_at(rt, folder, directory, asked_of(command)),
+        Task::Check => Ok(Due::Verdict(submission_at(rt, folder, directory)?)),
+        Task::Compact => Ok(Due::Compacted(submission_at(rt, folder, directory)?)),
+        Task::Make => Ok(Due::Whole(made_answer(rt.alloc(), &recipe_of(command))?)),
     }
 }

@@ -1,9 +1,8 @@
 ghost use Rattle.std.specs.Prelude.{◌≡◌, ◌≤◌, ◌⊎◌, ◌↔◌, IfOk, OnOk, OnErr, Err, flat_map, length};
 ghost use Rattle.gp_outside.specs.Faults.{Rose};
 ghost use Rattle.gp_outside.specs.Sinks.{Appends, AppendsFront};
-ghost use Rattle.gp_predict.specs.Analysing.{Text};
-ghost use Rattle.gp_predict.specs.Answer.{text_of};
 ghost use Rattle.gp_predict.specs.Due.{EndsIn, IsPut, IsWithinLimits, expected_of};
+ghost use Rattle.gp_predict.specs.Expected.{Text, text_of};
 ghost use Rattle.gp_predict.specs.Lines.{total_line};
 ghost use Rattle.gp_predict.specs.Listing.{all_lines, answer_of_listing, total_count};
 ghost use Rattle.gp_predict.specs.Run.{IsDone};
@@ -13,7 +12,8 @@ use crate::due::Due;
 use crate::lines::total_line;
 use crate::listing::{Listing, Told, told_of};
 use crate::outcome::Outcome;
-use crate::reporting::put_analysis;
+use crate::reporting::{put_analysis, put_compacted};
+use crate::verdict::put_verdict;
 use gp_outside::{Gate, PutFault, Sink};
 use gp_property::Property;
 use gp_text::Row;
@@ -36,11 +36,14 @@ pub fn put_due<R: AllocGlobal + Threads + Sync, S: Sink, G: Gate + Sync>(
     match due {
         Due::Whole(answer) => put_answer(sink, answer),
         Due::InPieces(listing) => put_list(alloc, sink, listing),
-        Due::Analysis { listing, budget } => put_analysis(rt, sink, listing, *budget, gate),
+        Due::Analysis { listing, asked } => put_analysis(rt, sink, listing, *asked, gate),
+        Due::Verdict(submission) => put_verdict(alloc, sink, submission),
+        Due::Compacted(submission) => put_compacted(alloc, sink, submission),
     }
 }
 
-fn put_answer<S: Sink>(sink: &mut S, answer: &Answer) -> Outcome
+/// Writes an answer of a few lines.
+pub fn put_answer<S: Sink>(sink: &mut S, answer: &Answer) -> Outcome
     requires { EndsIn IsDone (Text answer.now) }
     ensures { IsPut (Text answer.now) result (S.written sink.old) (S.written sink.new) (S.faults sink.old) (S.faults sink.new) }
 {

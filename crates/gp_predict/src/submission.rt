@@ -1,0 +1,70 @@
+ghost use Rattle.std.specs.Prelude.{ℕ, ◌≡◌, ◌≢◌, ◌≤◌, ◌<◌, ◌-◌, ◌^◌, List, Some, Err, IfOk, IfErr, length};
+ghost use Rattle.gp_outside.specs.Faults.{Rose};
+ghost use Rattle.gp_outside.specs.Folders.{File};
+ghost use Rattle.gp_predict.specs.Refusal.{report_refusal};
+ghost use Rattle.gp_predict.specs.Stage.{IsRefusal, refusal_of};
+ghost use Rattle.gp_predict.specs.Submission.{CanBeChecked, report_at, submission_at};
+ghost use Rattle.gp_report.specs.Reading.{report_of};
+ghost use Rattle.gp_text.specs.Results.{or_refused};
+ghost use Rattle.gp_window.specs.Gives.{Gives};
+
+use crate::content::content_at;
+use crate::listing::{Listing, listing_at};
+use crate::refusal::report_refusal;
+use crate::stop::Stop;
+use gp_outside::Folder;
+use gp_report::{Report, ReportFault, read_report};
+use gp_window::FileName;
+use std::alloc::Global;
+use std::thread::Threads;
+
+/// A report beside the recording and the properties that it is to answer.
+#[derive(Debug, Drop)]
+pub struct Submission {
+    pub listing: Listing,
+    pub report: Report,
+}
+
+/// Reads the recording, the properties and the report in a folder.
+pub fn submission_at<R: AllocGlobal + Threads + Sync, F: Folder>(
+    rt: &R,
+    folder: &mut F,
+    directory: &str,
+) -> Result<Submission, Stop>
+    ensures later { F.faults folder.old ≤ F.faults folder.new }
+    ensures kept { F.files folder.new ≡ F.files folder.old }
+    ensures told { (files : List File) → F.files folder.old ≡ Some files
+        → Gives refusal_of result (submission_at files directory.now) }
+    ensures within { IfOk result CanBeChecked }
+    ensures refused { IfErr result IsRefusal }
+    ensures fault { result ≡ Err Stop.ReadFault → Rose (F.faults folder.old) (F.faults folder.new) }
+{
+    let listing = listing_at(rt, folder, directory)?;
+    let report = report_at(rt.alloc(), folder, directory)?;
+    Ok(Submission { listing, report })
+}
+
+fn report_at<F: Folder>(alloc: Global, folder: &mut F, directory: &str) -> Result<Report, Stop>
+    ensures later { F.faults folder.old ≤ F.faults folder.new }
+    ensures kept { F.files folder.new ≡ F.files folder.old }
+    ensures told { (files : List File) → F.files folder.old ≡ Some files
+        → Gives refusal_of result (report_at files directory.now) }
+    ensures refused { IfErr result IsRefusal }
+    ensures fault { result ≡ Err Stop.ReadFault → Rose (F.faults folder.old) (F.faults folder.new) }
+{
+    let bytes = content_at(alloc, folder, directory, FileName::Report)?;
+    report_from(alloc, bytes.as_slice())
+}
+
+fn report_from(alloc: Global, bytes: &[u8]) -> Result<Report, Stop>
+    requires { length bytes.now < 2 ^ 32 - 1 }
+    ensures due { Gives refusal_of result (or_refused report_refusal (report_of bytes.now)) }
+    ensures refused { IfErr result IsRefusal }
+    ensures no_fault { result ≢ Err Stop.ReadFault }
+{
+    match read_report(alloc, bytes) {
+        Ok(read) => Ok(read.report),
+        Err(ReportFault::Memory) => Err(Stop::Memory),
+        Err(fault) => Err(Stop::Refused(report_refusal(alloc, fault)?)),
+    }
+}

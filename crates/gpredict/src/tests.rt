@@ -8,12 +8,19 @@ use std::test::Fail;
 use std::thread::Threads;
 
 mod analysing;
+mod checking;
+mod compacting;
+mod corrupting;
 mod evidence;
 mod faults;
+mod hostile;
 mod listing;
+mod making;
+mod reading;
 mod replaying;
 mod sharing;
 mod stages;
+mod words;
 
 type Files = Vec<(String, Vec<u8>)>;
 
@@ -192,104 +199,6 @@ fn lengthen(bytes: &mut Vec<u8>, length: usize) -> Result<(), AllocError> {
         let is_last = place % 4096 == 4095 || place + 1 == length;
         bytes.push(if is_last { b'\n' } else { b'#' })?;
     }
-    Ok(())
-}
-
-/// Whether words end with this status and write this text, where no file is there.
-fn words_end<R: AllocGlobal + Threads + Sync>(
-    rt: &R,
-    words: &[&str],
-    status: u8,
-    text: &str,
-) -> Result<bool, AllocError> {
-    let alloc = rt.alloc();
-    let given = words_with(alloc, words)?;
-    let script = Script::nothing(alloc);
-    Ok(runs_to(rt, given.as_slice(), Vec::new(alloc), script, status, text))
-}
-
-/// Whether words end as told in each row, where no file is there.
-fn words_hold<R: AllocGlobal + Threads + Sync>(
-    rt: &R,
-    rows: &[(&[&str], u8, &str)],
-) -> Result<bool, AllocError> {
-    let mut hold = true;
-    for (words, status, text) in rows {
-        hold &= words_end(rt, words, *status, text)?;
-    }
-    Ok(hold)
-}
-
-#[test]
-fn other_words_are_refused(rt: HostRuntime) -> Result<(), Fail> {
-    const ROWS: [(&[&str], u8, &str); 13] = [
-        (&[], 2, "words\n"),
-        (&[REPLAY], 2, "words\n"),
-        (&[LIST], 2, "words\n"),
-        (&["--task=lists", "d"], 2, "words\n"),
-        (&["--task=replay ", "d"], 2, "words\n"),
-        (&["d", REPLAY], 2, "words\n"),
-        (&[REPLAY, ""], 2, "words\n"),
-        (&[REPLAY, "-"], 2, "words\n"),
-        (&[REPLAY, "-d"], 2, "words\n"),
-        (&[REPLAY, "d", "e"], 2, "words\n"),
-        (&[REPLAY, "d"], 3, "refused manifest absent\n"),
-        (&[LIST, "d"], 3, "refused manifest absent\n"),
-        (&[ANALYSE, "d"], 3, "refused manifest absent\n"),
-    ];
-    assert!(rt; words_hold(&rt, &ROWS)?);
-    Ok(())
-}
-
-#[test]
-fn a_budget_is_a_number_to_a_million(rt: HostRuntime) -> Result<(), Fail> {
-    const ROWS: [(&[&str], u8, &str); 9] = [
-        (&[ANALYSE, "--budget=0", "d"], 2, "words\n"),
-        (
-            &[ANALYSE, "--budget=1", "d"],
-            3,
-            "refused manifest absent\n",
-        ),
-        (
-            &[ANALYSE, "--budget=1000000", "d"],
-            3,
-            "refused manifest absent\n",
-        ),
-        (&[ANALYSE, "--budget=1000001", "d"], 2, "words\n"),
-        (&[ANALYSE, "--budget=01", "d"], 2, "words\n"),
-        (&[ANALYSE, "--budget=", "d"], 2, "words\n"),
-        (&[ANALYSE, "--budget", "d"], 2, "words\n"),
-        (&[ANALYSE, "--budget=1"], 2, "words\n"),
-        (&[LIST, "--budget=1", "d"], 3, "refused manifest absent\n"),
-    ];
-    assert!(rt; words_hold(&rt, &ROWS)?);
-    Ok(())
-}
-
-/// Whether a folder's name of this length ends so.
-fn folder_ends<R: AllocGlobal + Threads + Sync>(
-    rt: &R,
-    length: usize,
-    status: u8,
-    text: &str,
-) -> Result<bool, AllocError> {
-    let mut name = String::new(rt.alloc());
-    for _ in 0..length {
-        name.push('d')?;
-    }
-    words_end(rt, &[REPLAY, name.as_str()], status, text)
-}
-
-fn folder_names_hold<R: AllocGlobal + Threads + Sync>(rt: &R) -> Result<bool, AllocError> {
-    Ok(
-        folder_ends(rt, 4_096, 3, "refused manifest absent\n")?
-            && folder_ends(rt, 4_097, 2, "words\n")?,
-    )
-}
-
-#[test]
-fn a_folder_has_4096_bytes_at_most(rt: HostRuntime) -> Result<(), Fail> {
-    assert!(rt; folder_names_hold(&rt)?);
     Ok(())
 }
 

@@ -164,6 +164,33 @@ fn instances_are_answered(rt: HostRuntime) -> Result<(), Fail> {
     Ok(())
 }
 
+/// Whether so many workers find the one instance by the one schedule that shows it.
+fn workers_find_it<R: AllocGlobal + Threads + Sync>(
+    rt: &R,
+    workers: &str,
+) -> Result<bool, AllocError> {
+    let text =
+        "gpredict 1\nbudget 200\nwindow 1\nproperty late_auth 1\ninstance 0 2.0 1.1\nfound 3\n1.0 2.0 1.1\nsummary 1 0 0\n";
+    let mut files = recording(rt.alloc(), [ONE_ROOT, AUTH, USE])?;
+    add(&mut files, rt.alloc(), "props", LATE_AUTH)?;
+    let words = words_with(rt.alloc(), &[ANALYSE, workers, "d"])?;
+    answers(rt, words.as_slice(), files, 1, text)
+}
+
+fn all_workers_find_it<R: AllocGlobal + Threads + Sync>(rt: &R) -> Result<bool, AllocError> {
+    Ok(
+        workers_find_it(rt, "--workers=1")?
+            && workers_find_it(rt, "--workers=4")?
+            && workers_find_it(rt, "--workers=16")?,
+    )
+}
+
+#[test]
+fn any_number_of_workers_answers_alike(rt: HostRuntime) -> Result<(), Fail> {
+    assert!(rt; all_workers_find_it(&rt)?);
+    Ok(())
+}
+
 /// A lock is taken in the first of two windows, and given back in the second.
 pub const FIRST: &str = "acquire l\nmark\nop a\nrelease l\n";
 

@@ -136,14 +136,14 @@ fn refutes_recorded<R: AllocGlobal + Threads + Sync>(
     }
 }
 
-/// The report of an analysis with this budget.
+/// The report of an analysis by one worker with this budget.
 fn report_of<R: AllocGlobal + Threads + Sync>(
     rt: &R,
     recorded: &Recorded,
     budget: &str,
 ) -> Result<Option<Report>, AllocError> {
     let files = files_of(rt.alloc(), recorded)?;
-    let words = words_with(rt.alloc(), &[ANALYSE, budget, "d"])?;
+    let words = words_with(rt.alloc(), &[ANALYSE, "--workers=1", budget, "d"])?;
     let (outcome, _sink) = run_on(rt, words.as_slice(), files, Script::nothing(rt.alloc()));
     Ok(outcome.report)
 }

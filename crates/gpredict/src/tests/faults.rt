@@ -1,8 +1,10 @@
 // Whole runs in which the folder, the sink or the allocator fails.
+use super::checking::{CHECK, REPORT, WAITING, reported};
 use super::listing::LATE_AUTH;
+use super::making::LARGE;
 use super::{
     ANALYSE, AUTH, Files, LIST, ONE_ROOT, REPLAY, Script, USE, add, recording, run_on, runs_to,
-    words_of,
+    words_of, words_with,
 };
 use std::alloc::{AllocError, Global};
 use std::test::Fail;
@@ -84,6 +86,58 @@ fn read_faults_end_so<R: AllocGlobal + Threads + Sync>(rt: &R) -> Result<bool, A
 #[test]
 fn a_file_that_could_not_be_read_is_no_answer(rt: HostRuntime) -> Result<(), Fail> {
     assert!(rt; read_faults_end_so(&rt)?);
+    Ok(())
+}
+
+/// Whether words on these files end so where this call of the folder fails.
+fn call_fault_ends<R: AllocGlobal + Threads + Sync>(
+    rt: &R,
+    words: &[&str],
+    files: Files,
+    call: u64,
+    status: u8,
+    text: &str,
+) -> Result<bool, AllocError> {
+    let alloc = rt.alloc();
+    let given = words_with(alloc, words)?;
+    let script = Script {
+        reads: vec![in alloc; call]?,
+        puts: Vec::new(alloc),
+    };
+    Ok(runs_to(rt, given.as_slice(), files, script, status, text))
+}
+
+/// Whether task check ends so where this call fails. It reads five files.
+fn check_fault_ends<R: AllocGlobal + Threads + Sync>(
+    rt: &R,
+    call: u64,
+    status: u8,
+    text: &str,
+) -> Result<bool, AllocError> {
+    let files = reported(rt.alloc(), &WAITING, REPORT.as_bytes())?;
+    call_fault_ends(rt, &[CHECK, "d"], files, call, status, text)
+}
+
+fn check_faults_end_so<R: AllocGlobal + Threads + Sync>(rt: &R) -> Result<bool, AllocError> {
+    let mut hold = check_fault_ends(rt, 6, 0, "accepted 1\n")?;
+    for call in 1..6u64 {
+        hold &= check_fault_ends(rt, call, 4, "")?;
+    }
+    Ok(hold)
+}
+
+/// Whether task make ends so where each of its six calls fails in turn.
+fn make_faults_end_so<R: AllocGlobal + Threads + Sync>(rt: &R) -> Result<bool, AllocError> {
+    let mut hold = call_fault_ends(rt, &LARGE, Vec::new(rt.alloc()), 7, 0, "made 4 600 3\n")?;
+    for call in 1..7u64 {
+        hold &= call_fault_ends(rt, &LARGE, Vec::new(rt.alloc()), call, 4, "")?;
+    }
+    Ok(hold)
+}
+
+#[test]
+fn a_call_that_fails_ends_a_check_and_a_making(rt: HostRuntime) -> Result<(), Fail> {
+    assert!(rt; check_faults_end_so(&rt)? && make_faults_end_so(&rt)?);
     Ok(())
 }
 

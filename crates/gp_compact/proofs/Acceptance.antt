@@ -1,29 +1,24 @@
 -- A compacted report is accepted exactly where the report is of which it was made.
-use Rattle.std.proofs.Common.{◌≡◌, refl, ap, sym, ◌∙◌, subst, ℕ, ◌+◌, ◌-◌, ◌^◌, ◌<◌, ◌≤◌, ◌↔◌, Bool, true, false, nat_lt, List, [], ◌∷◌, ◌++◌, Result, Ok, Err, length, map, All, arith}
+use Rattle.std.proofs.Common.{◌≡◌, refl, ap, sym, subst, ℕ, ◌+◌, ◌-◌, ◌^◌, ◌<◌, ◌↔◌, Bool, true, false, List, [], ◌∷◌, Result, Ok, Err, length, map, All, arith}
 use Rattle.std.specs.Prelude.{if◌then◌else◌}
 use Rattle.std.specs.List.{AllZip, enumerate_from}
 use Rattle.std.proofs.lemmas.List.Elements.{All-weaker}
-use Rattle.gp_clause.specs.Problem.{IsValidProblem}
 use Rattle.gp_constraint.specs.declared.fault.BaseFault.{BaseFault}
-use Rattle.gp_constraint.specs.declared.fault.BaseFault.TheVariants as large
 use Rattle.gp_constraint.specs.Base.{base_of}
 use Rattle.gp_constraint.specs.Encoded.{EncodedForm, base_due}
 use Rattle.gp_constraint.specs.Laws.{ProblemsAreValid}
 use Rattle.gp_derivation.specs.declared.step.Step.{Step}
 use Rattle.gp_derivation.specs.Shared.{SharedPasses}
 use Rattle.gp_property.specs.PropertyForm.{PropertyForm}
-use Rattle.gp_report.specs.declared.record.Entry.{Entry}
 use Rattle.gp_report.specs.declared.record.PropertyRecord.{PropertyRecord}
 use Rattle.gp_report.specs.declared.record.WindowBody.{WindowBody}
 use Rattle.gp_report.specs.declared.record.WindowBody.TheVariants.{TooLarge, Answers}
 use Rattle.gp_report.specs.declared.record.WindowRecord.{WindowRecord}
 use Rattle.gp_report.specs.Entries.{entries_among}
-use Rattle.gp_report.specs.ReportForm.{ReportForm}
-use Rattle.gp_window.specs.RecordingForm.{RecordingForm}
 use Rattle.gp_window.specs.WindowForm.{WindowForm}
 use Rattle.gp_compact.specs.declared.moving.Sizes.{Sizes}
-use Rattle.gp_checker.specs.Accepted.{AcceptsBody, AcceptsProperty, AcceptsWindow, IsAccepted, windows_of}
-use Rattle.gp_compact.specs.Compact.{CompactKeepsAcceptance, IsCompacted, IsSameWindow, are_few, body_by, compacted, compacted_by, compacted_over, compacted_window, compacted_windows, entries_told, over_list, own_steps, property_by, sizes_of, steps_in, with_entries}
+use Rattle.gp_checker.specs.Accepted.{AcceptsBody, AcceptsProperty, AcceptsWindow, windows_of}
+use Rattle.gp_compact.specs.Compact.{CompactKeepsAcceptance, IsSameWindow, are_few, body_by, compacted_over, compacted_window, compacted_windows, entries_told, over_list, property_by, sizes_of, steps_in, with_entries}
 use Rattle.gp_compact.specs.Moving.{compacted_steps, first_own}
 use Rattle.gp_constraint.specs.EncodedLaws.{is_encoded, is_valid}
 use Rattle.gp_compact.proofs.Gathered.{begins_itself, checks_front}

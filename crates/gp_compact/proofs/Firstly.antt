@@ -1,13 +1,11 @@
 -- The first place of an element, and the table that tells those of steps.
-use Rattle.std.proofs.Common.{◌≡◌, refl, ap, sym, ◌∙◌, subst, ℕ, ◌+◌, ◌<◌, ◌≤◌, ◌⊎◌, inl, inr, Bool, true, false, ◌&&◌, cond, eqb, nat_lt, List, [], ◌∷◌, ◌++◌, Option, Some, None, length, get_or, All, arith, rules}
+use Rattle.std.proofs.Common.{◌≡◌, refl, ap, sym, ◌∙◌, subst, ℕ, ◌+◌, ◌<◌, ◌≤◌, Bool, true, false, ◌&&◌, cond, eqb, nat_lt, List, [], ◌∷◌, ◌++◌, Option, Some, None, length, arith, rules}
 use Rattle.std.specs.Prelude.{nat_eq}
 use Rattle.std.specs.Cmp.Lexicographic.{pointwise}
-use Rattle.std.specs.HashMap.{HashMap, Updates}
 use Rattle.std.specs.List.{list_any, position, position_or_len}
 use Rattle.std.specs.Map.{lookup}
-use Rattle.std.proofs.lemmas.Bool.{cases_lt, false≢true}
+use Rattle.std.proofs.lemmas.Bool.{false≢true}
 use Rattle.std.proofs.lemmas.Bool.Decides.{nat_tests}
-use Rattle.std.proofs.lemmas.Grind.{common_steps}
 use Rattle.std.proofs.lemmas.List.{length_push}
 use Rattle.std.proofs.lemmas.List.Folds.{list_any_at, list_any_none, position_or_len_push}
 use Rattle.std.proofs.lemmas.List.Sums.{fails_before_first, passes_at_first, prefix_len-le-length}
@@ -17,7 +15,7 @@ use Rattle.gp_derivation.specs.declared.step.Step.{Step}
 use Rattle.gp_compact.specs.contracts.shared_list.StepKeyPartialEq.TheImpl.{eq-value}
 use Rattle.gp_compact.specs.declared.shared_list.StepKey.{StepKey}
 use Rattle.gp_compact.specs.Keys.{IsKeyOf, TellsFirsts, is_key_of}
-use Rattle.gp_compact.specs.Moving.{step_eq, with_step}
+use Rattle.gp_compact.specs.Moving.{step_eq}
 use Rattle.gp_compact.proofs.Found.{same_step, step_same}
 use Rattle.gp_compact.proofs.Sized.{is_less, is_not_less}
 

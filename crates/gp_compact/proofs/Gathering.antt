@@ -1,24 +1,21 @@
 -- A step that moves passes in the shared list where it passes in its certificate, and the reverse.
-use Rattle.std.proofs.Common.{◌≡◌, refl, ap, sym, ◌∙◌, subst, ℕ, suc, ◌+◌, ◌-◌, ◌<◌, ◌≤◌, Bool, true, false, ◌&&◌, nat_lt, List, [], ◌∷◌, ◌++◌, Option, Some, None, length, get_or, map, take, All, Contains, is_some, unwrap_or, arith}
+use Rattle.std.proofs.Common.{◌≡◌, refl, ap, sym, ◌∙◌, subst, ℕ, ◌+◌, ◌-◌, ◌<◌, ◌≤◌, Bool, true, false, nat_lt, List, [], ◌∷◌, ◌++◌, Option, Some, None, length, map, All, is_some, arith}
 use Rattle.std.specs.List.{list_all, slice_get}
 use Rattle.std.proofs.lemmas.Bool.{false≢true}
 use Rattle.std.proofs.lemmas.List.{append-nil, length-append, length-map}
 use Rattle.std.proofs.lemmas.List.Elements.{All-append, All-nil, All-cons, All-contains, All-weaker}
-use Rattle.std.proofs.lemmas.List.Sums.{AllPass-from_list_all}
-use Rattle.std.proofs.lemmas.Option.{same_Some, slice_get-get_or, slice_get_within}
 use Rattle.gp_clause.specs.declared.edge.Edge.{Edge}
 use Rattle.gp_clause.specs.declared.kind.Kind.{Kind}
 use Rattle.gp_clause.specs.declared.lit.Lit.{Lit}
 use Rattle.gp_clause.specs.Clause.{NamesBelow}
 use Rattle.gp_derivation.specs.declared.step.Step.{Step}
-use Rattle.gp_derivation.specs.Certificate.{StepChecks, StepsCheck, clauses_of, hinted}
+use Rattle.gp_derivation.specs.Certificate.{StepChecks, StepsCheck, clauses_of}
 use Rattle.gp_derivation.specs.ListLaws.{contains_got, named_all}
-use Rattle.gp_derivation.specs.Numbering.{with_hints}
-use Rattle.gp_derivation.specs.Shared.{StepPasses, usable}
+use Rattle.gp_derivation.specs.Shared.{StepPasses}
 use Rattle.gp_derivation.specs.Step.{Passes, named}
 use Rattle.gp_compact.specs.declared.moving.Sizes.{Sizes}
 use Rattle.gp_compact.specs.Moving.{first_own, moved_step, moves, names_shared, place_at, shared_number}
-use Rattle.gp_compact.proofs.Alike.{passes_bare, passes_local}
+use Rattle.gp_compact.proofs.Alike.{passes_bare}
 use Rattle.gp_compact.proofs.Found.{both}
 use Rattle.gp_compact.proofs.Renamed.{HasHint, NamesSame, all_still_within, hinted_named, named_same, usable_named}
 use Rattle.gp_compact.proofs.Sized.{BeginsWith, IsSized, front_over, front_same, own_follow, is_less, is_not_less, own_named, shared_named}

@@ -1,17 +1,16 @@
 -- Each answer is accepted over the new shared list exactly where it is over the old one.
-use Rattle.std.proofs.Common.{◌≡◌, refl, ap, sym, ◌∙◌, subst, ℕ, ◌+◌, ◌-◌, ◌^◌, ◌≤◌, ◌↔◌, Bool, true, false, List, [], ◌∷◌, ◌++◌, Result, Ok, Err, length, get_or, map, All, arith}
+use Rattle.std.proofs.Common.{◌≡◌, refl, ℕ, ◌+◌, ◌-◌, ◌^◌, ◌≤◌, ◌↔◌, Bool, true, false, List, [], ◌∷◌, ◌++◌, Result, Ok, Err, length, map, All, arith}
 use Rattle.std.specs.Prelude.{if◌then◌else◌}
-use Rattle.std.specs.List.{AllZip, enumerate_from, flat_map}
-use Rattle.std.proofs.lemmas.List.{length-append}
+use Rattle.std.specs.List.{AllZip}
 use Rattle.std.proofs.lemmas.List.Elements.{All-append, All-cons, All-head, All-nil, All-tail}
 use Rattle.gp_clause.specs.declared.kind.Kind.{Kind}
 use Rattle.gp_clause.specs.declared.problem.Query.{Query}
 use Rattle.gp_constraint.specs.Base.{base_of}
 use Rattle.gp_constraint.specs.Query.{query_of}
 use Rattle.gp_derivation.specs.declared.step.Step.{Step}
-use Rattle.gp_derivation.specs.Certificate.{StepsCheck, clauses_of}
+use Rattle.gp_derivation.specs.Certificate.{clauses_of}
 use Rattle.gp_derivation.specs.Numbering.{with_hints}
-use Rattle.gp_derivation.specs.Shared.{OwnStepsPass, PassesOver, SharedPasses}
+use Rattle.gp_derivation.specs.Shared.{OwnStepsPass, SharedPasses}
 use Rattle.gp_instance.specs.declared.instance.Instance.{Instance}
 use Rattle.gp_instance.specs.declared.instance.InstancesFault.{InstancesFault}
 use Rattle.gp_instance.specs.declared.instance.InstancesFault.TheVariants as fault
@@ -27,7 +26,7 @@ use Rattle.gp_report.specs.Entries.{entries_among, entries_in}
 use Rattle.gp_window.specs.declared.schedule.EventId.{EventId}
 use Rattle.gp_window.specs.WindowForm.{WindowForm}
 use Rattle.gp_compact.specs.declared.moving.Sizes.{Sizes}
-use Rattle.gp_checker.specs.Accepted.{AcceptsAnswer, AcceptsEntry, AcceptsListed, AcceptsProperty, RefutesAtLast}
+use Rattle.gp_checker.specs.Accepted.{AcceptsAnswer, AcceptsEntry, AcceptsListed, AcceptsProperty}
 use Rattle.gp_compact.specs.Compact.{answer_by, entries_by, entry_by, own_steps, property_by, with_entries}
 use Rattle.gp_compact.specs.Moving.{are_movable, compacted_steps, first_own, new_number, places_of, raised, staying, with_certificate}
 use Rattle.gp_compact.proofs.Ends.{EndAlike, hints_alike, refutes_alike, staying_alike}

@@ -1,11 +1,10 @@
 -- The new numbers of own steps, listed one after the other.
-use Rattle.std.proofs.Common.{◌≡◌, refl, ap, sym, ◌∙◌, subst, ℕ, zero, suc, ◌+◌, ◌-◌, ◌<◌, ◌≤◌, ◌⊎◌, inl, inr, Bool, true, false, ◌&&◌, cond, nat_lt, List, [], ◌∷◌, ◌++◌, Option, Some, None, length, get_or, map, take, drop, All, unwrap_or, arith}
+use Rattle.std.proofs.Common.{◌≡◌, refl, ap, sym, ◌∙◌, subst, ℕ, zero, suc, ◌+◌, ◌-◌, ◌<◌, ◌≤◌, ◌⊎◌, inl, inr, Bool, true, false, cond, nat_lt, List, [], ◌∷◌, ◌++◌, Option, Some, None, length, get_or, map, take, drop, All, unwrap_or, arith}
 use Rattle.std.specs.Prelude.{if◌then◌else◌, slice_index_or}
-use Rattle.std.specs.List.{count_by, slice_get}
+use Rattle.std.specs.List.{count_by}
 use Rattle.std.specs.Option.{is_none, option_map_or}
 use Rattle.std.proofs.lemmas.Bool.{cases_lt}
-use Rattle.std.proofs.lemmas.Bool.Decides.{nat_tests}
-use Rattle.std.proofs.lemmas.List.{append_assoc, drop-drop, get_or_append_left, get_or_push, length-append, length-take, map-append}
+use Rattle.std.proofs.lemmas.List.{append_assoc, drop-drop, get_or_append_left, get_or_push, length-take, map-append}
 use Rattle.std.proofs.lemmas.List.Elements.{All-cons, All-head, All-nil, All-tail, All-weaker}
 use Rattle.std.proofs.lemmas.List.Sums.{sum_by_more}
 use Rattle.std.proofs.lemmas.Option.{slice_get-get_or}
@@ -16,7 +15,7 @@ use Rattle.gp_compact.specs.Moving.{are_movable, by_numbers, first_own, front_of
 use Rattle.gp_compact.proofs.Ends.{places_count}
 use Rattle.gp_compact.proofs.Found.{both}
 use Rattle.gp_compact.proofs.Gathered.{hints_below}
-use Rattle.gp_compact.proofs.Sized.{is_less, is_not_less}
+use Rattle.gp_compact.proofs.Sized.{is_not_less}
 use Rattle.gp_compact.proofs.Walks.{cut}
 
 -- the first step stays or not, and then the others

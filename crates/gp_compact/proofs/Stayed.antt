@@ -1,30 +1,21 @@
 -- The new numbers of hints name the same clauses over the new shared list.
-use Rattle.std.proofs.Common.{◌≡◌, refl, ap, sym, ◌∙◌, subst, ℕ, zero, suc, ◌+◌, ◌-◌, ◌<◌, ◌≤◌, ◌⊎◌, ◌↔◌, inl, inr, Bool, true, false, ◌&&◌, cond, nat_lt, List, [], ◌∷◌, ◌++◌, Option, Some, None, length, get_or, map, take, drop, All, unwrap_or, arith}
-use Rattle.std.specs.List.{count_by, fold, slice_get}
-use Rattle.std.specs.Option.{is_none, option_map, option_map_or}
+use Rattle.std.proofs.Common.{◌≡◌, refl, ap, sym, ◌∙◌, subst, ℕ, zero, suc, ◌+◌, ◌-◌, ◌<◌, ◌≤◌, ◌⊎◌, inl, inr, Bool, true, false, nat_lt, List, [], ◌∷◌, ◌++◌, Option, Some, length, map, take, drop, All, arith}
+use Rattle.std.specs.List.{slice_get}
 use Rattle.std.proofs.lemmas.Bool.{cases_lt}
 use Rattle.std.proofs.lemmas.Bool.Decides.{nat_tests}
-use Rattle.std.proofs.lemmas.List.{append-nil, append_assoc, length-append, length-drop, length-map, map-append, take-append-drop, take_at}
-use Rattle.std.proofs.lemmas.List.Elements.{All-append, All-nil, All-cons, All-head, All-tail, All-weaker}
-use Rattle.std.proofs.lemmas.List.Sums.{sum_by_push}
-use Rattle.std.proofs.lemmas.Option.{slice_get-map, slice_get_within, same_Some}
+use Rattle.std.proofs.lemmas.List.{append-nil, append_assoc, length-append, length-drop, length-map, take-append-drop}
+use Rattle.std.proofs.lemmas.List.Elements.{All-nil, All-cons, All-head, All-tail}
+use Rattle.std.proofs.lemmas.Option.{slice_get_within, same_Some}
 use Rattle.gp_clause.specs.declared.edge.Edge.{Edge}
 use Rattle.gp_clause.specs.declared.kind.Kind.{Kind}
 use Rattle.gp_clause.specs.declared.lit.Lit.{Lit}
-use Rattle.gp_clause.specs.Clause.{NamesBelow}
 use Rattle.gp_derivation.specs.declared.step.Step.{Step}
 use Rattle.gp_derivation.specs.Certificate.{StepChecks, StepsCheck, clauses_of}
-use Rattle.gp_derivation.specs.ListLaws.{slice_get_back, slice_get_front}
-use Rattle.gp_derivation.specs.Numbering.{with_hints}
-use Rattle.gp_derivation.specs.Shared.{OwnStepsPass, StepPasses}
-use Rattle.gp_derivation.specs.Step.{Passes, named}
+use Rattle.gp_derivation.specs.ListLaws.{slice_get_front}
 use Rattle.gp_compact.specs.declared.moving.Sizes.{Sizes}
-use Rattle.gp_compact.specs.Moving.{are_movable, first_own, front_of, moved_step, moves, new_number, own_number, place_at, place_of, places_after, places_of, rests_on_earlier, shared_number, staying}
-use Rattle.gp_compact.proofs.Alike.{passes_local}
-use Rattle.gp_compact.proofs.Found.{both, placed_there}
-use Rattle.gp_compact.proofs.Gathered.{begins_itself, has_hint, hints_below, last_clause, none_placed, place_last, placed_more}
-use Rattle.gp_compact.proofs.Gathering.{ArePlaced, checked_below, map_length, moved_same, named_below}
-use Rattle.gp_compact.proofs.Renamed.{HasHint, NamesSame, hinted_named, named_same, passes_renamed, renamed_passes, still_within, usable_named}
+use Rattle.gp_compact.specs.Moving.{first_own, front_of, new_number, own_number, place_of, places_after, places_of}
+use Rattle.gp_compact.proofs.Gathered.{last_clause}
+use Rattle.gp_compact.proofs.Renamed.{NamesSame, still_within}
 use Rattle.gp_compact.proofs.Sized.{BeginsWith, IsSized, front_over, front_same, is_less, is_not_less, own_follow, own_named, shared_named}
 
 -- what holds of each element of a list that was made holds of what it was made of

@@ -1,9 +1,9 @@
 -- A movable certificate passes over the new shared list exactly where it passes over the old one.
-use Rattle.std.proofs.Common.{◌≡◌, refl, ap, sym, ◌∙◌, subst, ℕ, zero, suc, ◌+◌, ◌-◌, ◌<◌, ◌≤◌, ◌↔◌, Bool, true, false, ◌&&◌, cond, nat_lt, List, [], ◌∷◌, ◌++◌, Option, Some, None, length, map, take, drop, All, unwrap_or, arith}
+use Rattle.std.proofs.Common.{◌≡◌, refl, ap, sym, ◌∙◌, subst, ℕ, ◌+◌, ◌<◌, ◌↔◌, true, cond, List, [], ◌∷◌, ◌++◌, Option, Some, None, length, map, take, drop, All, unwrap_or, arith}
 use Rattle.std.specs.List.{count_by, slice_get}
 use Rattle.std.specs.Option.{is_none, option_map, option_map_or}
-use Rattle.std.proofs.lemmas.List.{append-nil, append_assoc, length-append, length-map, map-append, take-append-drop, take_at}
-use Rattle.std.proofs.lemmas.List.Elements.{All-append, All-nil, All-cons, All-head, All-tail, All-weaker}
+use Rattle.std.proofs.lemmas.List.{append-nil, append_assoc, length-append, map-append, take-append-drop, take_at}
+use Rattle.std.proofs.lemmas.List.Elements.{All-append, All-weaker}
 use Rattle.std.proofs.lemmas.List.Sums.{sum_by_push}
 use Rattle.std.proofs.lemmas.Option.{slice_get-map}
 use Rattle.gp_clause.specs.declared.edge.Edge.{Edge}
@@ -14,7 +14,7 @@ use Rattle.gp_derivation.specs.declared.step.Step.{Step}
 use Rattle.gp_derivation.specs.Certificate.{StepChecks, StepsCheck, clauses_of}
 use Rattle.gp_derivation.specs.ListLaws.{slice_get_front}
 use Rattle.gp_derivation.specs.Numbering.{with_hints}
-use Rattle.gp_derivation.specs.Shared.{OwnStepsPass, StepPasses, usable}
+use Rattle.gp_derivation.specs.Shared.{OwnStepsPass, StepPasses}
 use Rattle.gp_derivation.specs.Step.{Passes, named}
 use Rattle.gp_compact.specs.declared.moving.Sizes.{Sizes}
 use Rattle.gp_compact.specs.Moving.{are_movable, first_own, moved_step, moves, new_number, own_number, place_at, place_of, places_of, rests_on_earlier, shared_number, staying}

@@ -1,8 +1,8 @@
 -- How far a window's certificates are gone through.
-use Rattle.std.proofs.Common.{◌≡◌, refl, ap, sym, ◌∙◌, subst, ℕ, zero, suc, ◌+◌, ◌-◌, ◌^◌, ◌<◌, ◌≤◌, ◌⊎◌, inl, inr, Bool, true, false, cond, List, [], ◌∷◌, ◌++◌, Option, Some, None, length, get_or, map, take, drop, All, unwrap_or, arith}
-use Rattle.std.specs.List.{flat_map, fold, sum_by}
+use Rattle.std.proofs.Common.{◌≡◌, refl, ap, sym, ◌∙◌, subst, ℕ, ◌+◌, ◌^◌, ◌<◌, ◌≤◌, ◌⊎◌, inl, inr, List, [], ◌∷◌, ◌++◌, Option, Some, None, length, get_or, drop, unwrap_or, arith}
+use Rattle.std.specs.List.{sum_by}
 use Rattle.std.proofs.lemmas.Bool.{cases_lt}
-use Rattle.std.proofs.lemmas.List.{drop_more, get_or_read, length-append, length-drop}
+use Rattle.std.proofs.lemmas.List.{drop_more, length-append, length-drop}
 use Rattle.std.proofs.lemmas.List.Sums.{fold-append, get_or-le-sum_by, sum_by-append, sum_by-cons}
 use Rattle.gp_derivation.specs.declared.step.Step.{Step}
 use Rattle.gp_report.specs.declared.record.Entry.{Entry}
@@ -12,7 +12,7 @@ use Rattle.gp_compact.specs.declared.moving.Sizes.{Sizes}
 use Rattle.gp_compact.specs.declared.rewriting.Rewriting.{Rewriting}
 use Rattle.gp_compact.specs.declared.rewriting.Rewriting.TheVariants.{Kept, Over}
 use Rattle.gp_compact.specs.Compact.{own_steps, steps_in, with_entries}
-use Rattle.gp_compact.specs.Moving.{PlacesFit, place_at, place_of, places_after, staying, with_certificate, with_moved, with_steps}
+use Rattle.gp_compact.specs.Moving.{PlacesFit, place_at, place_of, places_after, with_certificate, with_moved, with_steps}
 use Rattle.gp_compact.specs.Rewriting.{RoomFor}
 use Rattle.gp_compact.proofs.Found.{placed_there}
 use Rattle.gp_compact.proofs.Gathered.{place_before, place_last, place_past}

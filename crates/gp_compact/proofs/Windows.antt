@@ -1,12 +1,11 @@
 -- How far the windows of a report are compacted, and that a text can tell what they become.
-use Rattle.std.proofs.Common.{◌≡◌, refl, ap, sym, ◌∙◌, subst, ℕ, zero, suc, ◌+◌, ◌-◌, ◌<◌, ◌≤◌, min, ◌⊎◌, inl, inr, List, [], ◌∷◌, ◌++◌, Bor, Option, Some, None, length, get_or, map, take, drop, All, arith}
-use Rattle.std.specs.List.{AllZip, slice_get, slice_range, sum_by}
+use Rattle.std.proofs.Common.{◌≡◌, refl, ap, sym, ◌∙◌, subst, ℕ, zero, suc, ◌+◌, ◌-◌, ◌<◌, ◌≤◌, min, ◌⊎◌, inl, inr, List, [], ◌∷◌, ◌++◌, Bor, Option, Some, None, length, get_or, map, take, drop, arith}
+use Rattle.std.specs.List.{AllZip, slice_get, slice_range}
 use Rattle.std.specs.Option.{option_map}
 use Rattle.std.specs.Slice.{IsItemAt}
 use Rattle.std.proofs.lemmas.Bool.{cases_lt}
-use Rattle.std.proofs.lemmas.List.{append-nil, append_assoc, drop_all, length-map, take-append-drop, take_all, take_more, take_rest}
+use Rattle.std.proofs.lemmas.List.{append_assoc, length-map, take-append-drop, take_all, take_more, take_rest}
 use Rattle.std.proofs.lemmas.List.Elements.{all_zip_more}
-use Rattle.std.proofs.lemmas.List.Sums.{sum_by_more, sum_by-append}
 use Rattle.std.proofs.lemmas.Option.{get_or_from_slice_get, none-some, same_Some, slice_get_within, slice_get_past, slice_get_read, slice_get-get_or}
 use Rattle.gp_derivation.specs.declared.record.WorkerRecord.{WorkerRecord}
 use Rattle.gp_derivation.specs.declared.step.Step.{Step}
@@ -25,9 +24,9 @@ use Rattle.gp_window.specs.Walk.{WalkForm}
 use Rattle.gp_window.specs.WindowForm.{WindowForm, numbers_from, window_of}
 use Rattle.gp_checker.specs.Accepted.{windows_of}
 use Rattle.gp_checker.specs.WindowLaws.{count_numbers, window_there}
-use Rattle.gp_compact.specs.Compact.{IsSameWindow, answer_by, body_by, compacted_by, compacted_over, compacted_window, compacted_windows, entries_by, entry_by, over_list, property_by, steps_in}
+use Rattle.gp_compact.specs.Compact.{IsSameWindow, answer_by, body_by, compacted_window, compacted_windows, entries_by, entry_by, property_by, steps_in}
 use Rattle.gp_compact.specs.SameRecords.{IsSameWorker}
-use Rattle.gp_compact.proofs.Walks.{cut, steps_parted}
+use Rattle.gp_compact.proofs.Walks.{steps_parted}
 
 -- two pairs of lists that agree do so one after the other
 pub zip_append : {X : Type 0} (R : X → X → Type 0) (xs ys more others : List X) → AllZip R xs ys → AllZip R more others → AllZip R (xs ++ more) (ys ++ others)

@@ -1,6 +1,6 @@
 -- Records of workers that say the same. A certificate that was taken is known by what it says, and not by where it stands
 -- in memory.
-use Rattle.std.specs.Prelude.{ℕ, ◌≡◌, List}
+use Rattle.std.specs.Prelude.{◌≡◌}
 use Rattle.std.specs.Arc.{arc_value}
 use Rattle.std.specs.List.{AllZip}
 use Rattle.gp_derivation.specs.declared.log.LogEntry.{LogEntry}

@@ -1,13 +1,14 @@
 -- Jobs by their numbers, and what comes of them.
 use Rattle.std.proofs.Common.{◌≡◌, ◌∙◌, sym, ap, subst, ℕ, zero, suc, ◌+◌, ◌<◌, List, [], ◌∷◌, ◌++◌, Result, Ok, length, map, drop, get_or, All, arith}
 use Rattle.std.specs.Prelude.{IfOk}
-use Rattle.std.proofs.lemmas.List.{length-map}
+use Rattle.std.proofs.lemmas.List.{length-map, length_push}
 use Rattle.std.proofs.lemmas.List.Elements.{All-cons, All-nil}
 use Rattle.gp_clause.specs.declared.problem.Problem.{Problem}
 use Rattle.gp_clause.specs.declared.problem.Query.{Query}
+use Rattle.gp_workers.specs.declared.crew.Job.{Job}
 use Rattle.gp_workers.specs.declared.crew.Worked.{Worked}
 use Rattle.gp_workers.specs.declared.drawers.Tickets.{Tickets}
-use Rattle.gp_workers.specs.Crew.{AreDone, IsDone}
+use Rattle.gp_workers.specs.Crew.{AreDone, IsDone, IsJob}
 use Rattle.gp_workers.specs.Drawers.{IsSingle}
 
 -- what holds of each element by its place holds of one more at the end
@@ -49,3 +50,44 @@ pub all_single : (tickets : Tickets) (problem : Problem) (queries : List Query) 
 all_single tickets problem queries budget number [] done = All-nil (λ (worked : Worked). IsSingle tickets 1 worked.drawer)
 all_single tickets problem queries budget number (worked ∷ crew) done =
     All-cons (λ (one : Worked). IsSingle tickets 1 one.drawer) worked crew done.0.drawer (all_single tickets problem queries budget (number + 1) crew done.1)
+
+-- the jobs of the workers that are numbered from here on
+abbrev pub AreJobs : Tickets → ℕ → List Job → Type 0
+AreJobs tickets number jobs = (i : ℕ) (d : Job) → i < length jobs → IsJob tickets (i + number) (get_or jobs i d)
+
+-- the first of them, and the others
+next_job : (tickets : Tickets) (number : ℕ) (jobs : List Job) (job : Job) (more : List Job) → AreJobs tickets number jobs → jobs ≡ job ∷ more → IsJob tickets number job × AreJobs tickets (number + 1) more
+next_job tickets number jobs job more each is = (
+  (let P : ℕ → Type 0 = λ n. IsJob tickets n job in let same : 0 + number ≡ number = omega arith in subst P same (all 0 job (omega arith))),
+  λ i d within.
+      let P : ℕ → Type 0 = λ n. IsJob tickets n (get_or more i d) in
+      let same : suc i + number ≡ i + (number + 1) = omega arith in subst P same (all (suc i) d (omega (arith, within))),
+)
+  where
+    all : AreJobs tickets number (job ∷ more)
+    all = subst (AreJobs tickets number) is each
+
+-- what one worker more handed back
+done_pushed : (tickets : Tickets) (problem : Problem) (queries : List Query) (budget number : ℕ) (crew : List Worked) (worked : Worked) → AreDone tickets problem queries budget number crew
+    → IsDone tickets problem queries budget (length crew + number) worked → AreDone tickets problem queries budget number (crew ++ worked ∷ [])
+done_pushed tickets problem queries budget number [] worked all done = (let P : ℕ → Type 0 = λ n. IsDone tickets problem queries budget n worked in let same : 0 + number ≡ number = omega arith in subst P same done, tt)
+done_pushed tickets problem queries budget number (first ∷ crew) worked all done =
+    let P : ℕ → Type 0 = λ n. IsDone tickets problem queries budget n worked in
+    let same : suc (length crew) + number ≡ length crew + (number + 1) = omega arith in
+    (all.0, done_pushed tickets problem queries budget (number + 1) crew worked all.1 (subst P same done))
+
+-- so the workers go on, in order, when one more has done its job
+pub one_more_done : (tickets : Tickets) (problem : Problem) (queries : List Query) (budget : ℕ) (crew new : List Worked) (worked : Worked) (jobs : List Job) (job : Job) (more : List Job) → jobs ≡ job ∷ more → new ≡ crew ++ worked ∷ []
+    → AreJobs tickets (length crew + 1) jobs → AreDone tickets problem queries budget 1 crew → IsDone tickets problem queries budget job.number worked
+    → (length new ≡ length crew + 1) × AreJobs tickets (length new + 1) more × AreDone tickets problem queries budget 1 new
+one_more_done tickets problem queries budget crew new worked jobs job more jobs_are new_is left done own = (
+  longer,
+  (let P : ℕ → Type 0 = λ n. AreJobs tickets (n + 1) more in subst P (sym longer) next.1),
+  subst (AreDone tickets problem queries budget 1) (sym new_is) (done_pushed tickets problem queries budget 1 crew worked done (let P : ℕ → Type 0 = λ n. IsDone tickets problem queries budget n worked in subst P next.0.0 own)),
+)
+  where
+    next : IsJob tickets (length crew + 1) job × AreJobs tickets (length crew + 1 + 1) more
+    next = next_job tickets (length crew + 1) jobs job more left jobs_are
+
+    longer : length new ≡ length crew + 1
+    longer = ap (λ (ws : List Worked). length ws) new_is ∙ length_push crew worked

@@ -21,6 +21,10 @@ use Rattle.gp_workers.specs.Records.{TurnsCover, tickets_of}
 abbrev pub record_of : Worker → WorkerRecord
 record_of worker = record { log = worker.search.log; turns = worker.turns.items; offered = [] }
 
+-- the record of a worker that had no turn
+abbrev pub empty_record : WorkerRecord
+empty_record = record { log = []; turns = []; offered = [] }
+
 -- a worker before its first turn
 pub record IsFresh (worker : Worker) : Type 0 where
   pub log : worker.search.log ≡ []

@@ -47,7 +47,11 @@ pub fn work_all<R: Threads + Sync, G: Gate + Sync>(
 }
 
 // So many tickets, and a job for each worker.
-fn hire(alloc: Global, count: u64, workers: u32) -> Result<(Tickets, Vec<Job>), AllocError>
+pub(crate) fn hire(
+    alloc: Global,
+    count: u64,
+    workers: u32,
+) -> Result<(Tickets, Vec<Job>), AllocError>
     requires count { count ≤ 1000000 }
     requires workers { (1 ≤ workers) × (workers ≤ 16) }
     ensures count { IfOk result (λ hired. hired.0.count ≡ count) }
@@ -105,7 +109,7 @@ fn crew_of(
 }
 
 // All that the workers handed back. One drawer takes in those of the others.
-fn gather(
+pub(crate) fn gather(
     alloc: Global,
     tickets: &Tickets,
     mut crew: VecDeque<Worked>,

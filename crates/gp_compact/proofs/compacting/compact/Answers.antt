@@ -1,4 +1,4 @@
-use Rattle.std.proofs.Common.{◌≡◌, ap, sym, subst, ◌∙◌, ℕ, List}
+use Rattle.std.proofs.Common.{ap, sym, subst, ◌∙◌, ℕ, List}
 use Rattle.std.specs.List.{AllZip}
 use Rattle.gp_report.specs.declared.record.WindowRecord.{WindowRecord}
 use Rattle.gp_report.specs.Report.{IsReport}

@@ -1,4 +1,4 @@
-use Rattle.std.proofs.Common.{◌≡◌, ap, sym, subst, length, ◌+◌, ◌<◌, arith}
+use Rattle.std.proofs.Common.{ap, length, arith}
 use Rattle.gp_constraint.specs.Encoded.{EncodedForm}
 use Rattle.gp_constraint.specs.EncodedLaws.{is_encoded, is_valid}
 use Rattle.gp_compact.proofs.compacting.compact_encoded.Goals as goal

@@ -1,4 +1,4 @@
-use Rattle.std.proofs.Common.{◌≡◌, sym, ap, ◌∙◌, subst, ℕ, ◌-◌, ◌≤◌, List, ◌++◌, length, take, Option, None, Some, Bor, arith}
+use Rattle.std.proofs.Common.{◌≡◌, sym, ap, ◌∙◌, subst, ℕ, ◌-◌, List, ◌++◌, length, take, Option, None, Some, Bor, arith}
 use Rattle.std.specs.List.{AllZip, slice_get, slice_range}
 use Rattle.std.specs.Option.{option_map}
 use Rattle.std.proofs.lemmas.Result.{IfOk-weaker}

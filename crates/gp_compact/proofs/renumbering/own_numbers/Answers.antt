@@ -1,4 +1,4 @@
-use Rattle.std.proofs.Common.{◌≡◌, ◌+◌, ◌∙◌, ap, sym, subst, ℕ, List, Option, None, length, get_or, arith}
+use Rattle.std.proofs.Common.{◌≡◌, ◌+◌, ◌∙◌, ap, sym, subst, ℕ, List, Option, None, length, get_or}
 use Rattle.std.proofs.lemmas.List.{get_or_default, length_push}
 use Rattle.gp_compact.proofs.NewNumbers.{AreListed, counted_more, listed_more}
 use Rattle.gp_compact.proofs.renumbering.own_numbers.Goals as goal

@@ -1,4 +1,4 @@
-use Rattle.std.proofs.Common.{◌≡◌, ◌+◌, ◌^◌, ◌<◌, [], ◌∷◌, ◌++◌, List, Option, ℕ, length, drop, subst, sym, arith}
+use Rattle.std.proofs.Common.{◌≡◌, ◌+◌, ◌^◌, ◌<◌, [], List, Option, ℕ, length, drop, subst, sym, arith}
 use Rattle.gp_compact.specs.Moving.{PlacesFit, place_of, with_moved, with_steps}
 use Rattle.gp_compact.proofs.Walks.{fit_more, step_left, step_more}
 use Rattle.gp_compact.proofs.sharing.share_steps.Goals as goal

@@ -8,7 +8,7 @@ decreases-loop-ticket g l = length l.queries - length (hand_of l.drawer).drawn
 
 abbrev pub invariant-loop-ticket : goal.invariant-loop-ticket
 invariant-loop-ticket g l = record {
-  number : l.worker.number ≡ l.initial.worker.number;
+  number : l.worker.number ≡ l.fn.worker.number;
   single : IsSingle l.tickets 0 l.drawer;
-  worked : HasWorked l.initial.worker.search.problem l.queries l.budget (hand_of l.drawer).drawn l.worker l.answers.items;
+  worked : HasWorked l.fn.worker.search.problem l.queries l.budget (hand_of l.drawer).drawn l.worker l.answers.items;
 }

@@ -12,4 +12,4 @@ returns g c =
     let drawer = c.answer_drawn.new.drawer in
     let worked : HasWorked c.args.problem.now c.args.queries.now c.args.budget (hand_of drawer).drawn worker c.in_ok-answers.answers.items =
     subst (λ (p : Problem). HasWorked p c.args.queries.now c.args.budget (hand_of drawer).drawn worker c.in_ok-answers.answers.items) c.in_ok-worker.ensures.problem c.in_ok-answers.ensures.worked in
-    is_done c.args.tickets.now c.args.problem.now c.args.queries.now c.args.budget c.args.job.number worker _ c.in_ok-answers.ensures.drawer worked (c.in_ok-answers.ensures.number ∙ c.in_ok-worker.ensures.number) c.into_record.ensures
+    is_done c.args.tickets.now c.args.problem.now c.args.queries.now c.args.budget c.args.job.number worker _ c.in_ok-answers.ensures.drawer worked (c.in_ok-answers.ensures.number ∙ c.in_ok-worker.ensures.number) c.into_record-record.ensures

@@ -1,7 +1,7 @@
-use Rattle.std.proofs.Common.{◌≡◌, refl, ap, sym, ◌∙◌, subst, true, false, List, ◌∷◌, [], ◌++◌, Some, None, length, ℕ, arith}
+use Rattle.std.proofs.Common.{◌≡◌, refl, ap, sym, ◌∙◌, true, false, List, Some, length, ℕ, arith}
 use Rattle.std.specs.List.{list_any, position}
 use Rattle.gp_derivation.specs.declared.step.Step.{Step}
-use Rattle.gp_compact.specs.Moving.{step_eq, with_step}
+use Rattle.gp_compact.specs.Moving.{step_eq}
 use Rattle.gp_compact.proofs.Firstly.{found_any, found_new, missed_any}
 use Rattle.gp_compact.proofs.Found.{same_step}
 use Rattle.gp_compact.proofs.shared_list.SharedList.add.Goals as goal

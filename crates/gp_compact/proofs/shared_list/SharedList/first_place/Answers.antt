@@ -1,4 +1,4 @@
-use Rattle.std.proofs.Common.{◌≡◌, ap, ◌∙◌, List}
+use Rattle.std.proofs.Common.{ap, ◌∙◌, List}
 use Rattle.std.specs.List.{position}
 use Rattle.gp_derivation.specs.declared.step.Step.{Step}
 use Rattle.gp_compact.specs.Moving.{step_eq}

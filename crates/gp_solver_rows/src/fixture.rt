@@ -40,6 +40,21 @@ pub struct Rows<'a> {
     pub clauses: &'a [&'a [i32]],
 }
 
+/// Three free variables.
+pub const FREE: [Kind; 3] = [Kind::Free, Kind::Free, Kind::Free];
+
+/// Every clause of three literals over three variables. No valuation meets them all.
+pub const EIGHT: [&[i32]; 8] = [
+    &[1, 2, 3],
+    &[1, 2, -3],
+    &[1, -2, 3],
+    &[1, -2, -3],
+    &[-1, 2, 3],
+    &[-1, 2, -3],
+    &[-1, -2, 3],
+    &[-1, -2, -3],
+];
+
 pub fn clauses_of(alloc: Global, clauses: &[&[i32]]) -> Result<Row<Clause>, Fail> {
     let mut all = Row::new(alloc);
     for words in clauses {

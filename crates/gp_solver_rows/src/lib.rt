@@ -12,3 +12,5 @@ mod fixture;
 mod sat;
 #[cfg(test)]
 mod search;
+#[cfg(test)]
+mod working;

@@ -3,7 +3,8 @@ ghost use Rattle.gp_clause.specs.Problem.{IsValidProblem};
 ghost use Rattle.gp_search.specs.Verdict.{IsSolvable};
 
 use crate::fixture::{
-    Rows, are_kept, are_lits, is_asked, is_solvable, is_valid, lit, problem_of, query_of,
+    EIGHT, FREE, Rows, are_kept, are_lits, is_asked, is_solvable, is_valid, lit, problem_of,
+    query_of,
 };
 use gp_clause::{Edge, Kind, Problem, Query};
 use gp_search::{Search, Verdict};
@@ -156,19 +157,6 @@ fn answers(
     drop(problem);
     all
 }
-
-const FREE: [Kind; 3] = [Kind::Free, Kind::Free, Kind::Free];
-
-const EIGHT: [&[i32]; 8] = [
-    &[1, 2, 3],
-    &[1, 2, -3],
-    &[1, -2, 3],
-    &[1, -2, -3],
-    &[-1, 2, 3],
-    &[-1, 2, -3],
-    &[-1, -2, 3],
-    &[-1, -2, -3],
-];
 
 const ALL_BUT_FIRST: [&[i32]; 7] = [
     &[1, 2, -3],

@@ -12,19 +12,27 @@ use std::process::Abort;
 use std::test::Fail;
 use std::thread::Threads;
 
-// Whether one drawer of two tickets draws each once, and is then told twice that none is left.
-fn draws_two(alloc: Global) -> Result<bool, Fail> {
-    let (tickets, mut drawers) = Tickets::new(alloc, 2, 1)?;
-    let Some(mut drawer) = drawers.pop() else {
+// Whether two drawers of three tickets draw each once, in turn, and are then told twice each that none is left.
+fn two_draw_three(alloc: Global) -> Result<bool, Fail> {
+    let (tickets, mut drawers) = Tickets::new(alloc, 3, 2)?;
+    let Some(mut one) = drawers.pop() else {
         return Ok(false);
     };
-    let mut draw = || tickets.draw(&mut drawer);
-    Ok([draw(), draw(), draw(), draw()] == [Some(0), Some(1), None, None])
+    let Some(mut other) = drawers.pop() else {
+        return Ok(false);
+    };
+    let mut both = || [tickets.draw(&mut one), tickets.draw(&mut other)];
+    Ok(
+        both() == [Some(0), Some(1)]
+            && both() == [Some(2), None]
+            && both() == [None, None]
+            && both() == [None, None],
+    )
 }
 
 #[test]
 fn draws_tickets_until_none_is_left(rt: HostRuntime) -> Result<(), Fail> {
-    assert!(rt; draws_two(rt.alloc())?);
+    assert!(rt; two_draw_three(rt.alloc())?);
     Ok(())
 }
 
@@ -97,8 +105,8 @@ fn is_due(alloc: Global, work: &WindowWork, workers: usize) -> Result<bool, Allo
     )
 }
 
-// Asks so many workers the queries, and tells whether they did what is due.
-fn do_what_is_due<R: Threads + Sync + Abort, G: Gate + Sync>(
+// Whether so many workers refute each query, in one turn for each.
+fn refute<R: Threads + Sync + Abort, G: Gate + Sync>(
     rt: &R,
     alloc: Global,
     problem: &Problem,
@@ -117,7 +125,7 @@ fn do_what_is_due<R: Threads + Sync + Abort, G: Gate + Sync>(
 }
 
 // Whether so many workers refute three queries that assume nothing, in one turn for each.
-fn refute<R: Threads + Sync + Abort, G: Gate + Sync>(
+fn refute_three<R: Threads + Sync + Abort, G: Gate + Sync>(
     rt: &R,
     alloc: Global,
     workers: u32,
@@ -127,22 +135,22 @@ fn refute<R: Threads + Sync + Abort, G: Gate + Sync>(
 {
     let problem = problem_of(alloc, &ROWS)?;
     let queries = queries(alloc)?;
-    do_what_is_due(rt, alloc, &problem, queries.as_slice(), workers, gate)
+    refute(rt, alloc, &problem, queries.as_slice(), workers, gate)
 }
 
 // Whether one worker and sixteen do, and two, of which the second passes the gate while the first is held at it.
-fn all_refute<R: Threads + Sync + Abort>(rt: &R, alloc: Global) -> Result<bool, Fail> {
+fn crews_refute_three<R: Threads + Sync + Abort>(rt: &R, alloc: Global) -> Result<bool, Fail> {
     let gate = HoldGate::new(10_000_000);
     Ok(
-        refute(rt, alloc, 1, &FreeGate)?
-            && refute(rt, alloc, 2, &gate)?
+        refute_three(rt, alloc, 1, &FreeGate)?
+            && refute_three(rt, alloc, 2, &gate)?
             && gate.met()
-            && refute(rt, alloc, 16, &FreeGate)?,
+            && refute_three(rt, alloc, 16, &FreeGate)?,
     )
 }
 
 #[test]
 fn several_workers_refute_what_one_refutes(rt: HostRuntime) -> Result<(), Fail> {
-    assert!(rt; all_refute(&rt, rt.alloc())?);
+    assert!(rt; crews_refute_three(&rt, rt.alloc())?);
     Ok(())
 }

@@ -5,5 +5,9 @@ mod Fitting
 mod Told
 mod OnWay
 mod Windows
+mod Parted
+mod Walked
+mod Counted
+mod Joined
 mod Agreement
 mod Acceptance

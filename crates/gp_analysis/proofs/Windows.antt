@@ -1,62 +1,20 @@
--- How far the windows of a recording are counted and told.
-use Rattle.std.proofs.Common.{◌≡◌, refl, sym, ap, ◌∙◌, subst, ℕ, zero, suc, ◌+◌, ◌-◌, ◌*◌, ◌<◌, ◌≤◌, List, [], ◌∷◌, ◌++◌, length, map, All, add-zero, add-one, arith, mul-le-mul_right, eq-or-lt_of_le, inl, inr, sum_by}
-use Rattle.std.specs.List.{AllZip}
-use Rattle.std.proofs.lemmas.List.{length_push, map-append}
-use Rattle.std.proofs.lemmas.List.Elements.{All-nil, All-push}
+-- How far the windows of a recording are told, run by run.
+use Rattle.std.proofs.Common.{◌≡◌, refl, sym, ap, ◌∙◌, subst, ℕ, zero, suc, ◌+◌, ◌*◌, ◌<◌, ◌≤◌, List, [], ◌∷◌, ◌++◌, length, map, All, append_assoc, append-nil, arith, mul-le-mul_right, eq-or-lt_of_le, inl, inr, sum_by}
+use Rattle.std.specs.List.{AllByRecursion, AllZip}
+use Rattle.std.proofs.lemmas.List.{length-map}
+use Rattle.std.proofs.lemmas.List.Elements.{All-cons, All-nil}
 use Rattle.std.proofs.lemmas.List.Sums.{sum_by-cons}
-use Rattle.gp_constraint.specs.Encoded.{base_due}
 use Rattle.gp_property.specs.PropertyForm.{PropertyForm}
 use Rattle.gp_report.specs.declared.record.WindowRecord.{WindowRecord}
 use Rattle.gp_report.specs.Report.{IsReport, IsWindowRecord}
 use Rattle.gp_report.specs.ReportForm.{ReportForm}
 use Rattle.gp_window.specs.RecordingForm.{RecordingForm}
-use Rattle.gp_window.specs.Walk.{WalkForm}
 use Rattle.gp_window.specs.WindowForm.{WindowForm, numbers_from, window_of}
+use Rattle.gp_analysis.specs.declared.runs.Run.{Run}
 use Rattle.gp_analysis.specs.Answered.{AnswersWindow, IsAnswered}
-use Rattle.gp_analysis.specs.Tickets.{asked_in, asked_of, asked_total, properties_count}
-
-unfolds : (k more rest : ℕ) → more ≡ rest + 1 → numbers_from k more ≡ k ∷ numbers_from (k + 1) rest
-unfolds k more rest is = rw (is, add-one) refl
-
--- of the windows from one on, it counts what it has and what those after it have
-next_count : (count : ℕ → ℕ) (k epochs : ℕ) → k < epochs + 1
-    → sum_by count (numbers_from k (epochs + 1 - k)) ≡ count k + sum_by count (numbers_from (k + 1) (epochs + 1 - (k + 1)))
-next_count count k epochs below =
-    ap (sum_by count) (unfolds k (epochs + 1 - k) (epochs + 1 - (k + 1)) (omega arith)) ∙ sum_by-cons count k (numbers_from (k + 1) (epochs + 1 - (k + 1)))
-
--- what the windows before k have is counted, and what those from k on have is left
-pub record IsCounted (r : RecordingForm) (ps : List PropertyForm) (total k : ℕ) : Type 0 where
-  pub is : total + sum_by (asked_in r ps) (numbers_from k (r.manifest.epochs + 1 - k)) ≡ asked_total r ps
-
--- at first nothing is
-pub none_counted : (r : RecordingForm) (ps : List PropertyForm) (k : ℕ) → k ≡ 1 → IsCounted r ps 0 k
-none_counted r ps k is =
-    let all : r.manifest.epochs + 1 - 1 ≡ r.manifest.epochs = omega arith in
-    let count : 0 + sum_by (asked_in r ps) (numbers_from 1 (r.manifest.epochs + 1 - 1)) ≡ asked_total r ps =
-    ap (λ n. 0 + sum_by (asked_in r ps) (numbers_from 1 n)) all ∙ omega arith in
-    subst (IsCounted r ps 0) (sym is) (record { is = count })
-
--- then one window more is
-pub one_counted : (r : RecordingForm) (ps : List PropertyForm) (total k count : ℕ) → k ≤ r.manifest.epochs → count ≡ asked_in r ps k → IsCounted r ps total k → IsCounted r ps (total + count) (k + 1)
-one_counted r ps total k count within is h =
-    let counted = next_count (asked_in r ps) k r.manifest.epochs (omega arith) in
-    record { is = omega (arith, h.is, counted, is) }
-
--- what the window at which a walk stands asks is what the window of that number does
-pub asked_at : (r : RecordingForm) (ps : List PropertyForm) (walk : WalkForm) (window : WindowForm) → walk.recording ≡ r → window ≡ window_of walk.recording walk.number
-    → asked_of (base_due window) (properties_count window 0 ps) ≡ asked_in r ps walk.number
-asked_at r ps walk window same cut =
-    ap (λ w. asked_of (base_due w) (properties_count w 0 ps)) (cut ∙ ap (λ s. window_of s walk.number) same)
-
-none_left : (r : RecordingForm) (k : ℕ) → k ≡ r.manifest.epochs → r.manifest.epochs + 1 - (k + 1) ≡ 0
-none_left r k last = omega arith
-
--- until all are
-pub all_counted : (r : RecordingForm) (ps : List PropertyForm) (total k : ℕ) → k ≡ r.manifest.epochs → IsCounted r ps total (k + 1) → total ≡ asked_total r ps
-all_counted r ps total k last h =
-    let counted : total + 0 ≡ asked_total r ps =
-    subst (λ n. total + sum_by (asked_in r ps) (numbers_from (k + 1) n) ≡ asked_total r ps) (none_left r k last) h.is in
-    omega (arith, counted)
+use Rattle.gp_analysis.specs.Runs.{IsRun, windows_of}
+use Rattle.gp_analysis.specs.Tickets.{asked_in, asked_total, window_asked}
+use Rattle.gp_analysis.specs.Told.{CanBeAnalysed, TellEach, TellsWindow, all_windows}
 
 one_of_sum : (f : ℕ → ℕ) (first count k : ℕ) → first ≤ k → k < first + count → f k ≤ sum_by f (numbers_from first count)
 one_of_sum f first zero k least most = absurd (omega arith)
@@ -68,73 +26,84 @@ one_of_sum f first (suc count) k least most =
     ]
 
 -- no window asks more than all do
-pub within_limit : (r : RecordingForm) (ps : List PropertyForm) (budget k : ℕ) → 1 ≤ k → k ≤ r.manifest.epochs → asked_total r ps * budget ≤ 1000000 → asked_in r ps k * budget ≤ 1000000
+within_limit : (r : RecordingForm) (ps : List PropertyForm) (budget k : ℕ) → 1 ≤ k → k ≤ r.manifest.epochs → asked_total r ps * budget ≤ 1000000 → asked_in r ps k * budget ≤ 1000000
 within_limit r ps budget k first last limit =
     let part : asked_in r ps k ≤ asked_total r ps = one_of_sum (asked_in r ps) 1 r.manifest.epochs k first (omega arith) in
     let scaled : asked_in r ps k * budget ≤ asked_total r ps * budget = mul-le-mul_right budget part in
     omega (arith, scaled, limit)
 
-numbers_more : (first count : ℕ) → numbers_from first (count + 1) ≡ numbers_from first count ++ (first + count) ∷ []
-numbers_more first zero = ap (λ (n : ℕ). n ∷ []) (sym (add-zero first))
-numbers_more first (suc count) =
-    let later : first + 1 + count ≡ first + suc count = omega arith in
-    unfolds first (suc count + 1) (count + 1) (omega arith)
-    ∙ ap (λ (ns : List ℕ). first ∷ ns) (numbers_more (first + 1) count ∙ ap (λ (n : ℕ). numbers_from (first + 1) count ++ n ∷ []) later)
+-- a window asks not too much
+abbrev pub IsWithin : List PropertyForm → ℕ → WindowForm → Type 0
+IsWithin ps budget window = window_asked ps window * budget ≤ 1000000
 
-zip_more : (R : WindowForm → WindowRecord → Type 0) (windows : List WindowForm) (records : List WindowRecord) (window : WindowForm) (told : WindowRecord)
-    → AllZip R windows records → R window told → AllZip R (windows ++ window ∷ []) (records ++ told ∷ [])
-zip_more R [] [] window told each own = (own, tt)
-zip_more R [] (first ∷ records) window told each own = absurd each
-zip_more R (first ∷ windows) [] window told each own = absurd each
-zip_more R (first ∷ windows) (other ∷ records) window told each own = (each.0, zip_more R windows records window told each.1 own)
+within_from : (r : RecordingForm) (ps : List PropertyForm) (budget first count : ℕ) → 1 ≤ first → first + count ≤ r.manifest.epochs + 1 → asked_total r ps * budget ≤ 1000000
+    → AllByRecursion (IsWithin ps budget) (map (window_of r) (numbers_from first count))
+within_from r ps budget first zero least last limit = tt
+within_from r ps budget first (suc count) least last limit =
+    (within_limit r ps budget first least (omega arith) limit, within_from r ps budget (first + 1) count (omega arith) (omega arith) limit)
 
--- the windows before k are told: each record has its number, answers its window and fits
-pub record AreTold (r : RecordingForm) (ps : List PropertyForm) (count budget k : ℕ) (records : List WindowRecord) : Type 0 where
-  pub place : k ≡ length records + 1
-  pub numbered : map (λ (told : WindowRecord). told.number) records ≡ numbers_from 1 (length records)
-  pub answered : AllZip (AnswersWindow ps count budget) (map (window_of r) (numbers_from 1 (length records))) records
-  pub fit : All (IsWindowRecord 1) records
+-- the windows of a run are told but for those that are left, none of which asks too much
+pub record AreTold (ps : List PropertyForm) (count budget : ℕ) (all left : List WindowForm) (told : List WindowRecord) : Type 0 where
+  pub within : AllByRecursion (IsWithin ps budget) left
+  pub tell : (more : List WindowRecord) → TellEach ps count budget left more → TellEach ps count budget all (told ++ more)
 
 -- at first none is
-pub none_told : (r : RecordingForm) (ps : List PropertyForm) (count budget k : ℕ) → k ≡ 1 → AreTold r ps count budget k []
-none_told r ps count budget k is = record { place = is; numbered = refl; answered = tt; fit = All-nil (IsWindowRecord 1) }
+pub none_told : (r : RecordingForm) (ps : List PropertyForm) (count budget : ℕ) (run : Run) (left : List WindowForm) (told : List WindowRecord) → CanBeAnalysed r ps count budget → IsRun r.manifest.epochs run → left ≡ windows_of r run → told ≡ []
+    → AreTold ps count budget (windows_of r run) left told
+none_told r ps count budget run left told can is all none =
+    subst (λ (ws : List WindowForm). AreTold ps count budget (windows_of r run) ws told) (sym all)
+    (subst (AreTold ps count budget (windows_of r run) (windows_of r run)) (sym none)
+    (record { within = within_from r ps budget run.first run.count is.first is.last can.limit; tell = λ more tell. tell }))
 
--- then one window more is
-one_told : (r : RecordingForm) (ps : List PropertyForm) (count budget k : ℕ) (records : List WindowRecord) (told : WindowRecord) → AreTold r ps count budget k records → told.number ≡ k
-    → AnswersWindow ps count budget (window_of r k) told → IsWindowRecord 1 told → AreTold r ps count budget (k + 1) (records ++ told ∷ [])
-one_told r ps count budget k records told before number answered fit =
-    let size : length (records ++ told ∷ []) ≡ length records + 1 = length_push records told in
-    let place : 1 + length records ≡ k = omega (arith, before.place) in
-    let numbers : numbers_from 1 (length (records ++ told ∷ [])) ≡ numbers_from 1 (length records) ++ k ∷ [] =
-    ap (numbers_from 1) size ∙ numbers_more 1 (length records) ∙ ap (λ (n : ℕ). numbers_from 1 (length records) ++ n ∷ []) place in
-    let windows : map (window_of r) (numbers_from 1 (length (records ++ told ∷ []))) ≡ map (window_of r) (numbers_from 1 (length records)) ++ window_of r k ∷ [] =
-    ap (map (window_of r)) numbers ∙ map-append (window_of r) (numbers_from 1 (length records)) (k ∷ []) in
+-- then one more is
+pub one_told : (ps : List PropertyForm) (count budget : ℕ) (all before left : List WindowForm) (window : WindowForm) (told more : List WindowRecord) (own : WindowRecord) → before ≡ window ∷ left → AreTold ps count budget all before told
+    → TellsWindow ps count budget window own → more ≡ told ++ own ∷ [] → AreTold ps count budget all left more
+one_told ps count budget all before left window told more own first are tells pushed =
+    let now : AreTold ps count budget all (window ∷ left) told = subst (λ (ws : List WindowForm). AreTold ps count budget all ws told) first are in
     record {
-      place = omega (arith, size, before.place);
-      numbered = map-append (λ (w : WindowRecord). w.number) records (told ∷ []) ∙ ap (λ (ns : List ℕ). ns ++ told.number ∷ []) before.numbered
-          ∙ ap (λ (n : ℕ). numbers_from 1 (length records) ++ n ∷ []) number ∙ sym numbers;
-      answered = subst (λ (ws : List WindowForm). AllZip (AnswersWindow ps count budget) ws (records ++ told ∷ [])) (sym windows)
-          (zip_more (AnswersWindow ps count budget) (map (window_of r) (numbers_from 1 (length records))) records (window_of r k) told before.answered answered);
-      fit = All-push (IsWindowRecord 1) records told before.fit fit;
+      within = now.within.1;
+      tell = λ others tell. subst (λ (ws : List WindowRecord). TellEach ps count budget all (ws ++ others)) (sym pushed) (rw append_assoc (now.tell (own ∷ others) (tells, tell)));
     }
 
--- the same of the window at which a walk stands
-pub next_told : (r : RecordingForm) (ps : List PropertyForm) (count budget : ℕ) (walk : WalkForm) (window : WindowForm) (records more : List WindowRecord) (told : WindowRecord) → walk.recording ≡ r → window ≡ window_of walk.recording walk.number
-    → AreTold r ps count budget walk.number records → told.number ≡ window.number → AnswersWindow ps count budget window told → IsWindowRecord 1 told → more ≡ records ++ told ∷ [] → AreTold r ps count budget (walk.number + 1) more
-next_told r ps count budget walk window records more told same cut before number answered fit pushed =
-    let here : window ≡ window_of r walk.number = cut ∙ ap (λ s. window_of s walk.number) same in
-    subst (AreTold r ps count budget (walk.number + 1)) (sym pushed)
-    (one_told r ps count budget walk.number records told before (number ∙ ap (λ (w : WindowForm). w.number) here) (subst (λ w. AnswersWindow ps count budget w told) here answered) fit)
+-- until all are
+pub all_told : (ps : List PropertyForm) (count budget : ℕ) (all left : List WindowForm) (told : List WindowRecord) → left ≡ [] → AreTold ps count budget all left told → TellEach ps count budget all told
+all_told ps count budget all left told none are =
+    subst (TellEach ps count budget all) (append-nil told) (are.tell [] (subst (λ (ws : List WindowForm). TellEach ps count budget ws []) (sym none) tt))
 
--- what was told so far is a report
-pub is_report : (r : RecordingForm) (ps : List PropertyForm) (count budget k : ℕ) (records : List WindowRecord) → 1 ≤ budget → budget ≤ 1000000 → AreTold r ps count budget k records
-    → IsReport (record { format = 1; budget = budget; windows = records })
-is_report r ps count budget k records some few are = record { format = inl refl; budget_some = some; budget_few = few; numbered = are.numbered; windows = are.fit }
+told_numbers : (r : RecordingForm) (ps : List PropertyForm) (count budget : ℕ) (numbers : List ℕ) (told : List WindowRecord) → TellEach ps count budget (map (window_of r) numbers) told
+    → map (λ (own : WindowRecord). own.number) told ≡ numbers
+told_numbers r ps count budget [] [] tell = refl
+told_numbers r ps count budget [] (own ∷ told) tell = absurd tell
+told_numbers r ps count budget (number ∷ numbers) [] tell = absurd tell
+told_numbers r ps count budget (number ∷ numbers) (own ∷ told) tell =
+    ap (λ (n : ℕ). n ∷ map (λ (other : WindowRecord). other.number) told) tell.0.number ∙ ap (λ (ns : List ℕ). number ∷ ns) (told_numbers r ps count budget numbers told tell.1)
 
--- and after the last window it answers the recording
-pub all_told : (r : RecordingForm) (ps : List PropertyForm) (count budget k : ℕ) (records : List WindowRecord) (report : ReportForm) → k ≡ r.manifest.epochs → AreTold r ps count budget (k + 1) records
-    → report ≡ record { format = 1; budget = budget; windows = records } → IsAnswered r ps count budget report
-all_told r ps count budget k records report last are is =
-    let size : length records ≡ r.manifest.epochs = omega (arith, are.place, last) in
-    subst (IsAnswered r ps count budget) (sym is)
-    (record { same_budget = refl; windows = subst (λ n. AllZip (AnswersWindow ps count budget) (map (window_of r) (numbers_from 1 n)) records) size are.answered })
+told_answers : (ps : List PropertyForm) (count budget : ℕ) (windows : List WindowForm) (told : List WindowRecord) → TellEach ps count budget windows told → AllZip (AnswersWindow ps count budget) windows told
+told_answers ps count budget [] [] tell = tt
+told_answers ps count budget [] (own ∷ told) tell = absurd tell
+told_answers ps count budget (window ∷ windows) [] tell = absurd tell
+told_answers ps count budget (window ∷ windows) (own ∷ told) tell = (tell.0.answered, told_answers ps count budget windows told tell.1)
+
+told_fit : (ps : List PropertyForm) (count budget : ℕ) (windows : List WindowForm) (told : List WindowRecord) → TellEach ps count budget windows told → All (IsWindowRecord 1) told
+told_fit ps count budget [] [] tell = All-nil (IsWindowRecord 1)
+told_fit ps count budget [] (own ∷ told) tell = absurd tell
+told_fit ps count budget (window ∷ windows) [] tell = absurd tell
+told_fit ps count budget (window ∷ windows) (own ∷ told) tell = All-cons (IsWindowRecord 1) own told tell.0.fits (told_fit ps count budget windows told tell.1)
+
+count_numbers : (first count : ℕ) → length (numbers_from first count) ≡ count
+count_numbers first zero = refl
+count_numbers first (suc count) = ap suc (count_numbers (first + 1) count)
+
+-- what is told of all windows is a report
+pub is_report : (r : RecordingForm) (ps : List PropertyForm) (count budget : ℕ) (told : List WindowRecord) → 1 ≤ budget → budget ≤ 1000000 → TellEach ps count budget (all_windows r) told
+    → IsReport (record { format = 1; budget = budget; windows = told })
+is_report r ps count budget told some few tell =
+    let numbers = told_numbers r ps count budget (numbers_from 1 r.manifest.epochs) told tell in
+    let size : length told ≡ r.manifest.epochs = sym (length-map told (λ (own : WindowRecord). own.number)) ∙ ap length numbers ∙ count_numbers 1 r.manifest.epochs in
+    record { format = inl refl; budget_some = some; budget_few = few; numbered = numbers ∙ ap (numbers_from 1) (sym size); windows = told_fit ps count budget (all_windows r) told tell }
+
+-- that answers the recording
+pub report_answers : (r : RecordingForm) (ps : List PropertyForm) (count budget : ℕ) (told : List WindowRecord) (report : ReportForm) → TellEach ps count budget (all_windows r) told
+    → report ≡ record { format = 1; budget = budget; windows = told } → IsAnswered r ps count budget report
+report_answers r ps count budget told report tell is =
+    subst (IsAnswered r ps count budget) (sym is) (record { same_budget = refl; windows = told_answers ps count budget (all_windows r) told tell })

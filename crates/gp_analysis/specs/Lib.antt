@@ -1,7 +1,10 @@
 pub mod Tickets
+pub mod Runs
+pub mod Walks
 pub mod Answered
 pub mod Queries
 pub mod Telling
+pub mod Told
 pub mod Laws
 pub mod Agreement
 pub mod Acceptance

@@ -25,10 +25,13 @@ abbrev pub asked_of : Result EncodedForm BaseFault → ℕ → ℕ
 asked_of (Ok encoded) count = count
 asked_of (Err fault) count = 0
 
+-- how many instances are asked in a window
+abbrev pub window_asked : List PropertyForm → WindowForm → ℕ
+window_asked properties window = asked_of (base_due window) (properties_count window 0 properties)
+
 -- how many instances are asked in window k
 abbrev pub asked_in : RecordingForm → List PropertyForm → ℕ → ℕ
-asked_in recording properties k =
-    asked_of (base_due (window_of recording k)) (properties_count (window_of recording k) 0 properties)
+asked_in recording properties k = window_asked properties (window_of recording k)
 
 -- how many instances are asked in all windows
 abbrev pub asked_total : RecordingForm → List PropertyForm → ℕ

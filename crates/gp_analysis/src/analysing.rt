@@ -1,15 +1,24 @@
 ghost use Rattle.std.specs.Prelude.{◌≡◌, ◌*◌, ◌≤◌, IfOk, length};
 ghost use Rattle.gp_analysis.specs.Answered.{IsAnswered};
+ghost use Rattle.gp_analysis.specs.Runs.{IsRun, windows_of};
 ghost use Rattle.gp_analysis.specs.Tickets.{asked_total};
+ghost use Rattle.gp_analysis.specs.Told.{CanBeAnalysed, TellEach, all_windows};
 
+use crate::run_walk::RunWalk;
+use crate::runs::Run;
+use crate::side_by_side::told_side_by_side;
+use crate::task::{Order, Task};
 use crate::window::window_record;
 use gp_outside::Gate;
 use gp_property::Property;
-use gp_report::Report;
+use gp_report::{Report, WindowRecord};
 use gp_text::Row;
-use gp_window::{Recording, WindowWalk};
+use gp_window::Recording;
 use std::alloc::{AllocError, Global};
 use std::thread::Threads;
+
+// So many windows for each worker are many: then whole windows are worked side by side, and the workers of each in turn.
+const MANY_WINDOWS: u32 = 4;
 
 /// Answers each instance of each property in each window of a recording, window by window, by so many workers, each of
 /// which passes the gate before each of its own. Where no thread can be made, they run one after another.
@@ -31,16 +40,56 @@ pub fn analyse<R: Threads + Sync, G: Gate + Sync>(
     ensures answered { IfOk result (IsAnswered recording.now properties.now workers budget) }
     ensures format { IfOk result (λ report. report.format ≡ 1) }
 {
-    let mut windows = Row::new(alloc);
-    let mut walk = WindowWalk::new(alloc, recording)?;
-    loop {
-        // the walk's type says that it stands at a window of the recording
-        let _ = walk.number();
-        let window = walk.window(alloc)?;
-        windows.push(window_record(rt, alloc, &window, properties, workers, budget, gate)?)?;
-        let Some(next) = walk.advance()? else {
-            return Ok(Report::new(1, budget, windows));
+    let task = Task {
+        properties,
+        workers,
+        budget,
+        gate,
+    };
+    let windows = told_windows(rt, alloc, recording, &task)?;
+    Ok(Report::new(1, budget, Row::from_vec(windows)))
+}
+
+// What is told of all windows, in order.
+fn told_windows<R: Threads + Sync, G: Gate + Sync>(
+    rt: &R,
+    alloc: Global,
+    recording: &Recording,
+    task: &Task<'_, G>,
+) -> Result<Vec<WindowRecord>, AllocError>
+    requires { CanBeAnalysed recording.now task.now.properties.now task.now.workers task.now.budget }
+    ensures { IfOk result (λ told.
+        TellEach task.now.properties.now task.now.workers task.now.budget (all_windows recording.now) told.items) }
+{
+    let epochs = recording.manifest().epochs();
+    if epochs < MANY_WINDOWS * task.workers {
+        let all = Run {
+            first: 1,
+            count: epochs,
         };
-        walk = next;
+        return told_run(rt, alloc, recording, all, task, Order::SideBySide);
     }
+    told_side_by_side(rt, alloc, recording, task)
+}
+
+// What is told of the windows of a run, in order.
+pub(crate) fn told_run<R: Threads + Sync, G: Gate + Sync>(
+    rt: &R,
+    alloc: Global,
+    recording: &Recording,
+    run: Run,
+    task: &Task<'_, G>,
+    order: Order,
+) -> Result<Vec<WindowRecord>, AllocError>
+    requires can { CanBeAnalysed recording.now task.now.properties.now task.now.workers task.now.budget }
+    requires run { IsRun recording.now.manifest.epochs run }
+    ensures { IfOk result (λ told.
+        TellEach task.now.properties.now task.now.workers task.now.budget (windows_of recording.now run) told.items) }
+{
+    let mut told = Vec::new(alloc);
+    let mut walk = RunWalk::new(alloc, recording, run)?;
+    while let Some(window) = walk.next(alloc)? {
+        told.push(window_record(rt, alloc, &window, task, order)?)?;
+    }
+    Ok(told)
 }

@@ -1,20 +1,28 @@
-ghost use Rattle.std.specs.Prelude.{◌≡◌, ◌+◌, ◌≤◌, IfOk, length};
-ghost use Rattle.gp_constraint.specs.Encoded.{base_due};
+ghost use Rattle.std.specs.Prelude.{◌≡◌, ◌+◌, ◌≤◌, IfOk, length, map, sum};
 ghost use Rattle.gp_instance.specs.Instances.{due_instances};
-ghost use Rattle.gp_analysis.specs.Tickets.{asked_of, asked_total, found_count, properties_count};
+ghost use Rattle.gp_analysis.specs.Runs.{IsRun, PartAll, run_asked};
+ghost use Rattle.gp_analysis.specs.Tickets.{asked_total, found_count, properties_count, window_asked};
 
+use crate::run_walk::RunWalk;
+use crate::runs::{Run, runs_of};
 use gp_constraint::{BaseFault, base};
 use gp_instance::{InstancesFault, instances};
 use gp_property::Property;
-use gp_window::{Recording, Window, WindowWalk};
+use gp_window::{Recording, Window};
+use rayon::prelude::*;
 use std::alloc::{AllocError, Global};
+use std::thread::Threads;
+
+// As many runs as keep so many processors busy. Each begins by a walk past all windows before it, so that more would cost more.
+const COUNTED_RUNS: u32 = 16;
 
 /// The most instances of a recording, times the budget of each.
 pub const MOST_WORK: u64 = 1_000_000;
 
 /// How many instances are asked in all windows of a recording: those that are listed, in windows that are not too large.
-/// The lists of one window at a time are in memory.
-pub fn asked_total(
+/// Runs of windows are counted side by side, and of each run the lists of one window at a time are in memory.
+pub fn asked_total<R: Threads + Sync>(
+    rt: &R,
     alloc: Global,
     recording: &Recording,
     properties: &[Property],
@@ -22,24 +30,58 @@ pub fn asked_total(
     requires { length properties.now ≤ 64 }
     ensures total { IfOk result (λ total. total ≡ asked_total recording.now properties.now) }
 {
-    let mut total = 0;
-    let mut walk = WindowWalk::new(alloc, recording)?;
-    loop {
-        // the walk's type says that it stands at a window of the recording
-        let _ = walk.number();
-        let window = walk.window(alloc)?;
-        total = added(total, asked_in(alloc, &window, properties)?)?;
-        let Some(next) = walk.advance()? else {
-            return Ok(total);
-        };
-        walk = next;
+    let epochs = recording.manifest().epochs();
+    let runs = runs_of(alloc, epochs, epochs.min(COUNTED_RUNS))?;
+    let counts = runs_asked(rt, alloc, recording, properties, runs)?;
+    sum_of(counts.as_slice())
+}
+
+// How many instances are asked in each of these runs, counted side by side.
+fn runs_asked<R: Threads + Sync>(
+    rt: &R,
+    alloc: Global,
+    recording: &Recording,
+    properties: &[Property],
+    runs: Vec<Run>,
+) -> Result<Vec<u64>, AllocError>
+    requires few { length properties.now ≤ 64 }
+    requires runs { PartAll recording.now.manifest.epochs runs.items }
+    ensures { IfOk result (λ counts. counts.items ≡ map (run_asked recording.now properties.now) runs.items) }
+{
+    runs.into_par_iter()
+        .with_min_len(1)
+        .map(
+            |run: Run| -> Result<u64, AllocError>
+                requires { IsRun recording.now.manifest.epochs run × (length properties.now ≤ 64) }
+                ensures { IfOk result (λ asked. asked ≡ run_asked recording.entry.now properties.entry.now run) }
+            { run_asked(alloc, recording, properties, run) },
+        )
+        .collect::<Result<Vec<u64>, AllocError>>(rt, alloc)?
+}
+
+// How many instances are asked in the windows of a run.
+fn run_asked(
+    alloc: Global,
+    recording: &Recording,
+    properties: &[Property],
+    run: Run,
+) -> Result<u64, AllocError>
+    requires few { length properties.now ≤ 64 }
+    requires run { IsRun recording.now.manifest.epochs run }
+    ensures { IfOk result (λ asked. asked ≡ run_asked recording.now properties.now run) }
+{
+    let mut asked = 0;
+    let mut walk = RunWalk::new(alloc, recording, run)?;
+    while let Some(window) = walk.next(alloc)? {
+        asked = added(asked, window_asked(alloc, &window, properties)?)?;
     }
+    Ok(asked)
 }
 
 // How many instances are asked in a window.
-fn asked_in(alloc: Global, window: &Window, properties: &[Property]) -> Result<u64, AllocError>
+fn window_asked(alloc: Global, window: &Window, properties: &[Property]) -> Result<u64, AllocError>
     requires { length properties.now ≤ 64 }
-    ensures { IfOk result (λ asked. asked ≡ asked_of (base_due window.now) (properties_count window.now 0 properties.now)) }
+    ensures { IfOk result (λ asked. asked ≡ window_asked properties.now window.now) }
 {
     match base(alloc, window) {
         Ok(_encoded) => properties_count(alloc, window, properties),
@@ -78,6 +120,16 @@ fn found_count(
         Err(InstancesFault::TooMany) => Ok(0),
         Err(InstancesFault::Memory) => Err(AllocError),
     }
+}
+
+fn sum_of(counts: &[u64]) -> Result<u64, AllocError>
+    ensures { IfOk result (λ total. total ≡ sum counts.now) }
+{
+    let mut total = 0;
+    for count in counts {
+        total = added(total, *count)?;
+    }
+    Ok(total)
 }
 
 // More instances than 2^64 - 1 would not fit into memory.

@@ -10,6 +10,10 @@ mod counting;
 mod entries;
 mod laws;
 mod listing;
+mod run_walk;
+mod runs;
+mod side_by_side;
+mod task;
 mod untold;
 mod window;
 

@@ -1,24 +1,29 @@
 ghost use Rattle.std.specs.Prelude.{◌≡◌, ◌*◌, ◌≤◌, All, IfOk, Ok, length};
+ghost use Rattle.gp_clause.specs.Problem.{IsValidProblem, IsValidQuery};
 ghost use Rattle.gp_constraint.specs.Encoded.{base_due};
+ghost use Rattle.gp_constraint.specs.Laws.{IsSolvable};
 ghost use Rattle.gp_property.specs.Property.{IsProperty};
 ghost use Rattle.gp_report.specs.Report.{IsWindowRecord};
+ghost use Rattle.gp_workers.specs.Work.{CanBeWorked, IsWork};
 ghost use Rattle.gp_analysis.specs.Answered.{AnswersWindow};
 ghost use Rattle.gp_analysis.specs.Laws.{Laws};
 ghost use Rattle.gp_analysis.specs.Queries.{found_from, queries_from};
-ghost use Rattle.gp_analysis.specs.Tickets.{asked_of, properties_count};
+ghost use Rattle.gp_analysis.specs.Tickets.{properties_count, window_asked};
 
 use crate::entries::property_record;
 use crate::listing::{Listing, listing_of};
+use crate::task::{Order, Task};
 use crate::untold::Untold;
+use gp_clause::{Problem, Query};
 use gp_constraint::{BaseFault, Encoded, base, problems_are_valid};
 use gp_derivation::{refuted_means, shares_nothing};
 use gp_outside::Gate;
-use gp_property::{Property, atoms_kept};
+use gp_property::atoms_kept;
 use gp_report::{WindowBody, WindowRecord};
 use gp_text::Row;
 use gp_window::Window;
 use gp_witness::schedules_are_complete;
-use gp_workers::{WindowWork, work_all};
+use gp_workers::{WindowWork, work_all, work_in_turn};
 use std::alloc::{AllocError, Global};
 use std::thread::Threads;
 
@@ -27,23 +32,19 @@ pub(crate) fn window_record<R: Threads + Sync, G: Gate + Sync>(
     rt: &R,
     alloc: Global,
     window: &Window,
-    properties: &[Property],
-    workers: u32,
-    budget: u64,
-    gate: &G,
+    task: &Task<'_, G>,
+    order: Order,
 ) -> Result<WindowRecord, AllocError>
-    requires few { length properties.now ≤ 64 }
-    requires workers { (1 ≤ workers) × (workers ≤ 16) }
-    requires budget { 1 ≤ budget }
-    requires limit { asked_of (base_due window.now) (properties_count window.now 0 properties.now) * budget ≤ 1000000 }
+    requires few { length task.now.properties.now ≤ 64 }
+    requires workers { (1 ≤ task.now.workers) × (task.now.workers ≤ 16) }
+    requires budget { 1 ≤ task.now.budget }
+    requires limit { window_asked task.now.properties.now window.now * task.now.budget ≤ 1000000 }
     ensures number { IfOk result (λ told. told.number ≡ window.now.number) }
-    ensures answered { IfOk result (AnswersWindow properties.now workers budget window.now) }
+    ensures answered { IfOk result (AnswersWindow task.now.properties.now task.now.workers task.now.budget window.now) }
     ensures fits { IfOk result (IsWindowRecord 1) }
 {
     match base(alloc, window) {
-        Ok(encoded) => answered_record(
-            rt, alloc, window, &encoded, properties, workers, budget, gate,
-        ),
+        Ok(encoded) => answered_record(rt, alloc, window, &encoded, task, order),
         Err(BaseFault::TooLarge { events, clauses }) => Ok(WindowRecord {
             number: window.number(),
             shared: Row::new(alloc),
@@ -60,24 +61,20 @@ fn answered_record<R: Threads + Sync, G: Gate + Sync>(
     alloc: Global,
     window: &Window,
     encoded: &Encoded,
-    properties: &[Property],
-    workers: u32,
-    budget: u64,
-    gate: &G,
+    task: &Task<'_, G>,
+    order: Order,
 ) -> Result<WindowRecord, AllocError>
-    requires few { length properties.now ≤ 64 }
-    requires workers { (1 ≤ workers) × (workers ≤ 16) }
-    requires budget { 1 ≤ budget }
-    requires limit { properties_count window.now 0 properties.now * budget ≤ 1000000 }
+    requires few { length task.now.properties.now ≤ 64 }
+    requires workers { (1 ≤ task.now.workers) × (task.now.workers ≤ 16) }
+    requires budget { 1 ≤ task.now.budget }
+    requires limit { properties_count window.now 0 task.now.properties.now * task.now.budget ≤ 1000000 }
     requires due { base_due window.now ≡ Ok encoded.now }
     ensures number { IfOk result (λ told. told.number ≡ window.now.number) }
-    ensures answered { IfOk result (AnswersWindow properties.now workers budget window.now) }
+    ensures answered { IfOk result (AnswersWindow task.now.properties.now task.now.workers task.now.budget window.now) }
     ensures fits { IfOk result (IsWindowRecord 1) }
 {
-    let listing = listing_of(alloc, window, encoded, properties)?;
-    worked_record(
-        rt, alloc, window, encoded, properties, &listing, workers, budget, gate,
-    )
+    let listing = listing_of(alloc, window, encoded, task.properties)?;
+    worked_record(rt, alloc, window, encoded, &listing, task, order)
 }
 
 // The workers answer the queries; then each answer is told, property by property.
@@ -86,39 +83,29 @@ fn worked_record<R: Threads + Sync, G: Gate + Sync>(
     alloc: Global,
     window: &Window,
     encoded: &Encoded,
-    properties: &[Property],
     listing: &Listing,
-    workers: u32,
-    budget: u64,
-    gate: &G,
+    task: &Task<'_, G>,
+    order: Order,
 ) -> Result<WindowRecord, AllocError>
-    requires workers { (1 ≤ workers) × (workers ≤ 16) }
-    requires budget { 1 ≤ budget }
-    requires limit { properties_count window.now 0 properties.now * budget ≤ 1000000 }
+    requires workers { (1 ≤ task.now.workers) × (task.now.workers ≤ 16) }
+    requires budget { 1 ≤ task.now.budget }
+    requires limit { properties_count window.now 0 task.now.properties.now * task.now.budget ≤ 1000000 }
     requires due { base_due window.now ≡ Ok encoded.now }
-    requires properties { All IsProperty properties.now }
-    requires found { listing.now.found.items ≡ found_from window.now 0 properties.now }
-    requires queries { listing.now.queries.items ≡ queries_from window.now 0 properties.now }
+    requires properties { All IsProperty task.now.properties.now }
+    requires found { listing.now.found.items ≡ found_from window.now 0 task.now.properties.now }
+    requires queries { listing.now.queries.items ≡ queries_from window.now 0 task.now.properties.now }
     ensures number { IfOk result (λ told. told.number ≡ window.now.number) }
-    ensures answered { IfOk result (AnswersWindow properties.now workers budget window.now) }
+    ensures answered { IfOk result (AnswersWindow task.now.properties.now task.now.workers task.now.budget window.now) }
     ensures fits { IfOk result (IsWindowRecord 1) }
 {
     laws();
     let number = window.number();
     let queries = listing.queries.as_slice();
-    let WindowWork { answers, records } = work_all(
-        rt,
-        alloc,
-        encoded.problem(),
-        queries,
-        workers,
-        budget,
-        gate,
-    )?;
+    let WindowWork { answers, records } = work(rt, alloc, encoded.problem(), queries, task, order)?;
     let mut untold = Untold::of(answers);
     let mut told = Row::new(alloc);
     let mut left = listing.found.as_slice();
-    for property in properties {
+    for property in task.properties {
         let [found, more @ ..] = left else {
             unreachable!()
         };
@@ -131,6 +118,30 @@ fn worked_record<R: Threads + Sync, G: Gate + Sync>(
         body: WindowBody::Answers(told),
         records: Row::from_vec(records.into_vec()),
     })
+}
+
+// What the workers answer to these queries.
+fn work<R: Threads + Sync, G: Gate + Sync>(
+    rt: &R,
+    alloc: Global,
+    problem: &Problem,
+    queries: &[Query],
+    task: &Task<'_, G>,
+    order: Order,
+) -> Result<WindowWork, AllocError>
+    requires workers { (1 ≤ task.now.workers) × (task.now.workers ≤ 16) }
+    requires valid { IsValidProblem problem.now }
+    requires solvable { IsSolvable problem.now.edges }
+    requires queries { All (IsValidQuery problem.now) queries.now }
+    requires few { CanBeWorked problem.now queries.now task.now.budget }
+    ensures { IfOk result (IsWork problem.now queries.now task.now.workers task.now.budget) }
+{
+    let workers = task.workers;
+    let budget = task.budget;
+    match order {
+        Order::SideBySide => work_all(rt, alloc, problem, queries, workers, budget, task.gate),
+        Order::InTurn => work_in_turn(alloc, problem, queries, workers, budget, task.gate),
+    }
 }
 
 // All laws that the proofs of a window want.

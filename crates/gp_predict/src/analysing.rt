@@ -35,7 +35,7 @@ pub fn analysing_at<R: AllocGlobal + Threads + Sync, F: Folder>(
     ensures fault { result ≡ Err Stop.ReadFault → Rose (F.faults folder.old) (F.faults folder.new) }
 {
     let listing = listing_at(rt, folder, directory)?;
-    analysis_of(rt.alloc(), listing, asked)
+    analysis_of(rt, rt.alloc(), listing, asked)
 }
 
 /// What a command asks of an analysis.
@@ -52,7 +52,12 @@ pub fn asked_of(command: &Command<'_>) -> Asked
 }
 
 /// An analysis of what would be listed, where that is not too much work.
-fn analysis_of(alloc: Global, listing: Listing, asked: Asked) -> Result<Due, Stop>
+fn analysis_of<R: Threads + Sync>(
+    rt: &R,
+    alloc: Global,
+    listing: Listing,
+    asked: Asked,
+) -> Result<Due, Stop>
     requires few { length listing.properties ≤ 64 }
     requires askable { IsAskable asked }
     ensures due { IfOk result (λ due. expected_of due ≡ analysis_of listing asked) }
@@ -60,7 +65,12 @@ fn analysis_of(alloc: Global, listing: Listing, asked: Asked) -> Result<Due, Sto
     ensures within { IfOk result IsWithinLimits }
     ensures memory { OnErr result (result ≡ Err Stop.Memory) }
 {
-    let total = asked_total(alloc, &listing.recording, listing.properties.as_slice())?;
+    let total = asked_total(
+        rt,
+        alloc,
+        &listing.recording,
+        listing.properties.as_slice(),
+    )?;
     if is_too_much(total, asked.budget) {
         return Ok(Due::Whole(limit_refused(alloc, total, asked.budget)?));
     }

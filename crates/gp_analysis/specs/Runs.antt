@@ -1,0 +1,30 @@
+-- Runs of neighbouring windows.
+use Rattle.std.specs.Prelude.{ℕ, ◌+◌, ◌≡◌, ◌≤◌, List, All, flat_map, map, sum_by}
+use Rattle.gp_property.specs.PropertyForm.{PropertyForm}
+use Rattle.gp_window.specs.RecordingForm.{RecordingForm}
+use Rattle.gp_window.specs.WindowForm.{WindowForm, numbers_from, window_of}
+use Rattle.gp_analysis.specs.declared.runs.Run.{Run}
+use Rattle.gp_analysis.specs.Tickets.{window_asked}
+
+-- the numbers of the windows of a run
+abbrev pub numbers_of : Run → List ℕ
+numbers_of run = numbers_from run.first run.count
+
+-- the windows of a run of a recording, in order
+abbrev pub windows_of : RecordingForm → Run → List WindowForm
+windows_of recording run = map (window_of recording) (numbers_of run)
+
+-- how many instances are asked in the windows of a run
+abbrev pub run_asked : RecordingForm → List PropertyForm → Run → ℕ
+run_asked recording properties run = sum_by (window_asked properties) (windows_of recording run)
+
+-- a run has some windows, which are among so many
+pub record IsRun (epochs : ℕ) (run : Run) : Type 0 where
+  pub first : 1 ≤ run.first
+  pub some : 1 ≤ run.count
+  pub last : run.first + run.count ≤ epochs + 1
+
+-- runs part so many windows: each is a run of them, and side by side the runs are all of them in order
+pub record PartAll (epochs : ℕ) (runs : List Run) : Type 0 where
+  pub each : All (IsRun epochs) runs
+  pub all : flat_map numbers_of runs ≡ numbers_from 1 epochs

@@ -1,0 +1,18 @@
+use gp_property::Property;
+
+// What is asked of each window: its instances of these properties are answered by so many workers, each of which has this
+// budget for an instance, and passes the gate before each of its own.
+#[derive(Drop)]
+pub(crate) struct Task<'a, G> {
+    pub(crate) properties: &'a [Property],
+    pub(crate) workers: u32,
+    pub(crate) budget: u64,
+    pub(crate) gate: &'a G,
+}
+
+// How the workers of a window work: side by side, or one after another in the calling thread.
+#[derive(Clone, Copy, Debug)]
+pub(crate) enum Order {
+    SideBySide,
+    InTurn,
+}

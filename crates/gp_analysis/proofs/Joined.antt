@@ -1,9 +1,9 @@
 -- What is told of runs, joined.
 use Rattle.std.proofs.Common.{◌≡◌, refl, sym, ap, ◌∙◌, subst, ℕ, suc, ◌<◌, List, [], ◌∷◌, ◌++◌, length, map, flat_map, Ok, Err, Result, IfOk, append_assoc, append-nil, slice_index_or, arith}
 use Rattle.std.specs.declared.alloc.AllocError.{AllocError}
+use Rattle.std.specs.List.{AllZip}
 use Rattle.std.proofs.lemmas.Grind.{flat_map-append}
 use Rattle.std.proofs.lemmas.List.{map-append}
-use Rattle.rayon.proofs.ListFacts.{AllZip-append}
 use Rattle.gp_property.specs.PropertyForm.{PropertyForm}
 use Rattle.gp_report.specs.declared.record.WindowRecord.{WindowRecord}
 use Rattle.gp_window.specs.RecordingForm.{RecordingForm}
@@ -11,6 +11,12 @@ use Rattle.gp_window.specs.WindowForm.{WindowForm, window_of}
 use Rattle.gp_analysis.specs.declared.runs.Run.{Run}
 use Rattle.gp_analysis.specs.Runs.{PartAll, numbers_of, windows_of}
 use Rattle.gp_analysis.specs.Told.{TellEach, TellsWindow, all_windows}
+
+zip_join : {X Y : Type 0} (R : X → Y → Type 0) (xs others : List X) (ys more : List Y) → AllZip R xs ys → AllZip R others more → AllZip R (xs ++ others) (ys ++ more)
+zip_join R [] others [] more one other = other
+zip_join R [] others (y ∷ ys) more one other = absurd one
+zip_join R (x ∷ xs) others [] more one other = absurd one
+zip_join R (x ∷ xs) others (y ∷ ys) more one other = (one.0, zip_join R xs others ys more one.1 other)
 
 windows_joined : (r : RecordingForm) (runs : List Run) → flat_map (windows_of r) runs ≡ map (window_of r) (flat_map numbers_of runs)
 windows_joined r [] = refl
@@ -22,11 +28,7 @@ pub record AreJoined {V : Type 0} (all left : List (Result V AllocError)) (items
   pub parts : map Ok told ++ left ≡ all
   pub is : joined ≡ flat_map items told
 
--- at first none is
-pub none_joined : {V : Type 0} (all left : List (Result V AllocError)) (items : V → List WindowRecord) (joined : List WindowRecord) → left ≡ all → joined ≡ [] → AreJoined all left items joined
-none_joined all left items joined same none = record { told = []; parts = same; is = none }
-
--- then one more is
+-- one part more is joined
 pub one_joined : {V : Type 0} (all before left : List (Result V AllocError)) (items : V → List WindowRecord) (joined more : List WindowRecord) (part : V) → before ≡ Ok part ∷ left → more ≡ joined ++ items part → AreJoined all before items joined
     → AreJoined all left items more
 one_joined {V} all before left items joined more part first longer are = record {
@@ -36,12 +38,6 @@ one_joined {V} all before left items joined more part first longer are = record 
   is = longer ∙ ap (λ (ws : List WindowRecord). ws ++ items part) are.is
       ∙ sym (flat_map-append items are.told (part ∷ []) ∙ ap (λ (ws : List WindowRecord). flat_map items are.told ++ ws) (append-nil (items part)));
 }
-
--- until all are
-pub all_are_joined : {V : Type 0} (all left : List (Result V AllocError)) (items : V → List WindowRecord) (joined : List WindowRecord) → left ≡ [] → AreJoined all left items joined
-    → (told : List V) × (all ≡ map Ok told) × (joined ≡ flat_map items told)
-all_are_joined {V} all left items joined none are =
-    (are.told, sym are.parts ∙ ap (λ (ps : List (Result V AllocError)). map Ok are.told ++ ps) none ∙ append-nil (map Ok are.told), are.is)
 
 module _ {V : Type 0} (items : V → List WindowRecord) (r : RecordingForm) (ps : List PropertyForm) (count budget : ℕ) where
   -- each part tells the run of its place, if it was not given up
@@ -55,11 +51,11 @@ module _ {V : Type 0} (items : V → List WindowRecord) (r : RecordingForm) (ps 
   runs_told [] (own ∷ told) size tell = absurd (omega (arith, size))
   runs_told (run ∷ runs) [] size tell = absurd (omega (arith, size))
   runs_told (run ∷ runs) (own ∷ told) size tell =
-      AllZip-append (TellsWindow ps count budget) (windows_of r run) (flat_map (windows_of r) runs) (items own) (flat_map items told) (tell 0 run (Ok own) (omega arith))
+      zip_join (TellsWindow ps count budget) (windows_of r run) (flat_map (windows_of r) runs) (items own) (flat_map items told) (tell 0 run (Ok own) (omega arith))
       (runs_told runs told (omega (arith, size)) (λ i other part below. tell (suc i) other part (omega (arith, below))))
 
   -- what all runs are told by, joined, tells all windows
-  pub all_joined : (runs : List Run) (parts : List (Result V AllocError)) (told : List V) (joined : List WindowRecord) → PartAll r.manifest.epochs runs → length parts ≡ length runs → TellRuns runs parts
+  all_joined : (runs : List Run) (parts : List (Result V AllocError)) (told : List V) (joined : List WindowRecord) → PartAll r.manifest.epochs runs → length parts ≡ length runs → TellRuns runs parts
       → parts ≡ map Ok told → joined ≡ flat_map items told → TellEach ps count budget (all_windows r) joined
   all_joined runs parts told joined parted size tell all is =
       let each = runs_told runs told (ap length (sym all) ∙ size) (subst (TellRuns runs) all tell) in

@@ -3,13 +3,13 @@ use Rattle.std.proofs.Common.{◌≡◌, sym, ap, ◌∙◌, subst, ℕ, zero, s
 use Rattle.std.proofs.Math.Nat.{div-mul-le_self, div-one, le-div_iff_mul-le, mul-le-mul_right}
 use Rattle.std.proofs.lemmas.Grind.{flat_map-append}
 use Rattle.std.proofs.lemmas.List.{length_push}
-use Rattle.std.proofs.lemmas.List.Elements.{All-nil, All-push}
+use Rattle.std.proofs.lemmas.List.Elements.{All-push}
 use Rattle.gp_window.specs.WindowForm.{numbers_from}
 use Rattle.gp_analysis.specs.declared.runs.Run.{Run}
-use Rattle.gp_analysis.specs.Runs.{IsRun, PartAll, numbers_of}
+use Rattle.gp_analysis.specs.Runs.{IsRun, numbers_of}
 
 -- neighbouring numbers, cut in two
-pub numbers_join : (first one other : ℕ) → numbers_from first (one + other) ≡ numbers_from first one ++ numbers_from (first + one) other
+numbers_join : (first one other : ℕ) → numbers_from first (one + other) ≡ numbers_from first one ++ numbers_from (first + one) other
 numbers_join first zero other =
     let whole : zero + other ≡ other = omega arith in
     ap (numbers_from first) whole ∙ ap (λ (n : ℕ). numbers_from n other) (sym (add-zero first))
@@ -45,18 +45,7 @@ pub record IsParted (epochs count first : ℕ) (runs : List Run) : Type 0 where
   pub few : length runs ≤ count
   pub last : length runs ≡ count → first ≡ epochs + 1
 
--- at first none is
-pub none_parted : (epochs count : ℕ) → 1 ≤ count → count ≤ epochs → IsParted epochs count 1 []
-none_parted epochs count some few = record {
-  each = All-nil (IsRun epochs);
-  all = let whole : epochs + 1 - 1 ≡ epochs = omega arith in ap (numbers_from 1) whole;
-  least = omega arith;
-  enough = omega arith;
-  few = omega arith;
-  last = λ none. absurd (omega (arith, none, some));
-}
-
--- then those of one run more are
+-- those of one run more are parted
 pub one_parted : (epochs count first : ℕ) (runs more : List Run) → length runs < count → IsParted epochs count first runs → (own : ℕ) → own ≡ (epochs + 1 - first) / (count - length runs)
     → more ≡ runs ++ (record { first = first; count = own }) ∷ [] → IsParted epochs count (first + own) more
 one_parted epochs count first runs more below parted own is pushed =
@@ -80,12 +69,3 @@ one_parted epochs count first runs more below parted own is pushed =
       few = omega (arith, size, below);
       last = λ all. omega (arith, share.all (omega (arith, all, size)), parted.enough, below);
     })
-
--- until all are
-pub all_parted : (epochs count first : ℕ) (runs : List Run) → length runs ≡ count → IsParted epochs count first runs → PartAll epochs runs
-all_parted epochs count first runs all parted =
-    let none : epochs + 1 - first ≡ 0 = omega (arith, parted.last all) in
-    record {
-      each = parted.each;
-      all = sym (append-nil (flat_map numbers_of runs)) ∙ ap (λ n. flat_map numbers_of runs ++ numbers_from first n) (sym none) ∙ parted.all;
-    }

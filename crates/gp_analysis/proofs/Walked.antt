@@ -1,5 +1,5 @@
 -- How a walk takes the windows of a run.
-use Rattle.std.proofs.Common.{◌≡◌, sym, ap, ◌∙◌, subst, ℕ, ◌+◌, ◌-◌, ◌<◌, ◌≤◌, [], ◌∷◌, map, Option, Some, None, Result, Ok, Err, IfOk, add-one, arith}
+use Rattle.std.proofs.Common.{◌≡◌, sym, ap, ◌∙◌, ℕ, ◌+◌, ◌-◌, ◌<◌, ◌∷◌, map, Option, Some, None, Result, Ok, Err, IfOk, add-one, arith}
 use Rattle.std.specs.declared.alloc.AllocError.{AllocError}
 use Rattle.gp_window.specs.RecordingForm.{RecordingForm}
 use Rattle.gp_window.specs.Walk.{GoesOn, WalkForm}
@@ -9,28 +9,16 @@ use Rattle.gp_analysis.specs.Walks.{CanGoTo, windows_to}
 unfolds : (k more rest : ℕ) → more ≡ rest + 1 → numbers_from k more ≡ k ∷ numbers_from (k + 1) rest
 unfolds k more rest is = ap (numbers_from k) (is ∙ add-one rest)
 
--- the window at which a walk stands comes first, and then those to which it goes on
-record GoesTo (last : ℕ) (walk : WalkForm) (next : Option WalkForm) : Type 0 where
-  can : CanGoTo last next
-  first : windows_to last (Some walk) ≡ window_of walk.recording walk.number ∷ windows_to last next
-
-goes_on : (last : ℕ) (walk : WalkForm) (next : Option WalkForm) → CanGoTo last (Some walk) → walk.number < last → GoesOn walk next → GoesTo last walk next
-goes_on last walk None can below stood = absurd (omega (arith, can.0, can.1, below, stood))
+goes_on : (last : ℕ) (walk : WalkForm) (next : Option WalkForm) → CanGoTo last (Some walk) → walk.number < last → GoesOn walk next
+    → windows_to last (Some walk) ≡ window_of walk.recording walk.number ∷ windows_to last next
+goes_on last walk None can below stood = absurd (omega (arith, can.1, below, stood))
 goes_on last walk (Some next) can below goes =
-    let here = unfolds walk.number (last + 1 - walk.number) (last + 1 - (walk.number + 1)) (omega (arith, below)) in
-    record {
-      can = (omega (arith, goes.1, below), subst (λ (r : RecordingForm). last ≤ r.manifest.epochs) (sym goes.0) can.1);
-      first = ap (map (window_of walk.recording)) here
-          ∙ ap (λ (n : ℕ). window_of walk.recording walk.number ∷ map (window_of walk.recording) (numbers_from n (last + 1 - n))) (sym goes.1)
-          ∙ ap (λ (r : RecordingForm). window_of walk.recording walk.number ∷ map (window_of r) (numbers_from next.number (last + 1 - next.number))) (sym goes.0);
-    }
+    ap (map (window_of walk.recording)) (unfolds walk.number (last + 1 - walk.number) (last + 1 - (walk.number + 1)) (omega (arith, below)))
+    ∙ ap (λ (n : ℕ). window_of walk.recording walk.number ∷ map (window_of walk.recording) (numbers_from n (last + 1 - n))) (sym goes.1)
+    ∙ ap (λ (r : RecordingForm). window_of walk.recording walk.number ∷ map (window_of r) (numbers_from next.number (last + 1 - next.number))) (sym goes.0)
 
--- a walk that stands before the last window goes on
+-- the window at which a walk stands comes first, and then those to which it goes on
 pub next_taken : (last : ℕ) (walk : WalkForm) (result : Result (Option WalkForm) AllocError) → CanGoTo last (Some walk) → walk.number < last → IfOk result (GoesOn walk)
     → IfOk result (λ next. windows_to last (Some walk) ≡ window_of walk.recording walk.number ∷ windows_to last next)
 next_taken last walk (Err fault) can below goes = tt
-next_taken last walk (Ok next) can below goes = (goes_on last walk next can below goes).first
-
--- and one that stands at it does not
-pub last_taken : (last : ℕ) (walk : WalkForm) → CanGoTo last (Some walk) → last ≤ walk.number → windows_to last (Some walk) ≡ window_of walk.recording walk.number ∷ []
-last_taken last walk can end = ap (map (window_of walk.recording)) (unfolds walk.number (last + 1 - walk.number) 0 (omega (arith, can.0, end)))
+next_taken last walk (Ok next) can below goes = goes_on last walk next can below goes

@@ -57,7 +57,7 @@ impl<'a> RunWalk<'a> {
     }
 }
 
-// The walk at the next window, if that one is not behind the last.
+// The walk at the next window; `None` where it stands at the last.
 fn next_to(walk: WindowWalk<'_>, last: u32) -> Result<Option<WindowWalk<'_>>, AllocError>
     requires { CanGoTo last (Some walk) }
     ensures can { IfOk result (CanGoTo last) }

@@ -3,8 +3,9 @@ use Rattle.std.specs.Prelude.{ℕ, ◌+◌, ◌≡◌, ◌≤◌, List, All, fla
 use Rattle.gp_property.specs.PropertyForm.{PropertyForm}
 use Rattle.gp_window.specs.RecordingForm.{RecordingForm}
 use Rattle.gp_window.specs.WindowForm.{WindowForm, numbers_from, window_of}
+use Rattle.gp_analysis.specs.declared.counting.Counted.{Counted}
 use Rattle.gp_analysis.specs.declared.runs.Run.{Run}
-use Rattle.gp_analysis.specs.Tickets.{window_asked}
+use Rattle.gp_analysis.specs.Tickets.{window_count}
 
 -- the numbers of the windows of a run
 abbrev pub numbers_of : Run → List ℕ
@@ -14,9 +15,9 @@ numbers_of run = numbers_from run.first run.count
 abbrev pub windows_of : RecordingForm → Run → List WindowForm
 windows_of recording run = map (window_of recording) (numbers_of run)
 
--- how many instances are asked in the windows of a run
-abbrev pub run_asked : RecordingForm → List PropertyForm → Run → ℕ
-run_asked recording properties run = sum_by (window_asked properties) (windows_of recording run)
+-- how many instances are counted in the windows of a run
+abbrev pub run_count : Counted → RecordingForm → List PropertyForm → Run → ℕ
+run_count counted recording properties run = sum_by (window_count counted properties) (windows_of recording run)
 
 -- a run has some windows, which are among so many
 pub record IsRun (epochs : ℕ) (run : Run) : Type 0 where

@@ -1,11 +1,13 @@
 -- How many instances there are, and how many of them are asked.
-use Rattle.std.specs.Prelude.{ℕ, ◌+◌, List, [], ◌∷◌, Result, Ok, Err, length, sum_by}
+use Rattle.std.specs.Prelude.{ℕ, ◌+◌, ◌*◌, List, [], ◌∷◌, Option, None, Some, Result, Ok, Err, if◌then◌else◌, length, nat_lt, sum_by}
 use Rattle.gp_constraint.specs.declared.fault.BaseFault.{BaseFault}
 use Rattle.gp_constraint.specs.Encoded.{EncodedForm, base_due}
 use Rattle.gp_instance.specs.declared.instance.Instance.{Instance}
 use Rattle.gp_instance.specs.declared.instance.InstancesFault.{InstancesFault}
 use Rattle.gp_instance.specs.Instances.{due_instances}
 use Rattle.gp_property.specs.PropertyForm.{PropertyForm}
+use Rattle.gp_analysis.specs.declared.counting.Counted.{Counted}
+use Rattle.gp_analysis.specs.declared.counting.Counted.TheVariants.{Listed, Asked}
 use Rattle.gp_window.specs.RecordingForm.{RecordingForm}
 use Rattle.gp_window.specs.WindowForm.{WindowForm, numbers_from, window_of}
 
@@ -36,3 +38,18 @@ asked_in recording properties k = window_asked properties (window_of recording k
 -- how many instances are asked in all windows
 abbrev pub asked_total : RecordingForm → List PropertyForm → ℕ
 asked_total recording properties = sum_by (asked_in recording properties) (numbers_from 1 recording.manifest.epochs)
+
+-- how many instances of a window are counted: all that are listed, or those that are asked
+abbrev pub window_count : Counted → List PropertyForm → WindowForm → ℕ
+window_count Listed properties window = properties_count window 0 properties
+window_count Asked properties window = window_asked properties window
+
+-- how many instances of all windows are counted
+abbrev pub total_of : Counted → RecordingForm → List PropertyForm → ℕ
+total_of counted recording properties =
+    sum_by (λ (k : ℕ). window_count counted properties (window_of recording k)) (numbers_from 1 recording.manifest.epochs)
+
+-- how many instances are asked, where that times a budget is over 1,000,000
+abbrev pub too_much : RecordingForm → List PropertyForm → ℕ → Option ℕ
+too_much recording properties budget =
+    if nat_lt 1000000 (asked_total recording properties * budget) then Some (asked_total recording properties) else None

@@ -1,7 +1,7 @@
-ghost use Rattle.std.specs.Prelude.{◌≡◌, ◌+◌, ◌≤◌, IfOk, length, map, sum};
+ghost use Rattle.std.specs.Prelude.{◌≡◌, ◌+◌, ◌*◌, ◌≤◌, IfOk, length, map, nat_lt, sum};
 ghost use Rattle.gp_instance.specs.Instances.{due_instances};
-ghost use Rattle.gp_analysis.specs.Runs.{IsRun, PartAll, run_asked};
-ghost use Rattle.gp_analysis.specs.Tickets.{asked_total, found_count, properties_count, window_asked};
+ghost use Rattle.gp_analysis.specs.Runs.{IsRun, PartAll, run_count};
+ghost use Rattle.gp_analysis.specs.Tickets.{found_count, properties_count, too_much, total_of, window_asked, window_count};
 
 use crate::run_walk::RunWalk;
 use crate::runs::{Run, runs_of};
@@ -17,65 +17,138 @@ use std::thread::Threads;
 const COUNTED_RUNS: u32 = 16;
 
 /// The most instances of a recording, times the budget of each.
-pub const MOST_WORK: u64 = 1_000_000;
+const MOST_WORK: u64 = 1_000_000;
 
-/// How many instances are asked in all windows of a recording: those that are listed, in windows that are not too large.
-/// Runs of windows are counted side by side, and of each run the lists of one window at a time are in memory.
-pub fn asked_total<R: Threads + Sync>(
+// Which instances are counted: all that are listed, or those alone that are asked, since their window is not too large.
+#[derive(Clone, Copy, Debug)]
+pub(crate) enum Counted {
+    Listed,
+    Asked,
+}
+
+/// How many instances are asked in all windows of a recording, where that times the budget of each is over 1,000,000, and
+/// `None` where it is not. Whether a window is too large takes making its constraints, and is looked at only where all
+/// instances that are listed would be too many. Runs of windows are counted side by side, and of each run the lists of one
+/// window at a time are in memory.
+pub fn too_much<R: Threads + Sync>(
     rt: &R,
     alloc: Global,
     recording: &Recording,
     properties: &[Property],
+    budget: u64,
+) -> Result<Option<u64>, AllocError>
+    requires { length properties.now ≤ 64 }
+    ensures { IfOk result (λ found. found ≡ too_much recording.now properties.now budget) }
+{
+    let listed = total(rt, alloc, recording, properties, Counted::Listed)?;
+    if !is_too_much(listed, budget) {
+        return Ok(None);
+    }
+    asked_too_much(rt, alloc, recording, properties, budget)
+}
+
+// The same by the instances that are asked.
+fn asked_too_much<R: Threads + Sync>(
+    rt: &R,
+    alloc: Global,
+    recording: &Recording,
+    properties: &[Property],
+    budget: u64,
+) -> Result<Option<u64>, AllocError>
+    requires { length properties.now ≤ 64 }
+    ensures { IfOk result (λ found. found ≡ too_much recording.now properties.now budget) }
+{
+    let asked = total(rt, alloc, recording, properties, Counted::Asked)?;
+    if is_too_much(asked, budget) {
+        return Ok(Some(asked));
+    }
+    Ok(None)
+}
+
+fn is_too_much(total: u64, budget: u64) -> bool
+    ensures { result ≡ nat_lt 1000000 (total * budget) }
+{
+    match total.checked_mul(budget) {
+        Some(work) => work > MOST_WORK,
+        None => true,
+    }
+}
+
+// How many instances there are in all windows of a recording.
+fn total<R: Threads + Sync>(
+    rt: &R,
+    alloc: Global,
+    recording: &Recording,
+    properties: &[Property],
+    counted: Counted,
 ) -> Result<u64, AllocError>
     requires { length properties.now ≤ 64 }
-    ensures total { IfOk result (λ total. total ≡ asked_total recording.now properties.now) }
+    ensures total { IfOk result (λ total. total ≡ total_of counted recording.now properties.now) }
 {
     let epochs = recording.manifest().epochs();
     let runs = runs_of(alloc, epochs, epochs.min(COUNTED_RUNS))?;
-    let counts = runs_asked(rt, alloc, recording, properties, runs)?;
+    let counts = run_counts(rt, alloc, recording, properties, counted, runs)?;
     sum_of(counts.as_slice())
 }
 
-// How many instances are asked in each of these runs, counted side by side.
-fn runs_asked<R: Threads + Sync>(
+// How many instances there are in each of these runs, counted side by side.
+fn run_counts<R: Threads + Sync>(
     rt: &R,
     alloc: Global,
     recording: &Recording,
     properties: &[Property],
+    counted: Counted,
     runs: Vec<Run>,
 ) -> Result<Vec<u64>, AllocError>
     requires few { length properties.now ≤ 64 }
     requires runs { PartAll recording.now.manifest.epochs runs.items }
-    ensures { IfOk result (λ counts. counts.items ≡ map (run_asked recording.now properties.now) runs.items) }
+    ensures { IfOk result (λ counts. counts.items ≡ map (run_count counted recording.now properties.now) runs.items) }
 {
     runs.into_par_iter()
         .with_min_len(1)
         .map(
             |run: Run| -> Result<u64, AllocError>
                 requires { IsRun recording.now.manifest.epochs run × (length properties.now ≤ 64) }
-                ensures { IfOk result (λ asked. asked ≡ run_asked recording.entry.now properties.entry.now run) }
-            { run_asked(alloc, recording, properties, run) },
+                ensures { IfOk result (λ count. count ≡ run_count counted recording.entry.now properties.entry.now run) }
+            { run_count(alloc, recording, properties, counted, run) },
         )
         .collect::<Result<Vec<u64>, AllocError>>(rt, alloc)?
 }
 
-// How many instances are asked in the windows of a run.
-fn run_asked(
+// How many instances there are in the windows of a run.
+fn run_count(
     alloc: Global,
     recording: &Recording,
     properties: &[Property],
+    counted: Counted,
     run: Run,
 ) -> Result<u64, AllocError>
     requires few { length properties.now ≤ 64 }
     requires run { IsRun recording.now.manifest.epochs run }
-    ensures { IfOk result (λ asked. asked ≡ run_asked recording.now properties.now run) }
+    ensures { IfOk result (λ count. count ≡ run_count counted recording.now properties.now run) }
 {
-    let mut asked = 0;
+    let mut count = 0;
     let mut walk = RunWalk::new(alloc, recording, run)?;
     while let Some(window) = walk.next(alloc)? {
-        asked = added(asked, window_asked(alloc, &window, properties)?)?;
+        count = added(count, window_count(alloc, &window, properties, counted)?)?;
     }
-    Ok(asked)
+    Ok(count)
+}
+
+// How many instances there are in a window.
+fn window_count(
+    alloc: Global,
+    window: &Window,
+    properties: &[Property],
+    counted: Counted,
+) -> Result<u64, AllocError>
+    requires { length properties.now ≤ 64 }
+    ensures { IfOk result (λ count. count ≡ window_count counted properties.now window.now) }
+{
+    match counted {
+        Counted::Listed => properties_count(alloc, window, properties),
+        Counted::Asked => window_asked(alloc, window, properties),
+    }
 }
 
 // How many instances are asked in a window.

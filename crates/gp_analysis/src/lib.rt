@@ -18,5 +18,5 @@ mod untold;
 mod window;
 
 pub use analysing::analyse;
-pub use counting::{MOST_WORK, asked_total};
+pub use counting::too_much;
 pub use laws::{answered_is_accepted, reports_agree};

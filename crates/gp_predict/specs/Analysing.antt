@@ -1,8 +1,8 @@
 -- What is due to task analyse: an analysis of the recording with its properties, or the refusal of too much work.
-use Rattle.std.specs.Prelude.{ℕ, ◌++◌, ◌*◌, ◌≤◌, List, Result, Ok, if◌then◌else◌, nat_lt, length, codes, decimal}
+use Rattle.std.specs.Prelude.{ℕ, ◌++◌, ◌*◌, ◌≤◌, List, Option, None, Some, Result, Ok, if◌then◌else◌, length, codes, decimal}
 use Rattle.std.specs.List.{list_any}
 use Rattle.gp_outside.specs.Folders.{File}
-use Rattle.gp_analysis.specs.Tickets.{asked_total}
+use Rattle.gp_analysis.specs.Tickets.{asked_total, too_much}
 use Rattle.gp_report.specs.declared.record.Entry.{Entry}
 use Rattle.gp_report.specs.Entries.{entries_of, is_found}
 use Rattle.gp_report.specs.ReportForm.{ReportForm}
@@ -28,12 +28,14 @@ analysis_form listing asked = record {
 abbrev pub limit_refused : ℕ → ℕ → Answer
 limit_refused total budget = one_line 7 (codes "limit " ++ decimal total ++ codes " " ++ decimal budget)
 
+-- an analysis, or the refusal of so many instances, where they are too many
+abbrev pub analysis_by : Listing → Asked → Option ℕ → Expected
+analysis_by listing asked None = Analysis (analysis_form listing asked)
+analysis_by listing asked (Some total) = Text (limit_refused total asked.budget)
+
 -- an analysis, where the instances that are asked, times the budget, are at most 1,000,000
 abbrev pub analysis_of : Listing → Asked → Expected
-analysis_of listing asked =
-    if nat_lt 1000000 (asked_total listing.recording listing.properties * asked.budget)
-    then Text (limit_refused (asked_total listing.recording listing.properties) asked.budget)
-    else Analysis (analysis_form listing asked)
+analysis_of listing asked = analysis_by listing asked (too_much listing.recording listing.properties asked.budget)
 
 -- what is due to task analyse on the files of a folder
 abbrev pub analysing_at : List File → List ℕ → Asked → Result Expected Answer

@@ -1,4 +1,4 @@
-ghost use Rattle.std.specs.Prelude.{ℕ, ◌≡◌, ◌≤◌, ◌*◌, List, Some, Err, IfOk, IfErr, OnErr, length, nat_lt};
+ghost use Rattle.std.specs.Prelude.{ℕ, ◌≡◌, ◌≤◌, List, Some, Err, IfOk, IfErr, OnErr, length};
 ghost use Rattle.gp_outside.specs.Faults.{Rose};
 ghost use Rattle.gp_outside.specs.Folders.{File};
 ghost use Rattle.gp_predict.specs.Analysing.{IsAskable, analysing_at, analysis_of};
@@ -11,7 +11,7 @@ use crate::answer::limit_refused;
 use crate::due::{Asked, Due};
 use crate::listing::{Listing, listing_at};
 use crate::stop::Stop;
-use gp_analysis::{MOST_WORK, asked_total};
+use gp_analysis::too_much;
 use gp_outside::Folder;
 use gp_words::Command;
 use std::alloc::Global;
@@ -65,23 +65,9 @@ fn analysis_of<R: Threads + Sync>(
     ensures within { IfOk result IsWithinLimits }
     ensures memory { OnErr result (result ≡ Err Stop.Memory) }
 {
-    let total = asked_total(
-        rt,
-        alloc,
-        &listing.recording,
-        listing.properties.as_slice(),
-    )?;
-    if is_too_much(total, asked.budget) {
-        return Ok(Due::Whole(limit_refused(alloc, total, asked.budget)?));
-    }
-    Ok(Due::Analysis { listing, asked })
-}
-
-fn is_too_much(total: u64, budget: u64) -> bool
-    ensures { result ≡ nat_lt 1000000 (total * budget) }
-{
-    match total.checked_mul(budget) {
-        Some(work) => work > MOST_WORK,
-        None => true,
+    let properties = listing.properties.as_slice();
+    match too_much(rt, alloc, &listing.recording, properties, asked.budget)? {
+        Some(total) => Ok(Due::Whole(limit_refused(alloc, total, asked.budget)?)),
+        None => Ok(Due::Analysis { listing, asked }),
     }
 }

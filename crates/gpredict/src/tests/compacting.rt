@@ -8,7 +8,7 @@ use std::alloc::AllocError;
 use std::test::Fail;
 use std::thread::Threads;
 
-const COMPACT: &str = "--task=compact";
+pub const COMPACT: &str = "--task=compact";
 
 /// A report on `WAITING` whose first step rests on the window's constraints alone.
 const PLAIN: &str =

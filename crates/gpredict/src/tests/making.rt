@@ -10,7 +10,7 @@ use std::thread::Threads;
 const MAKE: &str = "--task=make";
 
 /// The words that make the recording of 600 events of four threads.
-pub const LARGE: [&str; 5] = [MAKE, "--seed=7", "--threads=4", "--events=600", "d"];
+const LARGE: [&str; 5] = [MAKE, "--seed=7", "--threads=4", "--events=600", "d"];
 
 /// The property of each recording that is made.
 const USE_BEFORE_AUTH: &str =
@@ -47,11 +47,12 @@ pub fn writes<R: AllocGlobal + Threads + Sync>(
 }
 
 /// Whether the files are these, in this order.
-fn are_files(files: &[(String, Vec<u8>)], due: &[(&str, &str)]) -> bool {
+pub fn are_files(files: &[(String, Vec<u8>)], due: &[(&str, &str)]) -> bool {
     files.len() == due.len() && are_files_pairwise(files, due)
 }
 
-fn are_files_pairwise(files: &[(String, Vec<u8>)], due: &[(&str, &str)]) -> bool {
+/// Whether the first files, as many as these, are these.
+pub fn are_files_pairwise(files: &[(String, Vec<u8>)], due: &[(&str, &str)]) -> bool {
     files.iter().zip(due).all(|(file, row)| is_file(file, row))
 }
 
@@ -61,22 +62,29 @@ fn is_file(file: &(String, Vec<u8>), due: &(&str, &str)) -> bool {
     name.as_str() == *path && bytes.as_slice() == text.as_bytes()
 }
 
+/// The words that make the recording of 30 events of two threads.
+pub const TWO_THREADS: [&str; 4] = [MAKE, "--threads=2", "--events=30", "d"];
+
+/// The files of that recording.
+pub const TWO_THREADS_MADE: [(&str, &str); 4] = [
+    ("d/manifest", "gptrace 1\nthreads 2\nepochs 1\nroots 1\n"),
+    (
+        "d/t1.trace",
+        "start 2\nread v16 0\nread v10 0\nacquire l2\nrelease l2\nread v9 0\nacquire l0\nread v18 0\nwrite v9 0\nrelease l0\nread v4 0\nread v0 0\nwrite v11 3\nread v19 0\nread v2 0\nwrite v18 0\n",
+    ),
+    (
+        "d/t2.trace",
+        "read v3 0\nwrite v5 1\nread v2 0\nwrite v8 3\nwrite v10 2\nwrite v8 0\nwrite v15 1\nread v18 0\nacquire l0\nread v9 0\nread v19 0\nrelease l0\nop use o\nread v12 0\n",
+    ),
+    ("d/props", USE_BEFORE_AUTH),
+];
+
 fn two_threads_are_made<R: AllocGlobal + Threads + Sync>(rt: &R) -> Result<bool, AllocError> {
-    const FILES: [(&str, &str); 4] = [
-        ("d/manifest", "gptrace 1\nthreads 2\nepochs 1\nroots 1\n"),
-        (
-            "d/t1.trace",
-            "start 2\nread v16 0\nread v10 0\nacquire l2\nrelease l2\nread v9 0\nacquire l0\nread v18 0\nwrite v9 0\nrelease l0\nread v4 0\nread v0 0\nwrite v11 3\nread v19 0\nread v2 0\nwrite v18 0\n",
-        ),
-        (
-            "d/t2.trace",
-            "read v3 0\nwrite v5 1\nread v2 0\nwrite v8 3\nwrite v10 2\nwrite v8 0\nwrite v15 1\nread v18 0\nacquire l0\nread v9 0\nread v19 0\nrelease l0\nop use o\nread v12 0\n",
-        ),
-        ("d/props", USE_BEFORE_AUTH),
-    ];
     let mut folder = empty_folder(rt.alloc());
-    let words = [MAKE, "--threads=2", "--events=30", "d"];
-    Ok(writes(rt, &words, &mut folder, 0, "made 2 30 1\n")? && are_files(folder.files(), &FILES))
+    Ok(
+        writes(rt, &TWO_THREADS, &mut folder, 0, "made 2 30 1\n")?
+            && are_files(folder.files(), &TWO_THREADS_MADE),
+    )
 }
 
 fn one_event_is_made<R: AllocGlobal + Threads + Sync>(rt: &R) -> Result<bool, AllocError> {

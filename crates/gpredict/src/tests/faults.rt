@@ -1,9 +1,9 @@
 // Whole runs in which a call of the folder, of the sink or of the allocator fails.
-use super::checking::CHECK;
+use super::checking::{CHECK, REPORT as WAITING_REPORT, WAITING, reported};
 use super::compacting::COMPACT;
 use super::listing::LATE_AUTH;
-use super::making::{TWO_THREADS, TWO_THREADS_MADE, are_files, are_files_pairwise};
-use super::{ANALYSE, AUTH, Files, LIST, ONE_ROOT, REPLAY, Script, USE, words_with};
+use super::making::{LARGE, TWO_THREADS, TWO_THREADS_MADE, are_files, are_files_pairwise};
+use super::{ANALYSE, AUTH, Files, LIST, ONE_ROOT, REPLAY, Script, USE, runs_to, words_with};
 use gp_outside::{FreeGate, MemoryFolder, MemorySink};
 use gp_predict::{Outcome, run};
 use std::alloc::{AllocError, Global};
@@ -220,6 +220,59 @@ fn all_calls_end_so<R: AllocGlobal + Threads + Sync>(rt: &R) -> Result<bool, All
 #[test]
 fn each_call_of_the_folder_may_fail(rt: HostRuntime) -> Result<(), Fail> {
     assert!(rt; all_calls_end_so(&rt)?);
+    Ok(())
+}
+
+/// Whether words on these files end so where this call of the folder fails.
+fn call_fault_ends<R: AllocGlobal + Threads + Sync>(
+    rt: &R,
+    words: &[&str],
+    files: Files,
+    call: u64,
+    status: u8,
+    text: &str,
+) -> Result<bool, AllocError> {
+    let alloc = rt.alloc();
+    let given = words_with(alloc, words)?;
+    let script = Script {
+        reads: vec![in alloc; call]?,
+        puts: Vec::new(alloc),
+    };
+    Ok(runs_to(rt, given.as_slice(), files, script, status, text))
+}
+
+/// Whether the check of a report with a certificate ends so where this call fails.
+fn check_fault_ends<R: AllocGlobal + Threads + Sync>(
+    rt: &R,
+    call: u64,
+    status: u8,
+    text: &str,
+) -> Result<bool, AllocError> {
+    let files = reported(rt.alloc(), &WAITING, WAITING_REPORT.as_bytes())?;
+    call_fault_ends(rt, &[CHECK, "d"], files, call, status, text)
+}
+
+/// Whether that check ends as it has to where each of its five calls fails in turn.
+fn check_faults_end_so<R: AllocGlobal + Threads + Sync>(rt: &R) -> Result<bool, AllocError> {
+    let mut hold = check_fault_ends(rt, 6, 0, "accepted 1\n")?;
+    for call in 1..6u64 {
+        hold &= check_fault_ends(rt, call, 4, "")?;
+    }
+    Ok(hold)
+}
+
+/// Whether making 600 events of four threads ends as it has to where each of its six calls fails in turn.
+fn make_faults_end_so<R: AllocGlobal + Threads + Sync>(rt: &R) -> Result<bool, AllocError> {
+    let mut hold = call_fault_ends(rt, &LARGE, Vec::new(rt.alloc()), 7, 0, "made 4 600 3\n")?;
+    for call in 1..7u64 {
+        hold &= call_fault_ends(rt, &LARGE, Vec::new(rt.alloc()), call, 4, "")?;
+    }
+    Ok(hold)
+}
+
+#[test]
+fn a_call_that_fails_ends_a_check_and_a_making(rt: HostRuntime) -> Result<(), Fail> {
+    assert!(rt; check_faults_end_so(&rt)? && make_faults_end_so(&rt)?);
     Ok(())
 }
 

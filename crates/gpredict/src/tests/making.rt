@@ -10,7 +10,7 @@ use std::thread::Threads;
 const MAKE: &str = "--task=make";
 
 /// The words that make the recording of 600 events of four threads.
-const LARGE: [&str; 5] = [MAKE, "--seed=7", "--threads=4", "--events=600", "d"];
+pub const LARGE: [&str; 5] = [MAKE, "--seed=7", "--threads=4", "--events=600", "d"];
 
 /// The property of each recording that is made.
 const USE_BEFORE_AUTH: &str =

@@ -10,7 +10,7 @@ use Rattle.gp_derivation.specs.declared.log.LogEntry.{LogEntry}
 use Rattle.gp_derivation.specs.declared.log.Origin.{Origin}
 use Rattle.gp_derivation.specs.declared.log.Origin.TheVariants.{Learned, Taken}
 use Rattle.gp_derivation.specs.Numbering.{CanBeNumbered, NamesEarlier, IsNumbered, IsNumberable, number_beside, number_of, renumbered, with_hints}
-use Rattle.gp_derivation.specs.Reach.{IsReached, rests_on}
+use Rattle.gp_derivation.specs.Reach.{AreReached, IsReached, rests_on}
 use Rattle.gp_derivation.specs.Reach.IsReached.{direct, through}
 use Rattle.gp_derivation.specs.Cones.{IsCone, cone_steps}
 use Rattle.gp_derivation.proofs.Descending.{rests_earlier}
@@ -18,17 +18,20 @@ use Rattle.gp_derivation.proofs.Numbers.{rising_far}
 use Rattle.gp_derivation.proofs.Staying.{reached_within}
 use Rattle.gp_derivation.proofs.Drafts.{AreKept, IsDraft, among, among_tells, among_at, are_kept, draft_numbers, draft_all, with_hints_agree}
 
--- the places on which a step rests, in order
-pub record AreReached (bases : ℕ) (log : List LogEntry) (last : Step) (places : List ℕ) : Type 0 where
+-- the cone of a step lies over the places on which it rests, in order
+pub record LiesOver (bases : ℕ) (log : List LogEntry) (last : Step) (places : List ℕ) : Type 0 where
   pub can : CanBeNumbered bases log last
   pub rising : AllPairs (λ (a b : ℕ). a < b) places
   pub reached : (place : ℕ) → Contains places place ↔ IsReached bases log last.hints place
 
-pub reached_kept : (bases : ℕ) (log : List LogEntry) (last : Step) (places : List ℕ) → AreReached bases log last places → AreKept (among places) log places
+pub lies_over : (bases : ℕ) (log : List LogEntry) (last : Step) (places : List ℕ) → CanBeNumbered bases log last → AreReached bases log last.hints places → LiesOver bases log last places
+lies_over bases log last places can are = record { can = can; rising = are.rising; reached = are.reached }
+
+pub reached_kept : (bases : ℕ) (log : List LogEntry) (last : Step) (places : List ℕ) → LiesOver bases log last places → AreKept (among places) log places
 reached_kept bases log last places are = are_kept log places are.rising (λ place is. reached_within bases log last.hints are.can.entries are.can.hints place ((are.reached place).0 is))
 
 -- what an entry at one of the places rests on stands before it
-stands_before : (bases : ℕ) (log : List LogEntry) (last : Step) (places : List ℕ) (i : ℕ) (entry : LogEntry) → AreReached bases log last places → i < length places → slice_get log (get_or places i 0) ≡ Some entry
+stands_before : (bases : ℕ) (log : List LogEntry) (last : Step) (places : List ℕ) (i : ℕ) (entry : LogEntry) → LiesOver bases log last places → i < length places → slice_get log (get_or places i 0) ≡ Some entry
     → (hint : ℕ) → Contains (rests_on entry.step entry.origin) hint → (other : ℕ) → bases + other ≡ hint → (k : ℕ) × (k < i) × (get_or places k 0 ≡ other)
 stands_before bases log last places i entry are within got hint by other is =
     let named : Contains (rests_on entry.step entry.origin) (bases + other) = subst (λ (n : ℕ). Contains (rests_on entry.step entry.origin) n) (sym is) by in
@@ -45,7 +48,7 @@ stands_before bases log last places i entry are within got hint by other is =
     )
 
 -- what the last step rests on stands among the places
-stands_all : (bases : ℕ) (log : List LogEntry) (last : Step) (places : List ℕ) → AreReached bases log last places → (hint : ℕ) → Contains last.hints hint → (other : ℕ) → bases + other ≡ hint → (k : ℕ) × (k < length places) × (get_or places k 0 ≡ other)
+stands_all : (bases : ℕ) (log : List LogEntry) (last : Step) (places : List ℕ) → LiesOver bases log last places → (hint : ℕ) → Contains last.hints hint → (other : ℕ) → bases + other ≡ hint → (k : ℕ) × (k < length places) × (get_or places k 0 ≡ other)
 stands_all bases log last places are hint by other is =
     let there : Contains places other = (are.reached other).1 (direct other (subst (λ (n : ℕ). Contains last.hints n) (sym is) by)) in
     (there.0, there.1, get_or_default places there.0 0 other there.1 ∙ there.2)
@@ -59,7 +62,7 @@ pub record IsNext (bases : ℕ) (log : List LogEntry) (places numbers : List ℕ
   pub numbered : IsNumberable bases places numbers entry.step entry.origin
   pub agree : All (λ hint. renumbered bases (number_beside places numbers) hint ≡ renumbered bases (number_of bases (among places) log) hint) (rests_on entry.step entry.origin)
 
-pub next_entry : (bases : ℕ) (log : List LogEntry) (last : Step) (places : List ℕ) (i : ℕ) (steps : List Step) (numbers : List ℕ) (entry : LogEntry) → AreReached bases log last places → i < length places → slice_get log (get_or places i 0) ≡ Some entry
+pub next_entry : (bases : ℕ) (log : List LogEntry) (last : Step) (places : List ℕ) (i : ℕ) (steps : List Step) (numbers : List ℕ) (entry : LogEntry) → LiesOver bases log last places → i < length places → slice_get log (get_or places i 0) ≡ Some entry
     → IsDraft bases (among places) log places i steps numbers → IsNext bases log places numbers entry
 next_entry bases log last places i steps numbers entry are within got draft = record {
   numbered = numberable bases (get_or places i 0) places numbers entry.step entry.origin (are.can.entries (get_or places i 0) entry got)
@@ -74,17 +77,17 @@ next_entry bases log last places i steps numbers entry are within got draft = re
     both hint by = draft_numbers bases (among places) log places i steps numbers (reached_kept bases log last places are) (omega (arith, within)) draft hint (stands_before bases log last places i entry are within got hint by)
 
 -- the last step has its numbers
-last_numbers : (bases : ℕ) (log : List LogEntry) (last : Step) (places : List ℕ) (i : ℕ) (steps : List Step) (numbers : List ℕ) → AreReached bases log last places → i ≡ length places → IsDraft bases (among places) log places i steps numbers
+last_numbers : (bases : ℕ) (log : List LogEntry) (last : Step) (places : List ℕ) (i : ℕ) (steps : List Step) (numbers : List ℕ) → LiesOver bases log last places → i ≡ length places → IsDraft bases (among places) log places i steps numbers
     → (hint : ℕ) → Contains last.hints hint → IsNumbered bases places numbers hint × (renumbered bases (number_beside places numbers) hint ≡ renumbered bases (number_of bases (among places) log) hint)
 last_numbers bases log last places i steps numbers are end draft hint by = draft_numbers bases (among places) log places i steps numbers (reached_kept bases log last places are) (omega (arith, end)) draft hint
     (λ other is. let there : (k : ℕ) × (k < length places) × (get_or places k 0 ≡ other) = stands_all bases log last places are hint by other is in (there.0, omega (arith, there.1, end), there.2))
 
-pub last_numbered : (bases : ℕ) (log : List LogEntry) (last : Step) (places : List ℕ) (i : ℕ) (steps : List Step) (numbers : List ℕ) → AreReached bases log last places → i ≡ length places → IsDraft bases (among places) log places i steps numbers
+pub last_numbered : (bases : ℕ) (log : List LogEntry) (last : Step) (places : List ℕ) (i : ℕ) (steps : List Step) (numbers : List ℕ) → LiesOver bases log last places → i ≡ length places → IsDraft bases (among places) log places i steps numbers
     → All (IsNumbered bases places numbers) last.hints
 last_numbered bases log last places i steps numbers are end draft = All-weaker (Contains last.hints) (IsNumbered bases places numbers) (λ hint by. (last_numbers bases log last places i steps numbers are end draft hint by).0) last.hints (All-contains_itself last.hints)
 
 -- the whole draft and the last step are the cone
-pub cone_drafted : (bases : ℕ) (log : List LogEntry) (last : Step) (places : List ℕ) (i : ℕ) (steps : List Step) (numbers : List ℕ) (whole : List Step) → AreReached bases log last places → i ≡ length places → IsDraft bases (among places) log places i steps numbers
+pub cone_drafted : (bases : ℕ) (log : List LogEntry) (last : Step) (places : List ℕ) (i : ℕ) (steps : List Step) (numbers : List ℕ) (whole : List Step) → LiesOver bases log last places → i ≡ length places → IsDraft bases (among places) log places i steps numbers
     → whole ≡ steps ++ with_hints (renumbered bases (number_beside places numbers)) last ∷ [] → IsCone bases log last (record { steps = whole })
 cone_drafted bases log last places i steps numbers whole are end draft parts = record {
   kept = among places;

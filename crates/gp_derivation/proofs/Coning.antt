@@ -82,9 +82,9 @@ Fits problem locals log place step (Taken sender certificate) = Proves problem (
 
 fits_current : (problem : Problem) (locals : List Kind) (log : List LogEntry) (begins place : ℕ) (step : Step) (origin : Origin) → OriginPasses problem locals log begins place step origin → Fits problem locals log place step origin
 fits_current problem locals log begins place step Learned passes = record { hints = passes.hints; passes = passes.passes }
-fits_current problem locals log begins place step (Taken sender certificate) passes = passes
+fits_current problem locals log begins place step (Taken sender certificate) passes = passes.proves
 
-fits_pure : (problem : Problem) (locals own : List Kind) (log : List LogEntry) (began place : ℕ) (step : Step) (origin : Origin) → NamesBelow (length problem.kinds) step.clause
+pub fits_pure : (problem : Problem) (locals own : List Kind) (log : List LogEntry) (began place : ℕ) (step : Step) (origin : Origin) → NamesBelow (length problem.kinds) step.clause
     → ((other : ℕ) → Contains (rests_on step origin) (length problem.clauses + other) → (entry : LogEntry) → slice_get log other ≡ Some entry → NamesBelow (length problem.kinds) entry.step.clause)
     → All (NamesBelow (length problem.kinds)) problem.clauses → OriginPasses problem own log began place step origin → Fits problem locals log place step origin
 fits_pure problem locals own log began place step Learned names others valid passes = record {
@@ -92,7 +92,7 @@ fits_pure problem locals own log began place step Learned names others valid pas
   passes = passes_bare problem own locals (named (logged problem log) step.hints) step.clause
       (named_logged (NamesBelow (length problem.kinds)) problem log step.hints valid (λ other entry by got. others other by entry got)) names passes.passes;
 }
-fits_pure problem locals own log began place step (Taken sender certificate) names others valid passes = passes
+fits_pure problem locals own log began place step (Taken sender certificate) names others valid passes = passes.proves
 
 pub reached_fits : (problem : Problem) (locals : List Kind) (log : List LogEntry) (begins : ℕ) → IsValidProblem problem → LogPasses problem locals log begins
     → (place : ℕ) (entry : LogEntry) → slice_get log place ≡ Some entry → IsPure problem log place ⊎ (begins ≤ place) → Fits problem locals log place entry.step entry.origin
@@ -112,7 +112,7 @@ pub record KeepsFitting (problem : Problem) (locals : List Kind) (log : List Log
 abbrev pub so_far : Problem → List LogEntry → (ℕ → Bool) → ℕ → List (List Lit)
 so_far problem log kept place = problem.clauses ++ clauses_of (cone_steps (length problem.clauses) kept log place)
 
-clauses_moved : (f : ℕ → ℕ) (steps : List Step) → clauses_of (map (with_hints f) steps) ≡ clauses_of steps
+pub clauses_moved : (f : ℕ → ℕ) (steps : List Step) → clauses_of (map (with_hints f) steps) ≡ clauses_of steps
 clauses_moved f [] = refl
 clauses_moved f (step ∷ steps) = ap (λ xs. step.clause ∷ xs) (clauses_moved f steps)
 
@@ -139,7 +139,7 @@ cone_ends problem locals log kept fitting place entry keeps got =
     )
 
 -- a cone of more entries begins with the cone of fewer
-cone_prefix : (bases : ℕ) (kept : ℕ → Bool) (log : List LogEntry) (fewer more : ℕ) → fewer ≤ more → (rest : List Step) × (cone_steps bases kept log more ≡ cone_steps bases kept log fewer ++ rest)
+pub cone_prefix : (bases : ℕ) (kept : ℕ → Bool) (log : List LogEntry) (fewer more : ℕ) → fewer ≤ more → (rest : List Step) × (cone_steps bases kept log more ≡ cone_steps bases kept log fewer ++ rest)
 cone_prefix bases kept log fewer zero within =
     let none : zero ≡ fewer = omega arith in
     ([], ap (λ n. cone_steps bases kept log n) none ∙ sym (append-nil (cone_steps bases kept log fewer)))
@@ -209,7 +209,7 @@ renumbered_alike problem locals log kept fitting place hints within keeps hint c
         ∙ ap (λ c. Some c) same
 
 -- the steps of an entry check after those before it
-given_checks : (problem : Problem) (locals : List Kind) (log : List LogEntry) (kept : ℕ → Bool) → KeepsFitting problem locals log kept → IsValidProblem problem → (place : ℕ) → place ≤ length log → (step : Step) (origin : Origin)
+pub given_checks : (problem : Problem) (locals : List Kind) (log : List LogEntry) (kept : ℕ → Bool) → KeepsFitting problem locals log kept → IsValidProblem problem → (place : ℕ) → place ≤ length log → (step : Step) (origin : Origin)
     → Fits problem locals log place step origin → ((other : ℕ) → Contains (rests_on step origin) (length problem.clauses + other) → kept other ≡ true)
     → StepsCheck problem.edges (problem.kinds ++ locals) (so_far problem log kept place)
     (steps_given (length problem.clauses) (number_of (length problem.clauses) kept log) (steps_before kept log place) step origin)
@@ -233,7 +233,7 @@ given_checks problem locals log kept fitting valid place within step (Taken send
     subst R long (subst Q (append-nil (problem.clauses ++ added)) after)
 
 -- the steps that the first entries give check
-cone_checked : (problem : Problem) (locals : List Kind) (log : List LogEntry) (kept : ℕ → Bool) → KeepsFitting problem locals log kept → IsValidProblem problem → (place : ℕ)
+pub cone_checked : (problem : Problem) (locals : List Kind) (log : List LogEntry) (kept : ℕ → Bool) → KeepsFitting problem locals log kept → IsValidProblem problem → (place : ℕ)
     → StepsCheck problem.edges (problem.kinds ++ locals) problem.clauses (cone_steps (length problem.clauses) kept log place)
 cone_checked problem locals log kept fitting valid zero = tt
 cone_checked problem locals log kept fitting valid (suc place) =

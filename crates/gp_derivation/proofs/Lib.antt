@@ -22,3 +22,6 @@ pub mod Counts
 pub mod Falling
 pub mod Listing
 pub mod Readying
+pub mod Rooms
+pub mod Narrowing
+pub mod Exchanging

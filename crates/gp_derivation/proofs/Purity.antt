@@ -48,10 +48,10 @@ proved_below problem certificate clause proves =
     let P : List Kind → Type 0 = λ kinds. NamesBelow (length kinds) (proves.ends.0).clause in
     subst (NamesBelow (length problem.kinds)) (proves.ends.2) (subst P (append-nil problem.kinds) last)
 
-taken_below : (problem : Problem) (own : List Kind) (log : List LogEntry) (began place : ℕ) (step : Step) (origin : Origin) → IsTaken origin
+pub taken_below : (problem : Problem) (own : List Kind) (log : List LogEntry) (began place : ℕ) (step : Step) (origin : Origin) → IsTaken origin
     → OriginPasses problem own log began place step origin → NamesBelow (length problem.kinds) step.clause
 taken_below problem own log began place step Learned wrong passes = absurd wrong
-taken_below problem own log began place step (Taken sender certificate) took passes = proved_below problem (arc_value certificate) step.clause passes
+taken_below problem own log began place step (Taken sender certificate) took passes = proved_below problem (arc_value certificate) step.clause passes.proves
 
 -- a pure entry's clause has problem variables only
 pub pure_below : (problem : Problem) (locals : List Kind) (log : List LogEntry) (begins : ℕ) → LogPasses problem locals log begins
@@ -93,13 +93,13 @@ origin_true laws problem own log began place step Learned truth places model bas
     let bare : Passes problem.edges problem.kinds (named (logged problem log) step.hints) step.clause = subst P (append-nil problem.kinds) (passes_bare problem own [] (named (logged problem log) step.hints) step.clause below names passes.passes) in
     passing_true laws problem.edges problem.kinds (named (logged problem log) step.hints) step.clause truth places model holds bare
 origin_true laws problem own log began place step (Taken sender certificate) truth places model base names below holds passes =
-    proved_true laws problem (arc_value certificate) step.clause truth places model base passes
+    proved_true laws problem (arc_value certificate) step.clause truth places model base passes.proves
 
 taken_true : Laws → (problem : Problem) (own : List Kind) (log : List LogEntry) (began place : ℕ) (step : Step) (origin : Origin) (truth : ℕ → Bool) (places : ℕ → ℤ) → IsModel problem.edges problem.kinds truth places
     → HoldsAll truth problem.clauses → IsTaken origin → OriginPasses problem own log began place step origin → HoldsClause truth step.clause
 taken_true laws problem own log began place step Learned truth places model base wrong passes = absurd wrong
 taken_true laws problem own log began place step (Taken sender certificate) truth places model base took passes =
-    proved_true laws problem (arc_value certificate) step.clause truth places model base passes
+    proved_true laws problem (arc_value certificate) step.clause truth places model base passes.proves
 
 -- a pure entry's clause is true where the problem's clauses are
 pub pure_true : Laws → (problem : Problem) (locals : List Kind) (log : List LogEntry) (begins : ℕ) (truth : ℕ → Bool) (places : ℕ → ℤ) → IsModel problem.edges problem.kinds truth places

@@ -1,13 +1,15 @@
 -- What stays as it is when a log grows.
-use Rattle.std.proofs.Common.{◌≡◌, ℕ, zero, suc, ◌+◌, ◌-◌, ◌<◌, ◌≤◌, ◌⊎◌, inl, inr, Bool, true, false, IsTrue, Some, List, [], ◌∷◌, ◌++◌, length, map, take, drop, All, refl, sym, ◌∙◌, subst, ap, append_assoc, arith}
+use Rattle.std.proofs.Common.{◌≡◌, ℕ, zero, suc, ◌+◌, ◌-◌, ◌<◌, ◌≤◌, ◌↔◌, ◌⊎◌, inl, inr, Bool, true, false, IsTrue, Some, List, [], ◌∷◌, ◌++◌, length, map, take, drop, All, refl, sym, ◌∙◌, subst, ap, append_assoc, arith}
 use Rattle.std.specs.List.{slice_get, cons_option}
 use Rattle.std.proofs.lemmas.Bool.{cases_lt}
 use Rattle.std.proofs.lemmas.List.{append-nil, length-append, length-map, length-drop, map-append, take-append-le, drop-append-le}
 use Rattle.std.proofs.lemmas.List.Elements.{All-head, All-tail, All-weaker, All-contains}
+use Rattle.std.proofs.lemmas.Option.{slice_get_within}
 use Rattle.gp_clause.specs.declared.kind.Kind.{Kind}
 use Rattle.gp_clause.specs.declared.lit.Lit.{Lit}
 use Rattle.gp_clause.specs.declared.problem.Problem.{Problem}
 use Rattle.gp_derivation.specs.declared.step.Step.{Step}
+use Rattle.gp_derivation.specs.declared.certificate.Certificate.{Certificate}
 use Rattle.gp_derivation.specs.declared.log.LogEntry.{LogEntry}
 use Rattle.gp_derivation.specs.declared.log.Origin.{Origin}
 use Rattle.gp_derivation.specs.declared.log.Origin.TheVariants.{Learned, Taken}
@@ -19,7 +21,9 @@ use Rattle.gp_derivation.specs.Spent.{IsNewBy, SpentStays, turned}
 use Rattle.gp_derivation.specs.Numbering.{NamesEarlier, counted, steps_before, number_of, renumbered, with_hints}
 use Rattle.gp_derivation.specs.Reach.{IsReached, rests_on}
 use Rattle.gp_derivation.specs.Reach.IsReached.{direct, through}
-use Rattle.gp_derivation.specs.Cones.{ConeIsUnique, ConeStays, kept_steps, cone_steps}
+use Rattle.gp_derivation.specs.Cones.{ConeIsUnique, ConeStays, IsCone, kept_steps, cone_steps}
+use Rattle.gp_derivation.specs.Fit.{IsConeBy, IsFit}
+use Rattle.gp_derivation.specs.FitStaying.{FitStays}
 use Rattle.gp_derivation.specs.ListLaws.{slice_get_front, got_front}
 use Rattle.gp_derivation.proofs.Growing.{origin_longer}
 use Rattle.gp_derivation.proofs.Descending.{rests_earlier}
@@ -170,3 +174,42 @@ cone_stays bases log more last certificate names within cone = record {
 
     front : cone_steps bases cone.kept log (length log) ≡ cone_steps bases cone.kept (log ++ more) (length (log ++ more))
     front = sym (steps_same bases log more cone.kept none (length (log ++ more)) ∙ steps_past bases log more cone.kept none (length (log ++ more)) (omega (arith, length-append log more)))
+
+-- the cone of a step in a longer log is its cone in the log
+cone_shortens : (bases : ℕ) (log more : List LogEntry) (last : Step) (certificate : Certificate) → ((place : ℕ) (entry : LogEntry) → slice_get log place ≡ Some entry → NamesEarlier bases place entry.step entry.origin)
+    → All (λ hint. hint < bases + length log) last.hints → IsCone bases (log ++ more) last certificate → IsCone bases log last certificate
+cone_shortens bases log more last certificate names within cone = record {
+  kept = cone.kept;
+  reached = λ place. (
+    λ told. reached_shorter bases log more last.hints names within place ((cone.reached place).0 told),
+    λ reached. (cone.reached place).1 (reached_longer bases log more last.hints place reached),
+  );
+  steps = cone.steps ∙ (λ i. front i ++ with_hints (renumbered bases (numbers_same bases log more cone.kept none i)) last ∷ []);
+}
+  where
+    none : (place : ℕ) → length log ≤ place → cone.kept place ≡ false
+    none place past = at (cone.kept place) refl
+      where
+        at : (b : Bool) → cone.kept place ≡ b → cone.kept place ≡ false
+        at false is = is
+        at true is = absurd (omega (arith, past, reached_within bases log last.hints names within place (reached_shorter bases log more last.hints names within place ((cone.reached place).0 is))))
+
+    front : cone_steps bases cone.kept (log ++ more) (length (log ++ more)) ≡ cone_steps bases cone.kept log (length log)
+    front = steps_same bases log more cone.kept none (length (log ++ more)) ∙ steps_past bases log more cone.kept none (length (log ++ more)) (omega (arith, length-append log more))
+
+-- the cone of an entry by its origin stays the same
+cone_by_same : (problem : Problem) (log more : List LogEntry) (place : ℕ) (step : Step) (origin : Origin) (certificate : Certificate)
+    → ((k : ℕ) (entry : LogEntry) → slice_get log k ≡ Some entry → NamesEarlier (length problem.clauses) k entry.step entry.origin) → NamesEarlier (length problem.clauses) place step origin → place < length log
+    → IsConeBy (length problem.clauses) log step origin certificate ↔ IsConeBy (length problem.clauses) (log ++ more) step origin certificate
+cone_by_same problem log more place step Learned certificate names own within =
+    let hints : All (λ hint. hint < length problem.clauses + length log) step.hints =
+    All-weaker (λ hint. hint < length problem.clauses + place) (λ hint. hint < length problem.clauses + length log) (λ hint low. omega (arith, low, within)) step.hints own in
+    (cone_stays (length problem.clauses) log more step certificate names hints, cone_shortens (length problem.clauses) log more step certificate names hints)
+cone_by_same problem log more place step (Taken sender own) certificate names earlier within = ((λ is. is), (λ is. is))
+
+pub fit_stays : FitStays
+fit_stays problem log more names place entry got =
+    let same = λ (certificate : Certificate). cone_by_same problem log more place entry.step entry.origin certificate names (names place entry got) (slice_get_within log place entry got) in (
+      λ fit. (fit.0, record { few = fit.1.few; cone = (same fit.0).0 fit.1.cone; small = fit.1.small }),
+      λ fit. (fit.0, record { few = fit.1.few; cone = (same fit.0).1 fit.1.cone; small = fit.1.small }),
+    )

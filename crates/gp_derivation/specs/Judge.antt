@@ -1,5 +1,5 @@
 -- What a judge keeps.
-use Rattle.std.specs.Prelude.{◌≡◌, List, [], length, All}
+use Rattle.std.specs.Prelude.{◌≡◌, [], length, All}
 use Rattle.gp_clause.specs.declared.problem.Problem.{Problem}
 use Rattle.gp_clause.specs.Clause.{NamesBelow}
 use Rattle.gp_derivation.specs.declared.judge.Judge.TheInside.{Inside}

@@ -15,3 +15,7 @@ pub mod Bench
 pub mod Tester
 pub mod Judge
 pub mod SharedLaws
+pub mod Fit
+pub mod Room
+pub mod Exchange
+pub mod FitStaying

@@ -7,6 +7,7 @@ use Rattle.gp_clause.specs.Clause.{NamesBelow}
 use Rattle.gp_clause.specs.Follows.{Follows}
 use Rattle.gp_clause.specs.Problem.{IsValidProblem}
 use Rattle.gp_derivation.specs.declared.step.Step.{Step}
+use Rattle.gp_derivation.specs.declared.certificate.Certificate.{Certificate}
 use Rattle.gp_derivation.specs.declared.log.LogEntry.{LogEntry}
 use Rattle.gp_derivation.specs.declared.log.Origin.{Origin}
 use Rattle.gp_derivation.specs.declared.log.Origin.TheVariants.{Learned, Taken}
@@ -45,10 +46,15 @@ pub record LearnedPasses (problem : Problem) (locals : List Kind) (log : List Lo
   pub usable : (other : ℕ) → Contains step.hints (length problem.clauses + other) → IsUsable problem log begins place other
   pub passes : Passes problem.edges (problem.kinds ++ locals) (named (logged problem log) step.hints) step.clause
 
--- a step passes by its origin: a learned one as such, and a taken one where its certificate proves its clause
+-- a taken step passes where it has no hints, and its certificate proves its clause
+pub record TakenPasses (problem : Problem) (certificate : Certificate) (step : Step) : Type 0 where
+  pub bare : step.hints ≡ []
+  pub proves : Proves problem certificate step.clause
+
+-- a step passes by its origin: as a learned one, or as a taken one
 abbrev pub OriginPasses : Problem → List Kind → List LogEntry → ℕ → ℕ → Step → Origin → Type 0
 OriginPasses problem locals log begins place step Learned = LearnedPasses problem locals log begins place step
-OriginPasses problem locals log begins place step (Taken sender certificate) = Proves problem (arc_value certificate) step.clause
+OriginPasses problem locals log begins place step (Taken sender certificate) = TakenPasses problem (arc_value certificate) step
 
 -- the entry at a place of a log passes in a turn that has these locals and begins there
 abbrev pub EntryPasses : Problem → List Kind → List LogEntry → ℕ → ℕ → LogEntry → Type 0

@@ -1,5 +1,5 @@
 -- On which entries of a log a step rests.
-use Rattle.std.specs.Prelude.{ℕ, ◌≡◌, ◌+◌, List, [], Some, slice_get, Contains}
+use Rattle.std.specs.Prelude.{ℕ, ◌≡◌, ◌+◌, ◌<◌, ◌↔◌, List, [], Some, slice_get, AllPairs, Contains}
 use Rattle.gp_derivation.specs.declared.step.Step.{Step}
 use Rattle.gp_derivation.specs.declared.log.LogEntry.{LogEntry}
 use Rattle.gp_derivation.specs.declared.log.Origin.{Origin}
@@ -15,3 +15,8 @@ pub data IsReached (bases : ℕ) (log : List LogEntry) (hints : List ℕ) : ℕ 
   direct : (place : ℕ) → Contains hints (bases + place) → IsReached bases log hints place
   through : (place other : ℕ) (entry : LogEntry) → IsReached bases log hints other → slice_get log other ≡ Some entry
       → Contains (rests_on entry.step entry.origin) (bases + place) → IsReached bases log hints place
+
+-- some places are those of the entries on which a step with some hints rests, in the order of the log
+pub record AreReached (bases : ℕ) (log : List LogEntry) (hints places : List ℕ) : Type 0 where
+  pub rising : AllPairs (λ (a b : ℕ). a < b) places
+  pub reached : (place : ℕ) → Contains places place ↔ IsReached bases log hints place

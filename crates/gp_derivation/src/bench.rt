@@ -142,7 +142,7 @@ impl Bench {
 }
 
 // Whether all variables are below the count.
-fn is_within(lits: &[Lit], count: usize) -> bool
+pub(crate) fn is_within(lits: &[Lit], count: usize) -> bool
     ensures { IsTrue result ↔ NamesBelow count lits.now }
 {
     lits.iter().all(|lit| (lit.variable as usize) < count)

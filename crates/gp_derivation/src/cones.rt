@@ -1,6 +1,7 @@
 ghost use Rattle.std.specs.Prelude.{◌≡◌, ℕ, ◌+◌, ◌-◌, ◌<◌, ◌^◌, [], ◌∷◌, ◌++◌, Some, length, map, IfOk, OnOk, All, AllPairs, slice_get};
 ghost use Rattle.gp_derivation.specs.Cones.{IsCone, ConeChecks, ConeIsUnique, ConeStays, steps_given};
 ghost use Rattle.gp_derivation.specs.Numbering.{CanBeNumbered, IsNumberable, number_beside, moved, with_hints, size_of};
+ghost use Rattle.gp_derivation.specs.Reach.{AreReached};
 ghost use Rattle.gp_derivation.specs.declared.step.Step.{Step};
 
 use crate::certificate::Certificate;
@@ -23,8 +24,22 @@ pub fn cone(
     requires { CanBeNumbered base_clauses log.now last.now }
     ensures { IfOk result (IsCone base_clauses log.now last.now) }
 {
-    let needed = reached(alloc, base_clauses, log, last.hints.as_slice())?;
-    let places = needed.as_slice();
+    let places = reached(alloc, base_clauses, log, last.hints.as_slice())?;
+    cone_over(alloc, base_clauses, log, places.as_slice(), last)
+}
+
+// The same by the places of the entries on which the step rests.
+pub(crate) fn cone_over(
+    alloc: Global,
+    base_clauses: u32,
+    log: &[LogEntry],
+    places: &[u32],
+    last: &Step,
+) -> Result<Certificate, AllocError>
+    requires numbered { CanBeNumbered base_clauses log.now last.now }
+    requires reached { AreReached base_clauses log.now last.now.hints places.now }
+    ensures { IfOk result (IsCone base_clauses log.now last.now) }
+{
     let mut draft = Draft {
         steps: Row::new(alloc),
         numbers: Row::new(alloc),

@@ -1,4 +1,4 @@
-use Rattle.std.proofs.Common.{◌≡◌, ◌++◌, take}
+use Rattle.std.proofs.Common.{◌≡◌, take}
 use Rattle.gp_derivation.proofs.judge.all_loaded.Given as goal
 
 abbrev pub invariant-loop-clause : goal.invariant-loop-clause

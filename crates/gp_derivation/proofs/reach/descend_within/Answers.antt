@@ -1,0 +1,52 @@
+use Rattle.std.proofs.Common.{ℕ, ◌<◌, List, length, refl, sym, subst, arith}
+use Rattle.std.specs.Prelude.{Contains}
+use Rattle.std.proofs.lemmas.List.Elements.{Contains-push}
+use Rattle.std.proofs.lemmas.Option.{slice_get_read}
+use Rattle.gp_derivation.proofs.Descending.{below_last, none_left}
+use Rattle.gp_derivation.proofs.Narrowing.{IsNextPlace, narrowed_none, narrowed_more, narrowed_all, none_from_here}
+use Rattle.gp_derivation.proofs.reach.descend_within.Goals as goal
+
+pub loop-place-init : goal.loop-place-init
+loop-place-init c =
+    narrowed_none c.args.problem.now c.args.log.now c.args.last.now c.len-base_clauses.result c.as_slice.result.now c.new-todo.result.keys c.new-places.result.items c.queue.new.todo.keys c.args.room
+    c.len-base_clauses.ensures c.as_slice.ensures c.new-todo.ensures.empty c.new-places.ensures.items c.requires.numbered c.requires.left c.in_ok-queue.ensures
+
+pub bounds-log-bound : goal.bounds-log-bound
+bounds-log-bound c =
+    let among : Contains c.loop-place.todo.keys c.in-Some.place = subst (λ (xs : List ℕ). Contains xs c.in-Some.place) (sym c.in-Some.ensures.removal) (Contains-push c.pop_last.new.self.keys c.in-Some.place) in
+    omega (arith, c.loop-place.invariant.descended.below c.in-Some.place among, c.loop-place.invariant.descended.within)
+
+pub loop-place-smaller : goal.loop-place-smaller
+loop-place-smaller c = c.loop-place.invariant.descended.below c.in-Some.place (subst (λ (xs : List ℕ). Contains xs c.in-Some.place) (sym c.in-Some.ensures.removal) (Contains-push c.pop_last.new.self.keys c.in-Some.place))
+
+pub returns-in_default-after_entry : goal.returns-in_default-after_entry
+returns-in_default-after_entry c =
+    let among : Contains c.loop-place.todo.keys c.in-Some.place = subst (λ (xs : List ℕ). Contains xs c.in-Some.place) (sym c.in-Some.ensures.removal) (Contains-push c.pop_last.new.self.keys c.in-Some.place) in
+    let within : c.in-Some.place < length c.args.log.now = omega (arith, c.loop-place.invariant.descended.below c.in-Some.place among, c.loop-place.invariant.descended.within) in
+    let next : IsNextPlace c.args.problem.now c.args.log.now c.args.last.now c.loop-place.todo.keys c.pop_last.new.self.keys c.in-Some.place c.index-log-bound.result = record {
+      can = c.requires.numbered;
+      got = slice_get_read c.args.log.now (length c.args.log.now) c.in-Some.place c.index-log-bound.result refl within c.index-log-bound.is;
+      parts = c.in-Some.ensures.removal;
+      below = below_last c.pop_last.new.self.keys c.in-Some.place c.in-Some.ensures.all_below;
+    } in
+    none_from_here c.args.problem.now c.args.log.now c.args.last.now c.loop-place.bound c.loop-place.places.items c.loop-place.todo.keys c.pop_last.new.self.keys c.loop-place.room c.in-Some.place c.index-log-bound.result c.len.result
+    c.len.ensures next c.loop-place.invariant c.in_default-after_entry.ensures
+
+pub loop-place-preserved : goal.loop-place-preserved
+loop-place-preserved c =
+    let among : Contains c.loop-place.todo.keys c.in-Some.place = subst (λ (xs : List ℕ). Contains xs c.in-Some.place) (sym c.in-Some.ensures.removal) (Contains-push c.pop_last.new.self.keys c.in-Some.place) in
+    let within : c.in-Some.place < length c.args.log.now = omega (arith, c.loop-place.invariant.descended.below c.in-Some.place among, c.loop-place.invariant.descended.within) in
+    let next : IsNextPlace c.args.problem.now c.args.log.now c.args.last.now c.loop-place.todo.keys c.pop_last.new.self.keys c.in-Some.place c.index-log-bound.result = record {
+      can = c.requires.numbered;
+      got = slice_get_read c.args.log.now (length c.args.log.now) c.in-Some.place c.index-log-bound.result refl within c.index-log-bound.is;
+      parts = c.in-Some.ensures.removal;
+      below = below_last c.pop_last.new.self.keys c.in-Some.place c.in-Some.ensures.all_below;
+    } in
+    narrowed_more c.args.problem.now c.args.log.now c.args.last.now c.loop-place.bound c.loop-place.places.items c.loop-place.todo.keys c.pop_last.new.self.keys c.loop-place.room c.in-Some.place c.index-log-bound.result c.len.result
+    c.len-base_clauses.result c.rests_on.result.now c.push.new.self.items c.queue-in-Some.new.todo.keys c.in-Some-after_entry.left c.len.ensures c.len-base_clauses.ensures c.rests_on.ensures c.in_ok-push.ensures.items next
+    c.in-Some-after_entry.ensures c.in_ok-queue-2.ensures c.loop-place.invariant
+
+pub returns : goal.returns
+returns c =
+    narrowed_all c.args.problem.now c.args.log.now c.args.last.now c.loop-place.bound c.loop-place.places.items c.loop-place.todo.keys c.turned.result.items c.loop-place.room (none_left c.loop-place.todo.keys c.in_default.ensures.variant.1)
+    c.loop-place.invariant c.turned.ensures.rising c.turned.ensures.same

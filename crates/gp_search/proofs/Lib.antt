@@ -15,6 +15,8 @@ pub mod Choosing
 pub mod Turns
 pub mod Few
 pub mod Running
+pub mod Takes
+pub mod Offering
 pub mod News
 pub mod Teaching
 pub mod Highest

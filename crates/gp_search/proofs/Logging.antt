@@ -2,19 +2,23 @@
 use Rattle.std.proofs.Common.{◌≡◌, refl, sym, ◌∙◌, ap, subst, ℕ, ◌+◌, ◌*◌, ◌<◌, ◌≤◌, ◌^◌, Bool, true, false, Option, Some, None, List, [], ◌∷◌, ◌++◌, length, get_or, map, Contains, ◌⊎◌, inl, inr, append_assoc, arith}
 use Rattle.std.specs.List.{slice_get}
 use Rattle.std.proofs.lemmas.Bool.{cases_lt}
-use Rattle.std.proofs.lemmas.Option.{same_Some, slice_get-get_or}
-use Rattle.std.proofs.lemmas.List.{map-append, length_push, get_or_append_left, get_or_push, get_or_past}
-use Rattle.std.proofs.lemmas.List.Elements.{All-push}
+use Rattle.std.specs.Arc.{arc_value}
+use Rattle.std.proofs.lemmas.Option.{same_Some, slice_get-get_or, slice_get_within}
+use Rattle.std.proofs.lemmas.List.{map-append, length-append, length_push, get_or_append_left, get_or_push, get_or_past}
+use Rattle.std.proofs.lemmas.List.Elements.{All-contains, All-push, All-weaker, Contains-push}
 use Rattle.gp_clause.specs.declared.kind.Kind.{Kind}
 use Rattle.gp_clause.specs.declared.lit.Lit.{Lit}
 use Rattle.gp_clause.specs.declared.problem.Problem.{Problem}
 use Rattle.gp_clause.specs.declared.problem.Query.{Query}
 use Rattle.gp_clause.specs.Clause.{NamesBelow, IsRising}
+use Rattle.gp_derivation.specs.declared.exchange.SharedClause.{SharedClause}
 use Rattle.gp_derivation.specs.declared.log.LogEntry.{LogEntry}
 use Rattle.gp_derivation.specs.declared.step.Step.{Step}
+use Rattle.gp_derivation.specs.Certificate.{clauses_of}
+use Rattle.gp_derivation.specs.Exchange.{IsGood}
 use Rattle.gp_derivation.specs.Log.{IsLearned, IsPure, LogGrows, LearnedPasses}
 use Rattle.gp_derivation.specs.Log.IsPure.{taken, learned}
-use Rattle.gp_derivation.specs.ListLaws.{got_front}
+use Rattle.gp_derivation.specs.ListLaws.{contains_map, got_front}
 use Rattle.gp_derivation.specs.Numbering.{size_of}
 use Rattle.gp_derivation.specs.Tester.{TesterForm}
 use Rattle.gp_difference.specs.Graph.{GraphForm}
@@ -28,10 +32,11 @@ use Rattle.gp_sat.specs.Learning.{HasOnePresent, IsHighestBelow, IsBelowLevel}
 use Rattle.gp_sat.specs.SolverLaws.{attached_within}
 use Rattle.gp_search.specs.declared.engine.Engine.{Engine}
 use Rattle.gp_search.specs.declared.engine.Level.{Level}
-use Rattle.gp_search.specs.Inside.{all_kinds, IsPlain, IsMarked, IsStored, IsKeeping, IsPassing, IsTurning, IsReasoned, IsAsserted, IsAssuming, IsGraphOf, IsLevelled, IsTaught, IsTesterOf, turn_from, no_level}
+use Rattle.gp_search.specs.Inside.{all_kinds, IsPlain, IsMarked, IsStored, IsKeeping, IsPassing, IsTurning, IsReasoned, IsAsserted, IsAssuming, IsGraphOf, IsLevelled, IsTaking, IsTaught, IsTesterOf, most_steps, turn_from, no_level}
+use Rattle.gp_search.specs.Mail.{taken_entry}
 use Rattle.gp_search.specs.Moves.{IsLesson, RestsOnMarked}
 use Rattle.gp_search.proofs.LearnedSteps.{clauses_counted}
-use Rattle.gp_search.proofs.Taught.{entry_of, last_got, old_or_last, taught_more}
+use Rattle.gp_search.proofs.Taught.{entry_of, last_got, old_or_last, taught_more, taught_none}
 use Rattle.gp_search.proofs.Levels.{back_was, back_stays, begun_same}
 
 -- a literal of the level that was left is unassigned
@@ -86,17 +91,32 @@ plain_longer problem log entry place within plain = record {
       subst P same (plain.below first here);
 }
 
+-- the last entry of a log is plain where it is pure and names problem variables alone
+pub last_plain : (problem : Problem) (log : List LogEntry) (entry : LogEntry) → IsPure problem (log ++ entry ∷ []) (length log) → NamesBelow (length problem.kinds) entry.step.clause
+    → IsPlain problem (log ++ entry ∷ []) (length log)
+last_plain problem log entry pure below = record {
+  pure = pure;
+  below = λ own found.
+      let got : slice_get (log ++ entry ∷ []) (length log) ≡ Some entry = last_got log entry (length log) refl in
+      let equal : entry ≡ own = let both : Some entry ≡ Some own = sym got ∙ found in same_Some entry own both in
+      let P : LogEntry → Type 0 = λ e. NamesBelow (length problem.kinds) e.step.clause in
+      subst P equal below;
+}
+
+-- a learned entry that rests on marked ones is plain
+rests_plain : (problem : Problem) (log : List LogEntry) (marks : List Bool) (step : Step) → IsMarked problem log marks → RestsOnMarked problem marks step → IsPlain problem (log ++ entry_of step ∷ []) (length log)
+rests_plain problem log marks step old one =
+    last_plain problem log (entry_of step)
+    (learned (length log) (entry_of step) (last_got log (entry_of step) (length log) refl) one.below (λ other by. pure_longer problem log (entry_of step ∷ []) other (old.plain other (one.marked other by)).pure)) one.below
+
 -- the marks after one more
-marked_more : (problem : Problem) (log : List LogEntry) (marks : List Bool) (entry : LogEntry) (mark : Bool) → IsMarked problem log marks → (mark ≡ true → RestsOnMarked problem marks entry.step)
+marked_more : (problem : Problem) (log : List LogEntry) (marks : List Bool) (entry : LogEntry) (mark : Bool) → IsMarked problem log marks → (mark ≡ true → IsPlain problem (log ++ entry ∷ []) (length log))
     → IsMarked problem (log ++ entry ∷ []) (marks ++ mark ∷ [])
-marked_more problem log marks entry mark old rests = record {
+marked_more problem log marks entry mark old plain = record {
   size = omega (arith, old.size, length_push marks mark, length_push log entry);
   plain = λ place is. at place is (cases_lt place (length marks));
 }
   where
-    others : (step : Step) → RestsOnMarked problem marks step → (other : ℕ) → Contains step.hints (length problem.clauses + other) → IsPure problem (log ++ entry ∷ []) other
-    others step one other by = pure_longer problem log (entry ∷ []) other (old.plain other (one.marked other by)).pure
-
     at : (place : ℕ) → get_or (marks ++ mark ∷ []) place false ≡ true → (place < length marks) ⊎ (length marks ≤ place) → IsPlain problem (log ++ entry ∷ []) place
     at place is (inl before) =
         plain_longer problem log entry place (omega (arith, before, old.size)) (old.plain place (sym (get_or_append_left marks (mark ∷ []) false place before) ∙ is))
@@ -104,15 +124,8 @@ marked_more problem log marks entry mark old rests = record {
       | inl past ↦ absurd (let none : get_or (marks ++ mark ∷ []) place false ≡ false = get_or_past (marks ++ mark ∷ []) place false (omega (arith, past, length_push marks mark)) in let clash : ⊥ = cc in clash)
       | inr same ↦
           let at_end : length marks ≡ place = omega (arith, after, same) in
-          let one : RestsOnMarked problem marks entry.step = rests (sym (get_or_push marks mark false place at_end) ∙ is) in
-          let got : slice_get (log ++ entry ∷ []) place ≡ Some entry = last_got log entry place (omega (arith, at_end, old.size)) in
-          record {
-            pure = learned place entry got one.below (others entry.step one);
-            below = λ own found.
-                let equal : entry ≡ own = let both : Some entry ≡ Some own = sym got ∙ found in same_Some entry own both in
-                let P : LogEntry → Type 0 = λ e. NamesBelow (length problem.kinds) e.step.clause in
-                subst P equal one.below;
-          }
+          let last : length log ≡ place = omega (arith, at_end, old.size) in
+          subst (λ (n : ℕ). IsPlain problem (log ++ entry ∷ []) n) last (plain (sym (get_or_push marks mark false place at_end) ∙ is))
     ]
 
 -- a clause of the solver is an old one or the new one
@@ -176,7 +189,7 @@ stored_more problem begins names log clauses entry began below old = record {
     new : Stored
     new = record { clause = entry.step.clause; attached = true }
 
--- the state of a turn with one more learned entry
+-- the state of a turn with one more entry
 pub record Logs (old new : Engine) (entry : LogEntry) (mark : Bool) : Type 0 where
   pub order : List ℕ
   pub solver : new.solver ≡ record (with_clause old.solver entry.step.clause) { order = order }
@@ -184,46 +197,36 @@ pub record Logs (old new : Engine) (entry : LogEntry) (mark : Bool) : Type 0 whe
   pub log : new.log.items ≡ old.log.items ++ entry ∷ []
   pub pure : new.pure.items ≡ old.pure.items ++ mark ∷ []
   pub begins : new.begins ≡ old.begins
-  pub learned : new.learned ≡ old.learned
   pub tester : new.tester ≡ old.tester
   pub asserted : new.asserted ≡ old.asserted
   pub assumed : new.assumed ≡ old.assumed
   pub levels : new.levels.items ≡ old.levels.items
   pub next : new.next ≡ old.next
 
--- a log that passes, and one learned entry more
-passing_more : (problem : Problem) (locals : List Kind) (log : List LogEntry) (begins from : ℕ) (step : Step) → LogGrows → IsPassing problem locals log begins from
-    → LearnedPasses problem locals log begins (length log) step → IsPassing problem locals (log ++ entry_of step ∷ []) begins from
-passing_more problem locals log begins from step grows old passes = record {
-  began = old.began;
-  within = omega (arith, old.within, length_push log (entry_of step));
-  small = All-push (λ (e : LogEntry). size_of e ≤ 64) log (entry_of step) old.small (omega arith);
-  learned = λ place entry got late. elim (old_or_last log (entry_of step) place entry got) [
-    | inl before ↦ old.learned place entry before.1 late
-    | inr last ↦ subst (λ (e : LogEntry). IsLearned e.origin) last.1 tt
-  ];
-  passes = grows.pushed problem locals log begins (entry_of step) (omega (arith, old.began, old.within)) old.passes passes;
-}
+-- an entry may come to the end of a log with a mark, in a turn that then learns from a place on
+pub record MayLog (problem : Problem) (query : Query) (log : List LogEntry) (begins learned : ℕ) (entry : LogEntry) (mark : Bool) : Type 0 where
+  pub passing : IsPassing problem query.locals (log ++ entry ∷ []) begins learned
+  pub below : NamesBelow (length (all_kinds problem query)) entry.step.clause
+  pub plain : mark ≡ true → IsPlain problem (log ++ entry ∷ []) (length log)
+  pub taught : IsTaught problem query (log ++ entry ∷ []) (turn_from begins learned (length (log ++ entry ∷ [])))
+  pub few : length problem.clauses + most_steps (log ++ entry ∷ []) learned + 1 < 2 ^ 32
 
-pub logged_more : (problem : Problem) (query : Query) (old new : Engine) (step : Step) (mark : Bool) → LogGrows → IsTurning problem query old → IsSound new.solver → Logs old new (entry_of step) mark
-    → (mark ≡ true → RestsOnMarked problem old.pure.items step) → IsLesson problem query old.log.items old.begins step → IsRising step.clause
-    → length problem.clauses + 64 * (length old.log.items + 2) < 2 ^ 32 → IsTurning problem query new
-logged_more problem query old new step mark grows turning sound more rests lesson rising few =
-    let passes : LearnedPasses problem query.locals old.log.items old.begins (length old.log.items) step = lesson.passes in
-    let entry : LogEntry = entry_of step in
+-- then the turn goes on
+pub logged : (problem : Problem) (query : Query) (old new : Engine) (entry : LogEntry) (mark : Bool) → IsTurning problem query old → IsSound new.solver → Logs old new entry mark
+    → MayLog problem query old.log.items old.begins new.learned entry mark → IsTurning problem query new
+logged problem query old new entry mark turning sound more may =
     let names : ℕ = length (all_kinds problem query) in
     let s : SolverForm = old.solver in
-    let t : SolverForm = record (with_clause s step.clause) { order = more.order } in
-    let log : IsPassing problem query.locals (old.log.items ++ entry ∷ []) old.begins old.learned = passing_more problem query.locals old.log.items old.begins old.learned step grows turning.whole.log passes in
+    let t : SolverForm = record (with_clause s entry.step.clause) { order = more.order } in
     let stored : IsStored problem old.begins names (old.log.items ++ entry ∷ []) t.clauses =
-    stored_more problem old.begins names old.log.items s.clauses entry (omega (arith, turning.whole.log.began, turning.whole.log.within)) passes.passes.in_range turning.whole.stored in
+    stored_more problem old.begins names old.log.items s.clauses entry (omega (arith, turning.whole.log.began, turning.whole.log.within)) may.below turning.whole.stored in
     let keeping : IsKeeping (length problem.clauses) old.begins (length (old.log.items ++ entry ∷ [])) (old.pure.items ++ mark ∷ []) t.clauses =
-    keeping_more (length problem.clauses) old.begins old.log.items entry old.pure.items mark s.clauses step.clause turning.whole.marked.size (clauses_counted problem old.log.items s.clauses turning.whole.stored.lits) turning.whole.keeping in
-    let marked : IsMarked problem (old.log.items ++ entry ∷ []) (old.pure.items ++ mark ∷ []) = marked_more problem old.log.items old.pure.items entry mark turning.whole.marked rests in
+    keeping_more (length problem.clauses) old.begins old.log.items entry old.pure.items mark s.clauses entry.step.clause turning.whole.marked.size (clauses_counted problem old.log.items s.clauses turning.whole.stored.lits) turning.whole.keeping in
+    let marked : IsMarked problem (old.log.items ++ entry ∷ []) (old.pure.items ++ mark ∷ []) = marked_more problem old.log.items old.pure.items entry mark turning.whole.marked may.plain in
     let solver_at : (P : SolverForm → Type 0) → P t → P new.solver = λ P is. subst P (sym more.solver) is in
     let values : length new.solver.values ≡ length s.values = ap (λ (x : SolverForm). length x.values) more.solver in
     let reasoned : IsReasoned names t = record {
-      attached = λ v a number is reason. attached_old s.clauses (record { clause = step.clause; attached = true }) number (turning.reasoned.attached v a number is reason);
+      attached = λ v a number is reason. attached_old s.clauses (record { clause = entry.step.clause; attached = true }) number (turning.reasoned.attached v a number is reason);
       below = λ v a is. turning.reasoned.below v a is;
     } in
     let asserted : IsAsserted (all_kinds problem query) t old.graph old.asserted = record {
@@ -246,10 +249,9 @@ logged_more problem query old new step mark grows turning sound more rests lesso
       whole = record {
         valid = turning.whole.valid;
         asked = turning.whole.asked;
-        few = omega (arith, few, ap (λ (xs : List LogEntry). length xs) more.log, length_push old.log.items entry);
-        log = subst (λ (n : ℕ). IsPassing problem query.locals new.log.items new.begins n) (sym more.learned)
-            (subst (λ (n : ℕ). IsPassing problem query.locals new.log.items n old.learned) (sym more.begins)
-            (subst (λ (xs : List LogEntry). IsPassing problem query.locals xs old.begins old.learned) (sym more.log) log));
+        few = omega (arith, may.few, ap (λ (xs : List LogEntry). length xs) more.log);
+        log = subst (λ (n : ℕ). IsPassing problem query.locals new.log.items n new.learned) (sym more.begins)
+            (subst (λ (xs : List LogEntry). IsPassing problem query.locals xs old.begins new.learned) (sym more.log) may.passing);
         stored = subst (λ (n : ℕ). IsStored problem n names new.log.items new.solver.clauses) (sym more.begins)
             (subst (λ (xs : List LogEntry). IsStored problem old.begins names xs new.solver.clauses) (sym more.log)
             (solver_at (λ x. IsStored problem old.begins names (old.log.items ++ entry ∷ []) x.clauses) stored));
@@ -274,8 +276,69 @@ logged_more problem query old new step mark grows turning sound more rests lesso
           (subst (λ (ls : List Level). IsLevelled (all_kinds problem query) query.assumed new.solver ls old.next) (sym more.levels)
           (solver_at (λ x. IsLevelled (all_kinds problem query) query.assumed x old.levels.items old.next) levels));
       kinds = ap (λ (t : TesterForm). t.kinds) more.tester ∙ turning.kinds;
-      taught = subst (λ (n : ℕ). IsTaught problem query new.log.items (turn_from new.begins n (length new.log.items))) (sym more.learned)
-          (subst (λ (n : ℕ). IsTaught problem query new.log.items (turn_from n old.learned (length new.log.items))) (sym more.begins)
-          (subst (λ (es : List LogEntry). IsTaught problem query es (turn_from old.begins old.learned (length es))) (sym more.log)
-          (taught_more problem query old.log.items old.begins old.learned step turning.whole.log turning.taught lesson rising)));
+      taught = subst (λ (n : ℕ). IsTaught problem query new.log.items (turn_from n new.learned (length new.log.items))) (sym more.begins)
+          (subst (λ (es : List LogEntry). IsTaught problem query es (turn_from old.begins new.learned (length es))) (sym more.log) may.taught);
+    }
+
+-- a log that passes, and one learned entry more
+passing_more : (problem : Problem) (locals : List Kind) (log : List LogEntry) (begins from : ℕ) (step : Step) → LogGrows → IsPassing problem locals log begins from
+    → LearnedPasses problem locals log begins (length log) step → IsPassing problem locals (log ++ entry_of step ∷ []) begins from
+passing_more problem locals log begins from step grows old passes = record {
+  began = old.began;
+  within = omega (arith, old.within, length_push log (entry_of step));
+  small = All-push (λ (e : LogEntry). size_of e ≤ 64) log (entry_of step) old.small (omega arith);
+  learned = λ place entry got late. elim (old_or_last log (entry_of step) place entry got) [
+    | inl before ↦ old.learned place entry before.1 late
+    | inr last ↦ subst (λ (e : LogEntry). IsLearned e.origin) last.1 tt
+  ];
+  passes = grows.pushed problem locals log begins (entry_of step) (omega (arith, old.began, old.within)) old.passes passes;
+}
+
+-- a lesson may come to the end of the log
+pub may_learn : (problem : Problem) (query : Query) (engine : Engine) (step : Step) (mark : Bool) → LogGrows → IsTurning problem query engine → (mark ≡ true → RestsOnMarked problem engine.pure.items step)
+    → IsLesson problem query engine.log.items engine.begins step → IsRising step.clause → length problem.clauses + most_steps engine.log.items engine.learned + 2 < 2 ^ 32
+    → MayLog problem query engine.log.items engine.begins engine.learned (entry_of step) mark
+may_learn problem query engine step mark grows turning rests lesson rising few = record {
+  passing = passing_more problem query.locals engine.log.items engine.begins engine.learned step grows turning.whole.log lesson.passes;
+  below = lesson.passes.passes.in_range;
+  plain = λ is. rests_plain problem engine.log.items engine.pure.items step turning.whole.marked (rests is);
+  taught = taught_more problem query engine.log.items engine.begins engine.learned step turning.whole.log turning.taught lesson rising;
+  few = omega (arith, few, length_push engine.log.items (entry_of step), turning.whole.log.within);
+}
+
+-- a log that passes, and one taken entry more
+taken_passing : (problem : Problem) (locals : List Kind) (log : List LogEntry) (begins : ℕ) (shared : SharedClause) → LogGrows → IsPassing problem locals log begins (length log) → IsGood problem shared
+    → IsPassing problem locals (log ++ taken_entry shared ∷ []) begins (length (log ++ taken_entry shared ∷ []))
+taken_passing problem locals log begins shared grows old good = record {
+  began = omega (arith, old.began, length_push log (taken_entry shared));
+  within = omega arith;
+  small = All-push (λ (e : LogEntry). size_of e ≤ 64) log (taken_entry shared) old.small good.small.steps;
+  learned = λ place entry got late. absurd (omega (arith, slice_get_within (log ++ taken_entry shared ∷ []) place entry got, late));
+  passes = grows.pushed problem locals log begins (taken_entry shared) old.began old.passes (record { bare = refl; proves = good.proves });
+}
+
+-- the clause of a good certificate has problem variables alone
+pub good_below : (problem : Problem) (shared : SharedClause) → IsGood problem shared → NamesBelow (length problem.kinds) shared.clause
+good_below problem shared good =
+    let steps : List Step = (arc_value shared.certificate).steps in
+    let last : Step = good.proves.ends.0 in
+    let front : List Step = good.proves.ends.1.0 in
+    let within : Contains steps last = subst (λ (ss : List Step). Contains ss last) (sym good.proves.ends.1.1) (Contains-push front last) in
+    let below : NamesBelow (length problem.kinds) last.clause = All-contains (NamesBelow (length problem.kinds)) (clauses_of steps) last.clause good.small.below (contains_map (λ (s : Step). s.clause) steps last within) in
+    subst (λ (c : List Lit). NamesBelow (length problem.kinds) c) good.proves.ends.2 below
+
+-- a clause that is good may come to the end of the log with a mark, as long as nothing was learned
+pub may_take : (problem : Problem) (query : Query) (engine : Engine) (shared : SharedClause) → LogGrows → IsTaking problem query engine → IsGood problem shared
+    → length problem.clauses + 64 * (length engine.log.items + 1) + 1 < 2 ^ 32
+    → MayLog problem query engine.log.items engine.begins (length (engine.log.items ++ taken_entry shared ∷ [])) (taken_entry shared) true
+may_take problem query engine shared grows taking good few =
+    let log : List LogEntry = engine.log.items in
+    let entry : LogEntry = taken_entry shared in
+    let below : NamesBelow (length problem.kinds) shared.clause = good_below problem shared good in
+    record {
+      passing = taken_passing problem query.locals log engine.begins shared grows (subst (λ (n : ℕ). IsPassing problem query.locals log engine.begins n) taking.learned taking.turning.whole.log) good;
+      below = All-weaker (λ (lit : Lit). lit.variable < length problem.kinds) (λ (lit : Lit). lit.variable < length (all_kinds problem query)) (λ lit low. omega (arith, low, length-append problem.kinds query.locals)) shared.clause below;
+      plain = λ _. last_plain problem log entry (taken (length log) entry (last_got log entry (length log) refl) tt) below;
+      taught = taught_none problem query (log ++ entry ∷ []) engine.begins (length (log ++ entry ∷ [])) (omega arith);
+      few = omega (arith, few, length_push log entry);
     }

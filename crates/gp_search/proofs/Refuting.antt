@@ -1,5 +1,5 @@
 -- The last steps of refutations, and their cones.
-use Rattle.std.proofs.Common.{◌≡◌, ◌≢◌, refl, sym, ◌∙◌, ap, subst, ℕ, zero, suc, ◌+◌, ◌*◌, ◌<◌, ◌≤◌, ◌==◌, Bool, true, false, cond, not, Some, List, [], ◌∷◌, ◌++◌, length, All, Contains, sum_by, IsPermutation, inl, inr, arith}
+use Rattle.std.proofs.Common.{◌≡◌, ◌≢◌, refl, sym, ◌∙◌, ap, subst, ℕ, zero, suc, ◌+◌, ◌<◌, ◌≤◌, ◌==◌, Bool, true, false, cond, not, Some, List, [], ◌∷◌, ◌++◌, length, All, Contains, sum_by, IsPermutation, inl, inr, arith}
 use Rattle.std.specs.Prelude.{Result, Ok, Err, IsOk, IsErr, IfOk}
 use Rattle.std.proofs.lemmas.Bool.{cases_lt, cases_eq}
 use Rattle.std.proofs.lemmas.Bool.Decides.{nat_tests}
@@ -7,9 +7,9 @@ use Rattle.std.specs.Arc.{arc_value}
 use Rattle.std.specs.List.{slice_get}
 use Rattle.std.proofs.lemmas.Option.{same_Some, none-some}
 use Rattle.std.proofs.lemmas.List.{length_push}
-use Rattle.std.proofs.lemmas.List.Sums.{sum_by-cons, sum_by-append, sum_by-le}
+use Rattle.std.proofs.lemmas.List.Sums.{sum_by-cons, sum_by-append}
 use Rattle.std.proofs.lemmas.List.Sorted.{Contains-permutation, IsPermutation-sym}
-use Rattle.std.proofs.lemmas.List.Elements.{All-contains, All-weaker, Contains-push, Contains-push_cases, Contains-append_left}
+use Rattle.std.proofs.lemmas.List.Elements.{All-contains, All-head, All-tail, All-weaker, Contains-push, Contains-push_cases, Contains-append_left}
 use Rattle.gp_clause.specs.declared.edge.Edge.{Edge}
 use Rattle.gp_clause.specs.declared.kind.Kind.{Kind}
 use Rattle.gp_clause.specs.declared.lit.Lit.{Lit}
@@ -23,16 +23,16 @@ use Rattle.gp_derivation.specs.declared.log.LogEntry.{LogEntry}
 use Rattle.gp_derivation.specs.declared.log.Origin.{Origin}
 use Rattle.gp_derivation.specs.declared.log.Origin.TheVariants.{Learned, Taken}
 use Rattle.gp_derivation.specs.declared.step.Step.{Step}
-use Rattle.gp_derivation.specs.Certificate.{StepsCheck}
-use Rattle.gp_derivation.specs.Log.{LearnedPasses, OriginPasses}
-use Rattle.gp_derivation.specs.Numbering.{CanBeNumbered, NamesEarlier, size_of}
+use Rattle.gp_derivation.specs.Certificate.{Proves, StepsCheck}
+use Rattle.gp_derivation.specs.Log.{IsLearned, LearnedPasses, LogPasses, OriginPasses}
+use Rattle.gp_derivation.specs.Numbering.{CanBeNumbered, NamesEarlier, size_of, steps_by}
 use Rattle.gp_sat.specs.declared.assigned.Assigned.{Assigned}
 use Rattle.gp_sat.specs.State.{SolverForm, assigned}
 use Rattle.gp_sat.specs.Standing.{IsFalse, Each}
 use Rattle.gp_sat.specs.Sound.{true_lit}
 use Rattle.gp_sat.specs.Learning.{IsLearned as Follows, IsDecided}
 use Rattle.gp_search.specs.declared.engine.Engine.{Engine}
-use Rattle.gp_search.specs.Inside.{all_kinds, IsTurning, IsAssuming}
+use Rattle.gp_search.specs.Inside.{all_kinds, IsTurning, IsAssuming, most_steps}
 use Rattle.gp_search.proofs.Cycles.{all_from_contains}
 use Rattle.gp_search.proofs.Heads.{opposite_twice}
 use Rattle.gp_search.proofs.LearnedSteps.{final_passes}
@@ -62,26 +62,48 @@ steps_before edges kinds earlier (step ∷ steps) checks (suc k) own got =
 names_earlier : (problem : Problem) (locals : List Kind) (log : List LogEntry) (begins place : ℕ) (step : Step) (origin : Origin) → OriginPasses problem locals log begins place step origin
     → NamesEarlier (length problem.clauses) place step origin
 names_earlier problem locals log begins place step Learned passes = passes.hints
-names_earlier problem locals log begins place step (Taken sender certificate) proves = (
-  let steps : List Step = (arc_value certificate).steps in
+names_earlier problem locals log begins place step (Taken sender certificate) passes = (
+  let proves : Proves problem (arc_value certificate) step.clause = passes.proves in
+      let steps : List Step = (arc_value certificate).steps in
       let last : steps ≡ proves.ends.1.0 ++ proves.ends.0 ∷ [] = proves.ends.1.1 in
       omega (arith, ap (λ (ss : List Step). length ss) last, length_push proves.ends.1.0 proves.ends.0),
-  λ k own got. steps_before problem.edges (problem.kinds ++ []) problem.clauses (arc_value certificate).steps proves.checks k own got,
+  λ k own got. steps_before problem.edges (problem.kinds ++ []) problem.clauses (arc_value certificate).steps passes.proves.checks k own got,
 )
 
--- a step that passes at the end of a log has a cone
+-- so each entry of a log that passes does
+pub all_earlier : (problem : Problem) (locals : List Kind) (log : List LogEntry) (begins : ℕ) → LogPasses problem locals log begins → (place : ℕ) (entry : LogEntry) → slice_get log place ≡ Some entry
+    → NamesEarlier (length problem.clauses) place entry.step entry.origin
+all_earlier problem locals log begins passes place entry got = elim (cases_lt place begins) [
+  | inl before ↦ let some = passes.earlier place entry got before in names_earlier problem some.0 log some.1 place entry.step entry.origin some.2
+  | inr after ↦ names_earlier problem locals log begins place entry.step entry.origin (passes.current place entry got after)
+]
+
+learned_one : (origin : Origin) → IsLearned origin → steps_by origin ≡ 1
+learned_one Learned is = refl
+learned_one (Taken sender certificate) wrong = absurd wrong
+
+-- a log whose entries are learned ones from a place on stands for few steps
+few_steps : (log : List LogEntry) (from : ℕ) → All (λ (entry : LogEntry). size_of entry ≤ 64) log → ((place : ℕ) (entry : LogEntry) → slice_get log place ≡ Some entry → from ≤ place → IsLearned entry.origin)
+    → sum_by size_of log ≤ most_steps log from
+few_steps [] from small learned = omega arith
+few_steps (entry ∷ log) zero small learned =
+    let rest : sum_by size_of log ≤ most_steps log 0 = few_steps log 0 (All-tail (λ (e : LogEntry). size_of e ≤ 64) entry log small) (λ place own got _. learned (suc place) own got (omega arith)) in
+    omega (arith, sum_by-cons size_of entry log, learned_one entry.origin (learned 0 entry refl (omega arith)), rest)
+few_steps (entry ∷ log) (suc from) small learned =
+    let rest : sum_by size_of log ≤ most_steps log from = few_steps log from (All-tail (λ (e : LogEntry). size_of e ≤ 64) entry log small) (λ place own got late. learned (suc place) own got (omega (arith, late))) in
+    let first : size_of entry ≤ 64 = All-head (λ (e : LogEntry). size_of e ≤ 64) entry log small in
+    omega (arith, sum_by-cons size_of entry log, first, rest)
+
+-- a step whose hints name what stands in the log has a cone
 pub can_number : (problem : Problem) (query : Query) (engine : Engine) (bases : ℕ) (log : List LogEntry) (step : Step) → IsTurning problem query engine → bases ≡ length problem.clauses → log ≡ engine.log.items
-    → LearnedPasses problem query.locals engine.log.items engine.begins (length engine.log.items) step → CanBeNumbered bases log step
-can_number problem query engine bases log step turning counted same passes =
+    → All (λ hint. hint < length problem.clauses + length engine.log.items) step.hints → CanBeNumbered bases log step
+can_number problem query engine bases log step turning counted same hints =
     let P : ℕ → Type 0 = λ n. CanBeNumbered n log step in
     let Q : List LogEntry → Type 0 = λ xs. CanBeNumbered (length problem.clauses) xs step in
-    let sizes : sum_by size_of engine.log.items ≤ length engine.log.items * 64 = sum_by-le size_of 64 engine.log.items turning.whole.log.small in
+    let sizes : sum_by size_of engine.log.items ≤ most_steps engine.log.items engine.learned = few_steps engine.log.items engine.learned turning.whole.log.small turning.whole.log.learned in
     subst P (sym counted) (subst Q (sym same) (record {
-      entries = λ place entry got. elim (cases_lt place engine.begins) [
-        | inl before ↦ let some = turning.whole.log.passes.earlier place entry got before in names_earlier problem some.0 engine.log.items some.1 place entry.step entry.origin some.2
-        | inr after ↦ names_earlier problem query.locals engine.log.items engine.begins place entry.step entry.origin (turning.whole.log.passes.current place entry got after)
-      ];
-      hints = passes.hints;
+      entries = all_earlier problem query.locals engine.log.items engine.begins turning.whole.log.passes;
+      hints = hints;
       few = omega (arith, sizes, turning.whole.few);
     }))
 

@@ -95,7 +95,7 @@ taught_none problem query log begins learned all = record {
     none place entry got late = omega (arith, slice_get_within log place entry got, late, all)
 
 -- the hints of a learned entry that passes name what comes before it
-hints_before : (problem : Problem) (locals : List Kind) (log : List LogEntry) (begins place : ℕ) (step : Step) (origin : Origin) → IsLearned origin → OriginPasses problem locals log begins place step origin
+pub hints_before : (problem : Problem) (locals : List Kind) (log : List LogEntry) (begins place : ℕ) (step : Step) (origin : Origin) → IsLearned origin → OriginPasses problem locals log begins place step origin
     → All (λ hint. hint < length problem.clauses + place) step.hints
 hints_before problem locals log begins place step Learned is passes = passes.hints
 hints_before problem locals log begins place step (Taken sender certificate) wrong passes = absurd wrong

@@ -26,7 +26,7 @@ use Rattle.gp_sat.specs.SolverLaws.{attached_within, free_at, grown_at}
 use Rattle.gp_search.specs.declared.engine.Engine.{Engine}
 use Rattle.gp_search.specs.declared.engine.Level.{Level}
 use Rattle.gp_search.specs.Bounds.{bounds_along}
-use Rattle.gp_search.specs.Inside.{all_kinds, IsPlain, IsMarked, IsStored, IsKeeping, IsPassing, IsGraphOf, IsWhole, IsTurning, IsIdle, IsBlank, IsTesterOf}
+use Rattle.gp_search.specs.Inside.{all_kinds, IsPlain, IsMarked, IsStored, IsKeeping, IsPassing, IsGraphOf, IsWhole, IsTaking, IsTurning, IsIdle, IsBlank, IsTesterOf}
 use Rattle.gp_search.specs.Moves.{retired, IsRetired, IsRoomy, of_clauses}
 use Rattle.gp_search.proofs.LearnedSteps.{clauses_counted, clause_got}
 use Rattle.gp_search.proofs.Taught.{taught_none}
@@ -99,7 +99,7 @@ begun_whole problem query old new grows idle asked few begun =
     record {
       valid = idle.valid;
       asked = asked;
-      few = omega (arith, few, ap (λ (es : List LogEntry). length es) begun.log);
+      few = omega (arith, few, begun.learned, ap (λ (es : List LogEntry). length es) begun.log);
       log = subst (λ (n : ℕ). IsPassing problem query.locals new.log.items new.begins n) (sym begun.learned)
           (subst (λ (n : ℕ). IsPassing problem query.locals new.log.items n (length log)) (sym begun.begins)
           (subst (λ (es : List LogEntry). IsPassing problem query.locals es (length log) (length log)) (sym begun.log) passing));
@@ -120,7 +120,7 @@ begun_whole problem query old new grows idle asked few begun =
 pub blank_free : (s : SolverForm) → IsBlank s → (v : ℕ) → assigned s v ≡ None
 blank_free s blank v = ap (λ (vs : List (Option Assigned)). get_or vs v None) blank.values ∙ free_at (length s.values) v
 
-pub begun_turning : (problem : Problem) (query : Query) (engine : Engine) → IsWhole problem query engine → IsSound engine.solver → ((v : ℕ) → assigned engine.solver v ≡ None) → engine.solver.trail ≡ [] → engine.solver.level ≡ 0
+begun_turning : (problem : Problem) (query : Query) (engine : Engine) → IsWhole problem query engine → IsSound engine.solver → ((v : ℕ) → assigned engine.solver v ≡ None) → engine.solver.trail ≡ [] → engine.solver.level ≡ 0
     → engine.graph.kept ≡ [] → length engine.solver.values ≤ engine.graph.room → length (all_kinds problem query) ≤ length engine.solver.values → engine.solver.used ≡ length (all_kinds problem query)
     → engine.asserted ≡ 0 → engine.assumed ≡ 0 → engine.next ≡ 0 → engine.levels.items ≡ [] → engine.tester.kinds ≡ all_kinds problem query → engine.learned ≡ length engine.log.items → IsTurning problem query engine
 begun_turning problem query engine whole sound free trail level kept room enough used none_asserted none_assumed none_seen none_begun kinds learned = record {
@@ -154,6 +154,15 @@ begun_turning problem query engine whole sound free trail level kept room enough
   where
     clash : (v : ℕ) (a : Assigned) → assigned engine.solver v ≡ Some a → ⊥
     clash v a is = let none : assigned engine.solver v ≡ None = free v in let wrong : ⊥ = cc in wrong
+
+pub begun_taking : (problem : Problem) (query : Query) (engine : Engine) → IsWhole problem query engine → IsSound engine.solver → ((v : ℕ) → assigned engine.solver v ≡ None) → engine.solver.trail ≡ [] → engine.solver.level ≡ 0
+    → engine.graph.kept ≡ [] → length engine.solver.values ≤ engine.graph.room → length (all_kinds problem query) ≤ length engine.solver.values → engine.solver.used ≡ length (all_kinds problem query)
+    → engine.asserted ≡ 0 → engine.assumed ≡ 0 → engine.next ≡ 0 → engine.levels.items ≡ [] → engine.tester.kinds ≡ all_kinds problem query → engine.learned ≡ length engine.log.items → IsTaking problem query engine
+begun_taking problem query engine whole sound free trail level kept room enough used none_asserted none_assumed none_seen none_begun kinds learned = record {
+  turning = begun_turning problem query engine whole sound free trail level kept room enough used none_asserted none_assumed none_seen none_begun kinds learned;
+  bottom = level;
+  learned = learned;
+}
 
 -- detaching changes no literals
 detached_lits : (clauses : List Stored) (number : ℕ) → map (λ (stored : Stored). stored.clause) (slice_set clauses number (record { clause = clause_at clauses number; attached = false })) ≡ map (λ (stored : Stored). stored.clause) clauses
@@ -302,6 +311,7 @@ finished problem query engine solver graph grows whole done undone =
       variables = omega (arith, done.variables, whole.variables);
       blank = done.blank;
       kept = ap (λ (g : GraphForm). g.kept) undone;
+      few = omega (arith, whole.few, whole.log.within);
     }
   where
     within : (other : ℕ) → IsAttached solver.clauses (length problem.clauses + other) → other < length engine.log.items
@@ -374,8 +384,8 @@ names_all clauses number names all is =
 
 -- a new engine is idle
 pub new_idle : (problem : Problem) (engine : Engine) → IsValidProblem problem → engine.log.items ≡ [] → engine.pure.items ≡ [] → engine.solver ≡ of_clauses (length problem.kinds) problem.clauses → IsGraphOf problem engine.graph → engine.graph.kept ≡ []
-    → IsTesterOf problem engine.tester → IsIdle problem engine
-new_idle problem engine valid log pure solver graph kept tester = record {
+    → IsTesterOf problem engine.tester → engine.learned ≡ 0 → IsIdle problem engine
+new_idle problem engine valid log pure solver graph kept tester learned = record {
   valid = valid;
   log = subst (λ (es : List LogEntry). IsPassing problem [] es (length es) (length es)) (sym log) empty_passing;
   stored = subst (λ (es : List LogEntry). IsStored problem (length es) (length problem.kinds) es engine.solver.clauses) (sym log)
@@ -390,6 +400,7 @@ new_idle problem engine valid log pure solver graph kept tester = record {
   variables = omega (arith, ap (λ (s : SolverForm). length s.values) solver, length-replicate {A = Option Assigned} (length problem.kinds) None);
   blank = subst IsBlank (sym solver) (record { values = ap (λ (n : ℕ). replicate n None) (sym (length-replicate {A = Option Assigned} (length problem.kinds) None)); trail = refl; level = refl });
   kept = kept;
+  few = omega (arith, learned);
 }
   where
     empty_passing : IsPassing problem [] [] 0 0

@@ -24,7 +24,7 @@ whole_moved problem query old new same whole clauses values of_problem =
     record {
       valid = whole.valid;
       asked = whole.asked;
-      few = omega (arith, ap (λ (es : List LogEntry). length es) same.log, whole.few);
+      few = omega (arith, ap (λ (es : List LogEntry). length es) same.log, same.learned, whole.few);
       log = subst (λ (n : ℕ). IsPassing problem query.locals new.log.items new.begins n) (sym same.learned)
           (subst (λ (n : ℕ). IsPassing problem query.locals new.log.items n old.learned) (sym same.begins)
           (subst (λ (es : List LogEntry). IsPassing problem query.locals es old.begins old.learned) (sym same.log) whole.log));

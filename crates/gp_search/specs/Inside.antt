@@ -1,5 +1,5 @@
 -- What a search keeps true of its state.
-use Rattle.std.specs.Prelude.{◌≡◌, ℕ, ◌+◌, ◌*◌, ◌^◌, ◌<◌, ◌≤◌, ◌⊎◌, Bool, true, false, not, Option, Some, None, List, [], ◌∷◌, ◌++◌, length, map, replicate, take, All, Contains, slice_get, slice_index_or}
+use Rattle.std.specs.Prelude.{◌≡◌, ℕ, ◌+◌, ◌-◌, ◌*◌, ◌^◌, ◌<◌, ◌≤◌, ◌⊎◌, Bool, true, false, not, Option, Some, None, List, [], ◌∷◌, ◌++◌, length, map, replicate, take, All, Contains, slice_get, slice_index_or}
 use Rattle.gp_clause.specs.declared.kind.Kind.{Kind}
 use Rattle.gp_clause.specs.declared.lit.Lit.{Lit}
 use Rattle.gp_clause.specs.declared.problem.Problem.{Problem}
@@ -72,11 +72,15 @@ pub record IsTesterOf (problem : Problem) (tester : TesterForm) : Type 0 where
   pub edges : tester.edges ≡ problem.edges
   pub lasting : tester.lasting ≡ problem.kinds
 
+-- how many steps the entries of a log stand for at most: those before a place for 64 each, and the others for one
+abbrev pub most_steps : List LogEntry → ℕ → ℕ
+most_steps log from = 64 * from + (length log - from)
+
 -- what holds of a problem, a query and an engine at every moment of a turn
 pub record IsWhole (problem : Problem) (query : Query) (engine : Engine) : Type 0 where
   pub valid : IsValidProblem problem
   pub asked : IsValidQuery problem query
-  pub few : length problem.clauses + 64 * (length engine.log.items + 1) < 2 ^ 32
+  pub few : length problem.clauses + most_steps engine.log.items engine.learned + 1 < 2 ^ 32
   pub log : IsPassing problem query.locals engine.log.items engine.begins engine.learned
   pub stored : IsStored problem engine.begins (length (all_kinds problem query)) engine.log.items engine.solver.clauses
   pub keeping : IsKeeping (length problem.clauses) engine.begins (length engine.log.items) engine.pure.items engine.solver.clauses
@@ -155,6 +159,12 @@ pub record IsTurning (problem : Problem) (query : Query) (engine : Engine) : Typ
   pub levels : IsLevelled (all_kinds problem query) query.assumed engine.solver engine.levels.items engine.next
   pub taught : IsTaught problem query engine.log.items (turn_from engine.begins engine.learned (length engine.log.items))
 
+-- what holds of an engine while a turn takes clauses: nothing was decided, and nothing was learned
+pub record IsTaking (problem : Problem) (query : Query) (engine : Engine) : Type 0 where
+  pub turning : IsTurning problem query engine
+  pub bottom : engine.solver.level ≡ 0
+  pub learned : engine.learned ≡ length engine.log.items
+
 -- no variable of a solver is assigned
 pub record IsBlank (s : SolverForm) : Type 0 where
   pub values : s.values ≡ replicate (length s.values) None
@@ -173,6 +183,7 @@ pub record IsIdle (problem : Problem) (engine : Engine) : Type 0 where
   pub variables : length problem.kinds ≤ length engine.solver.values
   pub blank : IsBlank engine.solver
   pub kept : engine.graph.kept ≡ []
+  pub few : engine.learned < 2 ^ 32
 
 -- the clause of a number, if there is one
 abbrev pub numbered : SolverForm → Option ℕ → List (List Lit)

@@ -1,4 +1,5 @@
 pub mod Verdict
+pub mod Mail
 pub mod Bounds
 pub mod Inside
 pub mod Moves

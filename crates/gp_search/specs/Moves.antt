@@ -1,13 +1,17 @@
 -- What the calls of an engine change, and what they find.
 use Rattle.std.specs.Prelude.{◌≡◌, ℕ, ◌+◌, ◌-◌, ◌<◌, ◌≤◌, ◌⊎◌, Bool, true, false, if◌then◌else◌, nat_lt, Option, Some, None, List, [], ◌∷◌, ◌++◌, length, map, replicate, Contains, slice_index_or}
+use Rattle.std.specs.Arc.{arc_value}
 use Rattle.gp_clause.specs.declared.lit.Lit.{Lit}
 use Rattle.gp_clause.specs.declared.problem.Problem.{Problem}
 use Rattle.gp_clause.specs.declared.problem.Query.{Query}
 use Rattle.gp_clause.specs.Clause.{NamesBelow}
 use Rattle.gp_clause.specs.Valuation.{Meets}
+use Rattle.gp_derivation.specs.declared.certificate.Certificate.{Certificate}
+use Rattle.gp_derivation.specs.declared.exchange.SharedClause.{SharedClause}
 use Rattle.gp_derivation.specs.declared.log.LogEntry.{LogEntry}
 use Rattle.gp_derivation.specs.declared.step.Step.{Step}
 use Rattle.gp_derivation.specs.Certificate.{Refutes}
+use Rattle.gp_derivation.specs.Fit.{IsFit}
 use Rattle.gp_derivation.specs.Log.{LearnedPasses, logged}
 use Rattle.gp_derivation.specs.Spent.{IsNewBy, turned}
 use Rattle.gp_derivation.specs.Step.{named}
@@ -29,6 +33,7 @@ use Rattle.gp_search.specs.declared.turn.Descent.TheVariants.{Verdict as Ended, 
 use Rattle.gp_search.specs.declared.verdict.Verdict.{Verdict}
 use Rattle.gp_search.specs.declared.verdict.Verdict.TheVariants.{Model, Refuted, Spent}
 use Rattle.gp_search.specs.Inside.{all_kinds, turn_from, IsConflict, IsBlank, false_lit}
+use Rattle.gp_search.specs.Mail.{Gives, MailForm, OffersFit, SharesWith, WasOffered, one_more, taken_entry}
 
 -- the log, the places where the turn begins and begins to learn, and the number of variables stay
 pub record KeepsLog (old new : Engine) : Type 0 where
@@ -181,11 +186,100 @@ pub record Adds (count : ℕ) (old new : Engine) : Type 0 where
   pub longer : new.log.items ≡ old.log.items ++ added
   pub counted : length added ≡ count
 
--- the log grew by as many entries as the budget at most
-pub record IsGrown (budget : ℕ) (old new : Engine) : Type 0 where
+-- so many entries at most came to the end of the log
+pub record AddsFew (budget : ℕ) (old new : Engine) : Type 0 where
   pub added : List LogEntry
   pub longer : new.log.items ≡ old.log.items ++ added
   pub few : length added ≤ budget
+
+-- a copy of a clause, under the number of a sender and with a certificate
+pub record IsCopyOf (sender : ℕ) (clause : List Lit) (certificate : Certificate) (shared : SharedClause) : Type 0 where
+  pub sent : shared.sender ≡ sender
+  pub same : shared.clause ≡ clause
+  pub with : arc_value shared.certificate ≡ certificate
+
+-- a mail was offered the entry at a place of a log where that is fit to share, and nothing where it is not
+abbrev pub OffersEntry : Problem → List LogEntry → ℕ → LogEntry → Option MailForm → Option MailForm → Type 0
+OffersEntry problem log place entry before after =
+    (IsFit problem log entry × WasOffered before after place entry.step.clause) ⊎ ((IsFit problem log entry → ⊥) × (after ≡ before))
+
+-- one entry came to the end of the log, and was offered where it is fit to share
+pub record LearnsAndOffers (problem : Problem) (old new : Engine) (before after : Option MailForm) : Type 0 where
+  pub learns : LearnsOne old new
+  pub offers : OffersEntry problem new.log.items (length old.log.items) learns.entry before after
+
+-- a mail was offered those of some entries, which stand in a log from a place on, that are fit to share, and told nothing else
+abbrev pub OffersAll : Problem → List LogEntry → ℕ → List LogEntry → Option MailForm → Option MailForm → Type 0
+OffersAll problem log place entries None after = after ≡ None
+OffersAll problem log place entries (Some before) after =
+    (offered : List (ℕ × List Lit)) × (after ≡ Some (record before { offered = before.offered ++ offered })) × OffersFit problem log place entries offered
+
+-- so many entries came to the end of the log, and those that are fit to share were offered
+pub record AddsAndOffers (problem : Problem) (count : ℕ) (old new : Engine) (before after : Option MailForm) : Type 0 where
+  pub adds : Adds count old new
+  pub offers : OffersAll problem new.log.items (length old.log.items) adds.added before after
+
+-- the same of so many at most
+pub record AddsFewAndOffers (problem : Problem) (budget : ℕ) (old new : Engine) (before after : Option MailForm) : Type 0 where
+  pub adds : AddsFew budget old new
+  pub offers : OffersAll problem new.log.items (length old.log.items) adds.added before after
+
+-- a clause that the mail gave came to the end of the log
+pub record TakesOne (old new : Engine) (before after : Option MailForm) : Type 0 where
+  pub shared : SharedClause
+  pub log : new.log.items ≡ old.log.items ++ taken_entry shared ∷ []
+  pub begins : new.begins ≡ old.begins
+  pub told : Gives before after (Some shared)
+
+-- the mail was found empty
+pub record FindsNone (old new : Engine) (before after : Option MailForm) : Type 0 where
+  pub keeps : KeepsLog old new
+  pub told : Gives before after None
+
+-- some clauses came to the end of the log, 256 at most
+pub record TakesSome (old new : Engine) : Type 0 where
+  pub gave : List SharedClause
+  pub log : new.log.items ≡ old.log.items ++ map taken_entry gave
+  pub begins : new.begins ≡ old.begins
+  pub few : length gave ≤ 256
+
+-- a mail gave some clauses
+abbrev pub HasGiven : List SharedClause → Option MailForm → Option MailForm → Type 0
+HasGiven gave None after = after ≡ None
+HasGiven gave (Some before) after = after ≡ Some (record before { gave = before.gave ++ gave })
+
+-- so many clauses that the mail gave came to the end of the log
+pub record HasTaken (count : ℕ) (old new : Engine) (before after : Option MailForm) : Type 0 where
+  pub gave : List SharedClause
+  pub log : new.log.items ≡ old.log.items ++ map taken_entry gave
+  pub begins : new.begins ≡ old.begins
+  pub counted : length gave ≡ count
+  pub told : HasGiven gave before after
+
+-- a mail gave some clauses, and was found empty where these are fewer than 256
+abbrev pub HasGivenAll : List SharedClause → Option MailForm → Option MailForm → Type 0
+HasGivenAll gave None after = after ≡ None
+HasGivenAll gave (Some before) after =
+    (told : MailForm) × (after ≡ Some told) × (told.gave ≡ before.gave ++ gave) × (told.offered ≡ before.offered) × (length gave < 256 → one_more before.empty ≤ told.empty)
+
+-- the clauses that a mail gave came to the end of the log, all of them or 256
+pub record TakesAll (old new : Engine) (before after : Option MailForm) : Type 0 where
+  pub takes : TakesSome old new
+  pub told : HasGivenAll takes.gave before after
+
+-- the log grew by what was taken, and then by as many entries as the budget at most
+pub record IsGrown (budget : ℕ) (old new : Engine) : Type 0 where
+  pub gave : List SharedClause
+  pub added : List LogEntry
+  pub longer : new.log.items ≡ old.log.items ++ map taken_entry gave ++ added
+  pub learned : new.learned ≡ length old.log.items + length gave
+  pub few_taken : length gave ≤ 256
+  pub few : length added ≤ budget
+
+-- the log grew so, and what was taken and added is what the mail told
+pub record GrowsAndShares (problem : Problem) (budget : ℕ) (old new : Engine) (before after : Option MailForm) : Type 0 where
+  pub grown : IsGrown budget old new
+  pub shares : SharesWith problem old.log.items (map taken_entry grown.gave) grown.added before after
 
 -- a solver that has these clauses, all attached, and no assignment
 abbrev pub of_clauses : ℕ → List (List Lit) → SolverForm

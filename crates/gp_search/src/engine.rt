@@ -12,7 +12,7 @@ use std::alloc::{AllocError, Global};
 
 // The state of a search. The clauses of the solver have the numbers that hints have: those of the problem, and then the
 // entries of the log. An entry that rests on the problem alone is marked as pure. A turn begins at a place of the log, and
-// learns from another one on. In it the graph keeps the bounds of so many literals of the trail, the decisions up to a
+// learns from another one on; what stands between the two was taken. In it the graph keeps the bounds of so many literals of the trail, the decisions up to a
 // level are assumptions, and all assumptions before the next one are true. One tester serves all turns.
 #[derive(Debug, Drop)]
 pub(crate) struct Engine {

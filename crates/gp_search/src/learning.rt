@@ -1,19 +1,44 @@
-ghost use Rattle.std.specs.Prelude.{◌≡◌, ◌+◌, ◌*◌, ◌<◌, ◌^◌, ◌≤◌, length, All, OnOk, OnErr, IsTrue};
+ghost use Rattle.std.specs.Prelude.{◌≡◌, ◌+◌, ◌<◌, ◌^◌, ◌≤◌, ◌⊎◌, length, All, OnOk, OnErr, IsTrue};
 ghost use Rattle.gp_sat.specs.Changes.{MayAttach};
 ghost use Rattle.gp_sat.specs.Sound.{IsSound};
-ghost use Rattle.gp_search.specs.Inside.{IsTurning, IsConflict};
-ghost use Rattle.gp_search.specs.Moves.{IsLesson, IsBackAt, KeepsLog, LearnsOne, raised, RestsOnMarked, is_marked};
+ghost use Rattle.gp_search.specs.Inside.{IsTurning, IsConflict, most_steps};
+ghost use Rattle.gp_search.specs.Moves.{IsLesson, IsBackAt, KeepsLog, LearnsAndOffers, LearnsOne, raised, RestsOnMarked, is_marked};
 
 use crate::engine::{Conflict, Engine};
 use crate::lesson::LearnedStep;
+use crate::mail::Mail;
 use gp_clause::{Lit, Problem, Query};
 use gp_derivation::{LogEntry, Origin, Step, log_grows};
 use gp_sat::Solver;
 use std::alloc::AllocError;
 
 impl Engine {
-    // Learns from a conflict above the assumptions.
-    pub(crate) fn learn(
+    // Learns from a conflict above the assumptions, and offers what is learned where it is fit to share.
+    pub(crate) fn learn<M: Mail>(
+        &mut self,
+        problem: &Problem,
+        query: &Query,
+        conflict: &Conflict,
+        mail: &mut M,
+    ) -> Result<(), AllocError>
+        requires turning { IsTurning problem.now query.now self.old }
+        requires conflict { IsConflict problem.now query.now self.old.solver conflict.now.lits.items conflict.now.number }
+        requires above { self.old.assumed < self.old.solver.level }
+        requires few { length problem.now.clauses + most_steps self.old.log.items self.old.learned + 2 < 2 ^ 32 }
+        requires mail { M.problem mail.old ≡ problem.now }
+        ensures turning { IsTurning problem.now query.now self.new }
+        ensures problem { M.problem mail.new ≡ M.problem mail.old }
+        ensures number { M.number mail.new ≡ M.number mail.old }
+        ensures may_give { M.may_give mail.new ≡ M.may_give mail.old }
+        ensures ok { OnOk result (LearnsAndOffers problem.now self.old self.new (M.told mail.old) (M.told mail.new)) }
+        ensures err { OnErr result (KeepsLog self.old self.new ⊎ LearnsOne self.old self.new) }
+    {
+        self.log_lesson(problem, query, conflict)?;
+        self.share(problem, query, mail)
+    }
+
+    // Logs what a conflict above the assumptions teaches.
+    fn log_lesson(
         &mut self,
         problem: &Problem,
         query: &Query,
@@ -22,7 +47,7 @@ impl Engine {
         requires turning { IsTurning problem.now query.now self.old }
         requires conflict { IsConflict problem.now query.now self.old.solver conflict.now.lits.items conflict.now.number }
         requires above { self.old.assumed < self.old.solver.level }
-        requires few { length problem.now.clauses + 64 * (length self.old.log.items + 2) < 2 ^ 32 }
+        requires few { length problem.now.clauses + most_steps self.old.log.items self.old.learned + 2 < 2 ^ 32 }
         ensures turning { IsTurning problem.now query.now self.new }
         ensures ok { OnOk result (LearnsOne self.old self.new) }
         ensures err { OnErr result (KeepsLog self.old self.new) }
@@ -54,7 +79,7 @@ impl Engine {
         requires turning { IsTurning problem.now query.now self.old }
         requires lesson { IsLesson problem.now query.now self.old.log.items self.old.begins step }
         requires may { MayAttach self.old.solver step.clause }
-        requires few { length problem.now.clauses + 64 * (length self.old.log.items + 2) < 2 ^ 32 }
+        requires few { length problem.now.clauses + most_steps self.old.log.items self.old.learned + 2 < 2 ^ 32 }
         ensures turning { IsTurning problem.now query.now self.new }
         ensures ok { OnOk result (LearnsOne self.old self.new) }
         ensures err { OnErr result (KeepsLog self.old self.new) }

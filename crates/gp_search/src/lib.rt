@@ -3,7 +3,8 @@
 // assumptions of a query are its first decisions. The solver's trail and the difference graph go along: each literal of
 // the trail that bounds two places is a bound of the graph, and a negative cycle is a conflict of such literals. What is
 // learned at a query is made tight and logged with its hints, and what rests on the problem alone serves the queries
-// after it. A step costs what it adds or takes back, and a query's end what the query touched.
+// after it. A mail brings clauses from the searches beside it, with their certificates, and takes to them what is learned
+// and has a small certificate. A step costs what it adds or takes back, and a query's end what the query touched.
 #![tactic(auto)]
 
 mod answering;
@@ -12,10 +13,14 @@ mod deciding;
 mod engine;
 mod learning;
 mod lesson;
+mod mail;
 mod search;
+mod sharing;
+mod taking;
 mod theory;
 mod turn;
 mod verdict;
 
+pub use mail::{Mail, NoMail};
 pub use search::Search;
 pub use verdict::Verdict;

@@ -1,8 +1,9 @@
-ghost use Rattle.std.specs.Prelude.{◌≡◌, ◌≤◌, [], IfOk};
+ghost use Rattle.std.specs.Prelude.{◌≡◌, ◌≤◌, [], IfOk, OnOk, false, length};
 ghost use Rattle.gp_clause.specs.Problem.{IsValidProblem, IsValidQuery};
-ghost use Rattle.gp_search.specs.Verdict.{IsSolvable, HasRoom, Learns, IsDue, ConcludesInTime};
+ghost use Rattle.gp_search.specs.Verdict.{IsSolvable, HasRoom, Learns, LearnsAndShares, IsDue, ConcludesInTime};
 
 use crate::engine::Engine;
+use crate::mail::Mail;
 use crate::verdict::Verdict;
 use gp_clause::{Problem, Query, Row};
 use gp_derivation::LogEntry;
@@ -23,7 +24,7 @@ impl<'a> Model for Search<'a> {
 
     ghost use Rattle.gp_search.specs.Inside.{IsIdle};
 
-    ghost view = { λ s. record { problem = s.problem.now; log = s.engine.log.items } };
+    ghost view = { λ s. record { problem = s.problem.now; log = s.engine.log.items; learned = s.engine.learned } };
 
     ghost invariant = { λ s. IsIdle s.problem.now s.engine };
 }
@@ -47,6 +48,13 @@ impl<'a> Search<'a> {
         self.engine.log.as_slice()
     }
 
+    /// The place of the log from which the last turn learned: what it took stands before it.
+    pub fn learned_from(&self) -> u32
+        ensures { result ≡ self.now.learned }
+    {
+        self.engine.learned as u32
+    }
+
     /// Takes no memory.
     pub fn into_log(self) -> Row<LogEntry>
         ensures { result ≡ self.entry.log }
@@ -56,18 +64,30 @@ impl<'a> Search<'a> {
         Row::from_vec(log)
     }
 
-    /// Answers a query, where up to `budget` clauses may be learned. After want of memory the search can be used again,
-    /// and its log may be longer.
-    pub fn ask(&mut self, query: &Query, budget: u64) -> Result<Verdict, AllocError>
+    /// Answers a query in a turn, which first takes from the mail until that is empty, 256 clauses at most. Up to `budget`
+    /// clauses may then be learned, and each that is fit to share is offered. After want of memory the search can be used
+    /// again, and its log may be longer.
+    pub fn ask<M: Mail>(
+        &mut self,
+        query: &Query,
+        budget: u64,
+        mail: &mut M,
+    ) -> Result<Verdict, AllocError>
         requires valid { IsValidQuery self.old.problem query.now }
         requires budget { 1 ≤ budget }
         requires few { HasRoom self.old budget }
+        requires mail { M.problem mail.old ≡ self.old.problem }
         ensures problem { self.new.problem ≡ self.old.problem }
-        ensures log { Learns self.old.problem query.now budget self.old.log self.new.log }
-        ensures verdict { IfOk result (IsDue self.old.problem query.now budget self.old.log self.new.log) }
+        ensures mail_problem { M.problem mail.new ≡ M.problem mail.old }
+        ensures number { M.number mail.new ≡ M.number mail.old }
+        ensures may_give { M.may_give mail.new ≡ M.may_give mail.old }
+        ensures none_taken { M.may_give mail.old ≡ false → self.new.learned ≡ length self.old.log }
+        ensures log { Learns self.old.problem query.now budget self.old.log self.new.log self.new.learned }
+        ensures shares { OnOk result (LearnsAndShares self.old.problem query.now budget self.old.log self.new.log self.new.learned (M.told mail.old) (M.told mail.new)) }
+        ensures verdict { IfOk result (IsDue self.old.problem query.now budget self.new.log (length self.old.log) self.new.learned) }
         ensures enough { IfOk result (ConcludesInTime self.old.problem query.now budget) }
     {
-        let verdict = self.engine.turn(self.problem, query, budget);
+        let verdict = self.engine.turn(self.problem, query, budget, mail);
         self.engine.finish(self.problem, query);
         verdict
     }

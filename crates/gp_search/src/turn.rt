@@ -1,13 +1,14 @@
-ghost use Rattle.std.specs.Prelude.{◌≡◌, ◌+◌, ◌*◌, ◌<◌, ◌≤◌, ◌^◌, length, IfOk, OnOk, OnErr};
+ghost use Rattle.std.specs.Prelude.{◌≡◌, ◌+◌, ◌*◌, ◌<◌, ◌≤◌, ◌^◌, false, length, IfOk, OnOk, OnErr};
 ghost use Rattle.gp_clause.specs.Problem.{IsValidQuery};
-ghost use Rattle.gp_search.specs.Inside.{IsTurning, IsWhole, IsIdle};
-ghost use Rattle.gp_search.specs.Moves.{KeepsLog, IsEnded, IsGrown, IsRoomy, retired};
+ghost use Rattle.gp_search.specs.Inside.{IsTaking, IsTurning, IsWhole, IsIdle, most_steps};
+ghost use Rattle.gp_search.specs.Moves.{AddsFew, AddsFewAndOffers, GrowsAndShares, KeepsLog, IsEnded, IsGrown, IsRoomy, retired};
 ghost use Rattle.gp_search.specs.Verdict.{IsDue, ConcludesInTime};
 
 use crate::engine::{Conflict, Engine};
+use crate::mail::Mail;
 use crate::verdict::Verdict;
 use gp_clause::{Problem, Query, clauses_are_few};
-use gp_derivation::log_grows;
+use gp_derivation::{fit_stays, log_grows};
 use gp_sat::Solver;
 use std::alloc::AllocError;
 
@@ -19,45 +20,63 @@ pub(crate) enum Descent {
 }
 
 impl Engine {
-    // A turn at a query.
-    pub(crate) fn turn(
+    // A turn at a query: it takes clauses from the mail, and then searches.
+    pub(crate) fn turn<M: Mail>(
         &mut self,
         problem: &Problem,
         query: &Query,
         budget: u64,
+        mail: &mut M,
     ) -> Result<Verdict, AllocError>
         requires idle { IsIdle problem.now self.old }
         requires valid { IsValidQuery problem.now query.now }
-        requires few { length problem.now.clauses + 64 * (length self.old.log.items + budget + 1) < 2 ^ 32 }
+        requires budget { 1 ≤ budget }
+        requires few { length problem.now.clauses + 64 * (length self.old.log.items + 256 + budget) < 2 ^ 32 }
+        requires mail { M.problem mail.old ≡ problem.now }
         ensures whole { IsWhole problem.now query.now self.new }
         ensures begins { self.new.begins ≡ length self.old.log.items }
-        ensures learned { self.new.learned ≡ length self.old.log.items }
+        ensures problem { M.problem mail.new ≡ M.problem mail.old }
+        ensures number { M.number mail.new ≡ M.number mail.old }
+        ensures may_give { M.may_give mail.new ≡ M.may_give mail.old }
+        ensures none { M.may_give mail.old ≡ false → self.new.learned ≡ length self.old.log.items }
         ensures grown { IsGrown budget self.old self.new }
-        ensures verdict { IfOk result (IsDue problem.now query.now budget self.old.log.items self.new.log.items) }
+        ensures shares { OnOk result (GrowsAndShares problem.now budget self.old self.new (M.told mail.old) (M.told mail.new)) }
+        ensures verdict { IfOk result (IsDue problem.now query.now budget self.new.log.items (length self.old.log.items) self.new.learned) }
         ensures enough { IfOk result (ConcludesInTime problem.now query.now budget) }
     {
         self.begin(problem, query)?;
-        self.run(problem, query, budget)
+        self.take_all(problem, query, mail)?;
+        self.run(problem, query, budget, mail)
     }
 
     // Searches up to a verdict, and learns as many clauses as the budget at most.
-    fn run(&mut self, problem: &Problem, query: &Query, budget: u64) -> Result<Verdict, AllocError>
-        requires turning { IsTurning problem.now query.now self.old }
-        requires start { self.old.begins ≡ length self.old.log.items }
-        requires learned { self.old.learned ≡ length self.old.log.items }
-        requires few { length problem.now.clauses + 64 * (length self.old.log.items + budget + 1) < 2 ^ 32 }
+    fn run<M: Mail>(
+        &mut self,
+        problem: &Problem,
+        query: &Query,
+        budget: u64,
+        mail: &mut M,
+    ) -> Result<Verdict, AllocError>
+        requires taking { IsTaking problem.now query.now self.old }
+        requires few { length problem.now.clauses + most_steps self.old.log.items self.old.learned + budget + 1 < 2 ^ 32 }
+        requires mail { M.problem mail.old ≡ problem.now }
         ensures turning { IsTurning problem.now query.now self.new }
         ensures begins { self.new.begins ≡ self.old.begins }
         ensures learned { self.new.learned ≡ self.old.learned }
-        ensures grown { IsGrown budget self.old self.new }
-        ensures verdict { IfOk result (IsDue problem.now query.now budget self.old.log.items self.new.log.items) }
+        ensures problem { M.problem mail.new ≡ M.problem mail.old }
+        ensures number { M.number mail.new ≡ M.number mail.old }
+        ensures may_give { M.may_give mail.new ≡ M.may_give mail.old }
+        ensures adds { AddsFew budget self.old self.new }
+        ensures offers { OnOk result (AddsFewAndOffers problem.now budget self.old self.new (M.told mail.old) (M.told mail.new)) }
+        ensures verdict { IfOk result (IsDue problem.now query.now budget self.new.log.items self.old.begins self.old.learned) }
         ensures enough { IfOk result (ConcludesInTime problem.now query.now budget) }
     {
+        fit_stays();
         clauses_are_few();
         for _ in 0..budget {
             match self.descend(problem, query)? {
                 Descent::Verdict(verdict) => return Ok(verdict),
-                Descent::Conflict(conflict) => self.learn(problem, query, &conflict)?,
+                Descent::Conflict(conflict) => self.learn(problem, query, &conflict, mail)?,
             }
         }
         match self.descend(problem, query)? {
@@ -79,7 +98,7 @@ impl Engine {
         ensures begins { self.new.begins ≡ length self.old.log.items }
         ensures learned { self.new.learned ≡ length self.old.log.items }
         ensures same { self.new.log.items ≡ self.old.log.items }
-        ensures turning { OnOk result (IsTurning problem.now query.now self.new) }
+        ensures taking { OnOk result (IsTaking problem.now query.now self.new) }
     {
         log_grows();
         self.begins = self.log.len();
@@ -122,6 +141,7 @@ impl Engine {
         requires { IsWhole problem.now query.now self.old }
         ensures idle { IsIdle problem.now self.new }
         ensures same { self.new.log.items ≡ self.old.log.items }
+        ensures learned { self.new.learned ≡ self.old.learned }
     {
         log_grows();
         self.solver.clear();

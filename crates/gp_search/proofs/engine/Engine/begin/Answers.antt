@@ -8,7 +8,7 @@ use Rattle.gp_difference.specs.Graph.{GraphForm}
 use Rattle.gp_sat.specs.State.{SolverForm}
 use Rattle.gp_search.specs.Inside.{all_kinds, IsGraphOf, IsTesterOf}
 use Rattle.gp_search.specs.Moves.{IsRoomy}
-use Rattle.gp_search.proofs.Turns.{begun_whole, begun_turning, used_roomy, blank_free}
+use Rattle.gp_search.proofs.Turns.{begun_whole, begun_taking, used_roomy, blank_free}
 use Rattle.gp_search.proofs.engine.Engine.begin.Goals as goal
 
 -- a tester with other locals is of the same problem
@@ -86,12 +86,12 @@ returns-clause-whole c =
       tester = relocated c.args.problem.now c.args.self.now.tester c.set_locals.new.self _ c.in_ok-set_locals.ensures.ok c.requires.idle.tester;
     })
 
-pub returns-clause-turning : goal.returns-clause-turning
-returns-clause-turning c =
+pub returns-clause-taking : goal.returns-clause-taking
+returns-clause-taking c =
     let at_end : c.len-self.result ≡ length c.args.self.now.log.items = omega (arith, c.len-self.ensures) in
     let room : IsRoomy c.args.self.now.solver c.set_used.new.self (c.len.result + c.len-2.result) = used_roomy c.args.self.now.solver c.grow.new.solver c.set_used.new.self (c.len.result + c.len-2.result) (c.len.result + c.len-2.result) c.in_ok-grow.ensures.ok c.set_used.ensures.used in
     let sum : c.len.result + c.len-2.result ≡ length (all_kinds c.args.problem.now c.args.query.now) = omega (arith, c.len.ensures, c.len-2.ensures, length-append c.args.problem.now.kinds c.args.query.now.locals) in
-    begun_turning c.args.problem.now c.args.query.now _ (returns-clause-whole c) c.set_used.ensures.sound
+    begun_taking c.args.problem.now c.args.query.now _ (returns-clause-whole c) c.set_used.ensures.sound
     (λ v. room.values v ∙ blank_free c.args.self.now.solver c.requires.idle.blank v) (room.trail ∙ c.requires.idle.blank.trail) (room.level ∙ c.requires.idle.blank.level)
     (ap (λ (g : GraphForm). g.kept) c.in_ok-reserve.ensures.ok ∙ c.requires.idle.kept) (omega (arith, c.in_ok-reserve.ensures.room, c.variables.ensures))
     (omega (arith, room.room, sum)) (ap (λ (s : SolverForm). s.used) c.set_used.ensures.used ∙ sum) refl refl refl c.clear.ensures.items

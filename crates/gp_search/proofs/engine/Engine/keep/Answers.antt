@@ -1,14 +1,14 @@
 use Rattle.std.proofs.Common.{refl, ◌∙◌, ap, subst, Bool, List, [], ◌∷◌, ◌++◌}
 use Rattle.gp_derivation.specs.declared.log.LogEntry.{LogEntry}
 use Rattle.gp_search.specs.Moves.{RestsOnMarked, raised}
-use Rattle.gp_search.proofs.Logging.{logged_more}
+use Rattle.gp_search.proofs.Logging.{logged, may_learn}
 use Rattle.gp_search.proofs.Taught.{entry_of}
 use Rattle.gp_search.proofs.engine.Engine.keep.Goals as goal
 
 pub returns-clause-turning : goal.returns-clause-turning
 returns-clause-turning c =
     let P : List Bool → Type 0 = λ marks. RestsOnMarked c.args.problem.now marks c.args.step in
-    logged_more c.args.problem.now c.args.query.now c.args.self.now _ c.args.step c.is_pure-pure.result c.log_grows.ensures c.requires.turning c.raise_all.ensures.sound
+    logged c.args.problem.now c.args.query.now c.args.self.now _ (entry_of c.args.step) c.is_pure-pure.result c.requires.turning c.raise_all.ensures.sound
     (record {
       order = raised c.args.step.clause c.args.self.now.solver.order;
       solver = c.raise_all.ensures.raised ∙ (λ i. record (c.in_ok-attach.ensures.ok i) { order = raised (c.lits.ensures.lits i) (c.in_ok-attach.ensures.ok i).order });
@@ -16,11 +16,11 @@ returns-clause-turning c =
       log = c.push_reserved-2.ensures.items ∙ ap (λ (es : List LogEntry). es ++ entry_of c.args.step ∷ []) c.reserve.ensures.items;
       pure = c.push_reserved.ensures.items ∙ ap (λ (bs : List Bool). bs ++ c.is_pure-pure.result ∷ []) c.reserve-2.ensures.items;
       begins = refl;
-      learned = refl;
       tester = refl;
       asserted = refl;
       assumed = refl;
       levels = refl;
       next = refl;
     })
-    (λ is. subst P c.reserve-2.ensures.items (c.is_pure-pure.ensures is)) c.requires.lesson c.lits.ensures.rising c.requires.few
+    (may_learn c.args.problem.now c.args.query.now c.args.self.now c.args.step c.is_pure-pure.result c.log_grows.ensures c.requires.turning (λ is. subst P c.reserve-2.ensures.items (c.is_pure-pure.ensures is))
+    c.requires.lesson c.lits.ensures.rising c.requires.few)

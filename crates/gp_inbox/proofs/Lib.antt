@@ -1,0 +1,12 @@
+mod Totals
+mod Sending
+mod Members
+mod Pushing
+mod Taking
+mod Parting
+mod Beginning
+mod Joining
+mod Learning
+mod Steps
+mod Cutting
+mod Units

@@ -1,0 +1,77 @@
+-- To hand a number over keeps the rule.
+use Rattle.std.proofs.Common.{◌≡◌, refl, sym, subst, ap, ◌∙◌, ℕ, true≢false, Option, None, IsSome, List, [], ◌∷◌, ◌++◌, set, arith}
+use Rattle.std.proofs.lemmas.List.Elements.{All-nil}
+use mathlib.Core.Option.{some}
+use lib.ListN.{get_elem?}
+use Rattle.gp_clause.specs.declared.problem.Problem.{Problem}
+use Rattle.gp_derivation.specs.declared.exchange.SharedClause.{SharedClause}
+use Rattle.gp_inbox.specs.declared.rule.View.{View}
+use Rattle.gp_inbox.specs.History.{sent_by}
+use Rattle.gp_inbox.specs.Rule.{Fits, Kept, one_that_takes}
+use Rattle.gp_inbox.specs.Senders.{times}
+use Rattle.gp_inbox.specs.Views.{IsGoodFor, left_of, one_of}
+use Rattle.gp_inbox.proofs.Members.{times_parts}
+use Rattle.gp_inbox.proofs.Totals.{each_push, each_set, total_push, total_set}
+
+-- a base that is there is not missing
+pub some_not_none : (base : Option Problem) → IsSome base → base ≡ None → ⊥
+some_not_none base there none = true≢false (sym (subst IsSome none there))
+
+-- what is left
+part_left : (base : Option Problem) (senders : List ℕ) (pushes : ℕ → List SharedClause) (got : List SharedClause) (view : View) → Fits base senders pushes got view → IsSome view.base → view.pushed ≡ []
+    → Fits base senders pushes got (left_of view)
+part_left base senders pushes got view fits there unused = record {
+  same = fits.same;
+  taker = fits.taker;
+  other = fits.other;
+  idle = λ none. absurd (some_not_none view.base there none);
+  own = λ number may. fits.own number (let parts = times_parts number view.numbers in omega (arith, parts, may));
+  none = λ number without. ap (sent_by number) unused;
+  sound = fits.sound;
+}
+
+-- what is handed over
+part_right : (base : Option Problem) (senders : List ℕ) (pushes : ℕ → List SharedClause) (got : List SharedClause) (view : View) → Fits base senders pushes got view → IsSome view.base → view.pushed ≡ []
+    → Fits base senders pushes got (one_of view)
+part_right base senders pushes got view fits there unused = record {
+  same = fits.same;
+  taker = λ may. absurd (true≢false (sym may));
+  other = λ may_not. refl;
+  idle = λ none. absurd (some_not_none view.base there none);
+  own = λ number may. sym (ap (sent_by number) unused) ∙ fits.own number (let parts = times_parts number view.numbers in omega (arith, parts, may));
+  none = λ number without. refl;
+  sound = All-nil (IsGoodFor base);
+}
+
+pub keeps_part : (held : List SharedClause) (views : List View) (seat : ℕ) (view : View) → Kept held views → get_elem? views seat ≡ some view → IsSome view.base → view.pushed ≡ []
+    → Kept held (set views seat (left_of view) ++ one_of view ∷ [])
+keeps_part held views seat view kept at there unused =
+    let mine = kept.fits seat view at in
+    let left : View = left_of view in
+    let right : View = one_of view in
+    record {
+      base = kept.base;
+      senders = kept.senders;
+      pushes = kept.pushes;
+      got = kept.got;
+      fits = each_push (Fits kept.base kept.senders kept.pushes kept.got) (set views seat left) right
+          (each_set (Fits kept.base kept.senders kept.pushes kept.got) views seat left (part_left kept.base kept.senders kept.pushes kept.got view mine there unused)
+          (λ other one apart at_other. kept.fits other one at_other))
+          (part_right kept.base kept.senders kept.pushes kept.got view mine there unused);
+      order = kept.order;
+      good = kept.good;
+      from = kept.from;
+      once = λ number.
+          let changed = total_set (λ (v : View). times number v.numbers) views seat view left at in
+          let more = total_push (λ (v : View). times number v.numbers) (set views seat left) right in
+          let parts = times_parts number view.numbers in
+          let all = kept.once number in
+          omega (arith, changed, more, parts, all);
+      apart = kept.apart;
+      one =
+          let changed = total_set one_that_takes views seat view left at in
+          let more = total_push one_that_takes (set views seat left) right in
+          let all = kept.one in
+          omega (arith, changed, more, all);
+      short = kept.short;
+    }

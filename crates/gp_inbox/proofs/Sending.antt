@@ -1,0 +1,71 @@
+-- The clauses of a sender, among others.
+use Rattle.std.proofs.Common.{◌≡◌, refl, ap, ◌∙◌, ℕ, ◌+◌, ◌<◌, ◌≤◌, ◌==◌, Bool, true, false, cond, List, [], ◌∷◌, ◌++◌, length, All, if◌then◌else◌, arith}
+use Rattle.std.proofs.lemmas.Bool.{ne_eqb}
+use Rattle.std.proofs.lemmas.List.Elements.{All-head, All-tail, filter-append}
+use Rattle.std.proofs.Common.{length-append}
+use Rattle.gp_derivation.specs.declared.exchange.SharedClause.{SharedClause}
+use Rattle.gp_inbox.specs.History.{sent_by}
+use Rattle.gp_inbox.specs.Rule.{total}
+use Rattle.gp_inbox.specs.Senders.{AllDifferent, times}
+use Rattle.gp_inbox.specs.Views.{NamesOneOf}
+
+pub sent_append : (sender : ℕ) (xs ys : List SharedClause) → sent_by sender (xs ++ ys) ≡ sent_by sender xs ++ sent_by sender ys
+sent_append sender xs ys = filter-append (λ (clause : SharedClause). clause.sender == sender) xs ys
+
+-- a clause of another sender
+pub sent_other : (sender : ℕ) (clause : SharedClause) → (clause.sender ≡ sender → ⊥) → sent_by sender (clause ∷ []) ≡ []
+sent_other sender clause apart = ap (λ (b : Bool). cond b (clause ∷ []) []) (ne_eqb clause.sender sender apart)
+
+-- one clause by a test
+kept_by : (b : Bool) (clause : SharedClause) (rest : List SharedClause) → length (cond b (clause ∷ rest) rest) ≡ (if b then 1 else 0) + length rest
+kept_by true clause rest = omega arith
+kept_by false clause rest = omega arith
+
+-- one clause more
+pub sent_more : (sender : ℕ) (clause : SharedClause) (rest : List SharedClause)
+    → length (sent_by sender (clause ∷ rest)) ≡ (if clause.sender == sender then 1 else 0) + length (sent_by sender rest)
+sent_more sender clause rest = kept_by (clause.sender == sender) clause (sent_by sender rest)
+
+-- one clause is as much more for all senders as its sender is among them
+one_more : (clause : SharedClause) (rest : List SharedClause) (senders : List ℕ)
+    → total (λ (sender : ℕ). length (sent_by sender (clause ∷ rest))) senders ≡ times clause.sender senders + total (λ (sender : ℕ). length (sent_by sender rest)) senders
+one_more clause rest [] = refl
+one_more clause rest (sender ∷ senders) =
+    let first = sent_more sender clause rest in
+    let others = one_more clause rest senders in omega (arith, first, others)
+
+-- without a clause there are none
+none_sent : (senders : List ℕ) → total (λ (sender : ℕ). length (sent_by sender [])) senders ≡ 0
+none_sent [] = refl
+none_sent (sender ∷ senders) = let rest = none_sent senders in omega (arith, rest)
+
+-- clauses of senders that are all different are as many as the senders have together
+pub sent_in_all : (senders : List ℕ) (clauses : List SharedClause) → AllDifferent senders → All (NamesOneOf senders) clauses
+    → total (λ (sender : ℕ). length (sent_by sender clauses)) senders ≡ length clauses
+sent_in_all senders [] apart from = none_sent senders
+sent_in_all senders (clause ∷ rest) apart from =
+    let more = one_more clause rest senders in
+    let others : total (λ (sender : ℕ). length (sent_by sender rest)) senders ≡ length rest = sent_in_all senders rest apart (All-tail (NamesOneOf senders) clause rest from) in
+    let here : 0 < times clause.sender senders = All-head (NamesOneOf senders) clause rest from in
+    let once : times clause.sender senders ≤ 1 = apart clause.sender in
+    omega (arith, more, others, here, once)
+
+-- a part of a list has no more clauses of a sender than the list
+pub sent_first : (sender : ℕ) (xs ys : List SharedClause) → length (sent_by sender xs) ≤ length (sent_by sender (xs ++ ys))
+sent_first sender xs ys = let both : length (sent_by sender (xs ++ ys)) ≡ length (sent_by sender xs) + length (sent_by sender ys) = ap length (sent_append sender xs ys) ∙ length-append (sent_by sender xs) (sent_by sender ys) in
+    omega (arith, both)
+
+pub sent_last : (sender : ℕ) (xs ys : List SharedClause) → length (sent_by sender ys) ≤ length (sent_by sender (xs ++ ys))
+sent_last sender xs ys = let both : length (sent_by sender (xs ++ ys)) ≡ length (sent_by sender xs) + length (sent_by sender ys) = ap length (sent_append sender xs ys) ∙ length-append (sent_by sender xs) (sent_by sender ys) in
+    omega (arith, both)
+
+module _ {X : Type 0} where
+  -- what holds of all holds of those behind some
+  pub all_behind : (P : X → Type 0) (xs ys : List X) → All P (xs ++ ys) → All P ys
+  all_behind P [] ys all = all
+  all_behind P (x ∷ xs) ys all = all_behind P xs ys (All-tail P x (xs ++ ys) all)
+
+  -- two lists are empty where both together are
+  pub both_empty : (xs ys : List X) → xs ++ ys ≡ [] → (xs ≡ []) × (ys ≡ [])
+  both_empty [] ys none = (refl, none)
+  both_empty (x ∷ xs) ys none = absurd (cc)

@@ -1,0 +1,5 @@
+pub mod Senders
+pub mod History
+pub mod Views
+pub mod Rule
+pub mod Passes

@@ -1,0 +1,216 @@
+ghost use Rattle.crossbeam_queue.specs.Passes.{view};
+ghost use Rattle.gp_clause.specs.Clause.{NamesBelow};
+ghost use Rattle.gp_derivation.specs.Exchange.{IsGood};
+ghost use Rattle.gp_inbox.specs.Passes.{IsOf};
+ghost use Rattle.gp_inbox.specs.Views.{joined, MayPush, pushed_one, sender_view, taker_view};
+ghost use Rattle.std.specs.Prelude.{◌≡◌, ◌<◌, ◌≤◌, ◌+◌, true, Some, [], ◌∷◌, Contains, IfOk, IfSome, IsTrue, length};
+
+use crate::inbox::{Inbox, Pass};
+use gp_clause::{Clause, Kind, Lit, Problem, Row};
+use gp_derivation::{Certificate, SharedClause, Step};
+use std::alloc::Global;
+use std::sync::{Arc, Wait};
+use std::test::Fail;
+
+// The clause that one variable is true.
+fn unit(alloc: Global, variable: u32) -> Result<Clause, Fail> {
+    let mut lits = Vec::new(alloc);
+    lits.push(Lit {
+        variable,
+        positive: true,
+    })?;
+    Ok(Clause::of(lits)?)
+}
+
+// Four free variables and a clause that is false, by which every clause passes.
+fn no_way_out(alloc: Global) -> Result<Problem, Fail> {
+    let mut kinds = Row::new(alloc);
+    for _ in 0..4 {
+        kinds.push(Kind::Free)?;
+    }
+    let mut clauses = Row::new(alloc);
+    clauses.push(Clause::of(Vec::new(alloc))?)?;
+    Ok(Problem {
+        points: 0,
+        kinds,
+        edges: Row::new(alloc),
+        clauses,
+    })
+}
+
+fn is_no_way_out(base: &Problem) -> bool
+    ensures { IsTrue result → (length base.now.kinds ≡ 4) × Contains base.now.clauses [] }
+{
+    base.kinds.len() == 4 && base.clauses.len() == 1 && base.clauses.as_slice()[0].is_empty()
+}
+
+fn is_small(clause: &Clause) -> bool
+    ensures { IsTrue result → (length clause.now ≤ 8) × NamesBelow 4 clause.now }
+{
+    clause.len() <= 8 && clause.lits().iter().all(|lit| lit.variable < 4)
+}
+
+// The clause of one variable, with a certificate of one step.
+fn shared(alloc: Global, base: &Problem, sender: u32, clause: Clause) -> Result<SharedClause, Fail>
+    requires base { (length base.now.kinds ≡ 4) × Contains base.now.clauses [] }
+    requires clause { (length clause ≤ 8) × NamesBelow 4 clause }
+    ensures { IfOk result (λ shared. (shared.sender ≡ sender) × IsGood base.now shared) }
+{
+    let mut steps = Vec::new(alloc);
+    let step = Step {
+        clause: clause.clone()?,
+        hints: Row::new(alloc),
+    };
+    steps.push(step)?;
+    let certificate = Arc::new(
+        alloc,
+        Certificate {
+            steps: Row::from_vec(steps),
+        },
+    )?;
+    Ok(SharedClause {
+        sender,
+        clause,
+        certificate,
+    })
+}
+
+fn is_unit(got: &Option<SharedClause>, sender: u32, variable: u32) -> bool {
+    match got {
+        Some(shared) => {
+            shared.sender == sender
+                && shared.clause.len() == 1
+                && shared
+                    .clause
+                    .lits()
+                    .iter()
+                    .all(|lit| lit.variable == variable && lit.positive)
+        }
+        None => false,
+    }
+}
+
+// Offers the clause of one variable, where its sender pushed less than a thousand through the pass.
+fn send<R: Wait>(
+    rt: &R,
+    alloc: Global,
+    inbox: &Inbox,
+    base: &Problem,
+    pass: &mut Pass,
+    sender: u32,
+    variable: u32,
+) -> Result<(), Fail>
+    requires base { (length base.now.kinds ≡ 4) × Contains base.now.clauses [] }
+    requires own { IsOf inbox.now pass.old }
+    requires same { (view pass.old).base ≡ Some base.now }
+    requires number { MayPush (view pass.old) sender }
+    requires few { length (view pass.old).pushed < 1000 }
+    ensures own { IfOk result (λ _. IsOf inbox.now pass.new) }
+    ensures same { IfOk result (λ _. (view pass.new).base ≡ (view pass.old).base) }
+    ensures numbers { IfOk result (λ _. (view pass.new).numbers ≡ (view pass.old).numbers) }
+    ensures takes { IfOk result (λ _. (view pass.new).takes ≡ (view pass.old).takes) }
+    ensures more { IfOk result (λ _. length (view pass.new).pushed ≡ length (view pass.old).pushed + 1) }
+{
+    let clause = unit(alloc, variable)?;
+    if !is_small(&clause) {
+        return Err(Fail::new("a large clause"));
+    }
+    let shared = shared(alloc, base, sender, clause)?;
+    inbox.offer(rt, pass, shared);
+    Ok(())
+}
+
+// Takes the next clause. All else that the pass knows stays.
+fn next<R: Wait>(rt: &R, inbox: &Inbox, pass: &mut Pass) -> Option<SharedClause>
+    requires own { IsOf inbox.now pass.old }
+    requires takes { (view pass.old).takes ≡ true }
+    ensures own { IsOf inbox.now pass.new }
+    ensures same { (view pass.new).base ≡ (view pass.old).base }
+    ensures numbers { (view pass.new).numbers ≡ (view pass.old).numbers }
+    ensures takes { (view pass.new).takes ≡ true }
+    ensures pushed { (view pass.new).pushed ≡ (view pass.old).pushed }
+{
+    inbox.take(rt, pass)
+}
+
+// Three clauses of two senders, each through its own pass, and one more through the joined pass.
+fn exchange<R: Wait>(
+    rt: &R,
+    alloc: Global,
+    base: &Problem,
+    inbox: &Inbox,
+    two: Pass,
+    three: Pass,
+    taker: Pass,
+) -> Result<bool, Fail>
+    requires base { (length base.now.kinds ≡ 4) × Contains base.now.clauses [] }
+    requires two { IsOf inbox.now two × (view two ≡ sender_view base.now (2 ∷ 3 ∷ []) 2) }
+    requires three { IsOf inbox.now three × (view three ≡ sender_view base.now (2 ∷ 3 ∷ []) 3) }
+    requires taker { IsOf inbox.now taker × (view taker ≡ taker_view base.now (2 ∷ 3 ∷ [])) }
+{
+    let mut two = two;
+    let mut three = three;
+    let mut taker = taker;
+    let none = next(rt, inbox, &mut taker);
+    send(rt, alloc, inbox, base, &mut two, 2, 0)?;
+    send(rt, alloc, inbox, base, &mut three, 3, 1)?;
+    send(rt, alloc, inbox, base, &mut two, 2, 2)?;
+    let first = next(rt, inbox, &mut taker);
+    let second = next(rt, inbox, &mut taker);
+    let third = next(rt, inbox, &mut taker);
+    let empty = next(rt, inbox, &mut taker);
+    inbox.rejoin(&mut taker, two);
+    inbox.rejoin(&mut taker, three);
+    send(rt, alloc, inbox, base, &mut taker, 3, 3)?;
+    let last = next(rt, inbox, &mut taker);
+    let end = next(rt, inbox, &mut taker);
+    Ok(
+        none.is_none()
+            && is_unit(&first, 2, 0)
+            && is_unit(&second, 3, 1)
+            && is_unit(&third, 2, 2)
+            && empty.is_none()
+            && is_unit(&last, 3, 3)
+            && end.is_none(),
+    )
+}
+
+// An inbox of two senders, their passes and the taker's.
+fn of_two(alloc: Global, base: &Problem) -> Result<Option<(Inbox, Pass, Pass, Pass)>, Fail>
+    ensures { IfOk result (λ some. IfSome some (λ made. (IsOf made.0 made.1 × (view made.1 ≡ sender_view base.now (2 ∷ 3 ∷ []) 2)) × (IsOf made.0 made.2 × (view made.2 ≡ sender_view base.now (2 ∷ 3 ∷ []) 3)) × (IsOf made.0 made.3 × (view made.3 ≡ taker_view base.now (2 ∷ 3 ∷ []))))) }
+{
+    let (inbox, passes, taker) = Inbox::new(alloc, base, &[2, 3])?;
+    match both(passes) {
+        Some((two, three)) => Ok(Some((inbox, two, three, taker))),
+        None => Ok(None),
+    }
+}
+
+fn both(passes: Vec<Pass>) -> Option<(Pass, Pass)>
+    ensures { IfSome result (λ both. passes.items ≡ both.0 ∷ both.1 ∷ []) }
+{
+    let mut passes = passes;
+    let second = passes.pop()?;
+    let first = passes.pop()?;
+    if !passes.is_empty() {
+        return None;
+    }
+    Some((first, second))
+}
+
+#[test]
+fn in_the_order_of_the_offers(rt: HostRuntime) -> Result<(), Fail> {
+    let alloc = rt.alloc();
+    let base = no_way_out(alloc)?;
+    assert!(rt; is_no_way_out(&base));
+    match of_two(alloc, &base)? {
+        Some((inbox, two, three, taker)) => {
+            let due = exchange(&rt, alloc, &base, &inbox, two, three, taker)?;
+            assert!(rt; due);
+        }
+        None => {
+            assert!(rt; false);
+        }
+    }
+    Ok(())
+}

@@ -18,21 +18,19 @@ use Rattle.gp_workers.specs.declared.work.WorkAnswer.TheVariants as answer
 use Rattle.gp_workers.specs.Inside.{answer_by, AnswersOwn, IsAnswerBy}
 
 -- a worker whose last turn is at the query has the answer that is due
-pub answer_due : (problem : Problem) (query : Query) (budget number ticket : ℕ) (old : List LogEntry) (own : WorkerRecord) (before : List Turn) (verdict : Verdict)
-    → own.turns ≡ before ++ turn_of ticket (length old) (length own.log) ∷ [] → IsDue problem query budget old own.log verdict → IsAnswerBy problem query budget number own ticket (answer_by number verdict)
-answer_due problem query budget number ticket old own before (verdict.Model valuation) last due = due
-answer_due problem query budget number ticket old own before (verdict.Refuted certificate) last due = due
-answer_due problem query budget number ticket old own before (verdict.Spent from to) last due =
-    let turn : Turn = turn_of ticket (length old) (length own.log) in
-    let begun : IsSpentOn problem query own.log budget (turn_of ticket (length old) to) from to = subst (λ (n : ℕ). IsSpentOn problem query own.log budget (turn_of ticket n to) from to) due.from_old (due.spent ticket) in (
-      refl,
-      (
-        turn,
-        subst (λ (turns : List Turn). Contains turns turn) (sym last) (Contains-push before turn),
-        refl,
-        subst (λ (n : ℕ). IsSpentOn problem query own.log budget (turn_of ticket (length old) n) from to) due.to_new begun,
-      ),
-    )
+pub answer_due : (problem : Problem) (query : Query) (budget number ticket begins learned : ℕ) (own : WorkerRecord) (before : List Turn) (verdict : Verdict)
+    → own.turns ≡ before ++ turn_of ticket begins learned (length own.log) ∷ [] → IsDue problem query budget own.log begins learned verdict → IsAnswerBy problem query budget number own ticket (answer_by number verdict)
+answer_due problem query budget number ticket begins learned own before (verdict.Model valuation) last due = due
+answer_due problem query budget number ticket begins learned own before (verdict.Refuted certificate) last due = due
+answer_due problem query budget number ticket begins learned own before (verdict.Spent from to) last due = (
+  refl,
+  (
+    turn_of ticket begins learned (length own.log),
+    subst (λ (turns : List Turn). Contains turns (turn_of ticket begins learned (length own.log))) (sym last) (Contains-push before (turn_of ticket begins learned (length own.log))),
+    refl,
+    subst (λ (p : ℕ × ℕ). IsSpentOn problem query own.log budget (turn_of ticket begins p.0 p.1) from to) (λ i. (due.from_learned i, due.to_end i)) (due.spent ticket),
+  ),
+)
 
 -- a record got some entries and a turn more
 pub record GoesOn (old new : WorkerRecord) : Type 0 where

@@ -28,7 +28,8 @@ use Rattle.gp_workers.specs.Crew.{Answers, IsDone, IsGathered}
 use Rattle.gp_workers.specs.Drawers.{hand_of, IsDrawerOf}
 use Rattle.gp_workers.specs.Inside.{AnswersOwn, answered_tickets, IsAnswerBy}
 use Rattle.gp_workers.specs.Records.{EachOnce, IsWorkerRecord, tickets_of}
-use Rattle.gp_workers.specs.Tickets.{joined, times}
+use Rattle.gp_inbox.specs.Senders.{times}
+use Rattle.gp_workers.specs.Tickets.{joined}
 use Rattle.gp_workers.specs.Work.{AnswerEach, IsAnswerTo, IsWork}
 use Rattle.gp_workers.proofs.Answering.{some_weaker}
 use Rattle.gp_workers.proofs.Ordering.{in_order, in_row, row_below, times_moved}

@@ -3,8 +3,10 @@ use Rattle.std.proofs.Common.{◌≡◌, refl, sym, ◌∙◌, ap, subst, ℕ, �
 use mathlib.Core.Option.{some}
 use lib.ListN.{get_elem?}
 use Rattle.gp_workers.specs.declared.ticket_rule.Hand.{Hand}
-use Rattle.gp_workers.specs.Tickets.{IsSound, IsWhole, once_below, times}
-use Rattle.gp_workers.specs.TicketRule.{drawn_in, Fits, Kept, nones_in, total}
+use Rattle.gp_inbox.specs.Senders.{times}
+use Rattle.gp_workers.specs.Tickets.{IsSound, IsWhole, once_below}
+use Rattle.gp_inbox.specs.Rule.{total}
+use Rattle.gp_workers.specs.TicketRule.{drawn_in, Fits, Kept, nones_in}
 use Rattle.gp_workers.proofs.Totals.{at_most, only_one}
 
 -- what is below the least of two is below the first

@@ -4,8 +4,10 @@ use mathlib.Core.Option.{some}
 use lib.ListN.{get_elem?}
 use Rattle.atomic_table.proofs.Lists.{at_set, at_snoc, set_else}
 use Rattle.gp_workers.specs.declared.ticket_rule.Hand.{Hand}
-use Rattle.gp_workers.specs.Tickets.{drew, joined, left_of, once_below, one_of, spent, times, told_none}
-use Rattle.gp_workers.specs.TicketRule.{drawn_in, Fits, Kept, nones_in, total}
+use Rattle.gp_inbox.specs.Senders.{times}
+use Rattle.gp_workers.specs.Tickets.{drew, joined, left_of, once_below, one_of, spent, told_none}
+use Rattle.gp_inbox.specs.Rule.{total}
+use Rattle.gp_workers.specs.TicketRule.{drawn_in, Fits, Kept, nones_in}
 use Rattle.gp_workers.proofs.Totals.{times_append, total_push, total_set}
 
 -- all hands fit where one that fits changes, or is added

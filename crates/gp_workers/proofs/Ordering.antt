@@ -4,7 +4,9 @@ use Rattle.std.specs.List.{range_with_len, sum_by}
 use Rattle.std.specs.List.Sorted.{IsNonDecreasingBy, IsPermutation}
 use Rattle.std.proofs.lemmas.List.Sums.{sum_by-cons}
 use Rattle.std.proofs.lemmas.List.Sorted.{sum_by-IsPermutation}
-use Rattle.gp_workers.specs.Tickets.{once_below, times}
+use Rattle.gp_workers.specs.declared.ticket_rule.Hand.{Hand}
+use Rattle.gp_inbox.specs.Senders.{times}
+use Rattle.gp_workers.specs.Tickets.{IsWhole, once_below}
 
 -- once for each of so many numbers from the first on
 abbrev pub in_row : ℕ → ℕ → ℕ → ℕ
@@ -87,3 +89,15 @@ module _ {X : Type 0} (key : X → ℕ) where
           let step = row_step first count number in
           let same : ◌≡◌ {A = ℕ} (if number == key x then 1 else 0) (if number == first then 1 else 0) = ap (λ n. if number == n then 1 else 0) head in
           omega (arith, all, step, same)
+
+map_same : (xs : List ℕ) → map (λ (number : ℕ). number) xs ≡ xs
+map_same [] = refl
+map_same (x ∷ xs) = ap (λ (ns : List ℕ). x ∷ ns) (map_same xs)
+
+-- what one drew that stands for all drawers and was told that none is left, sorted, is each number below the count in order
+pub sorted_in_order : (hand : Hand) (sorted : List ℕ) → IsWhole hand → hand.drawers ≡ hand.crew → 0 < hand.nones → IsPermutation hand.drawn sorted → IsNonDecreasingBy (λ (number : ℕ). number) sorted
+    → sorted ≡ range_with_len 0 hand.count
+sorted_in_order hand sorted whole all told moved ordered = sym (map_same sorted) ∙ in_order (λ (number : ℕ). number) 0 hand.count sorted ordered each
+  where
+    each : (number : ℕ) → times number (map (λ (n : ℕ). n) sorted) ≡ in_row 0 hand.count number
+    each number = ap (times number) (map_same sorted) ∙ times_moved number hand.drawn sorted moved ∙ whole all told number ∙ row_below hand.count number

@@ -3,8 +3,8 @@ use Rattle.std.proofs.Common.{◌≡◌, refl, sym, ap, ℕ, zero, suc, ◌+◌,
 use mathlib.Core.Option.{some, some-injective, some-ne-none}
 use lib.ListN.{get_elem?}
 use Rattle.gp_workers.specs.declared.ticket_rule.Hand.{Hand}
-use Rattle.gp_workers.specs.Tickets.{times}
-use Rattle.gp_workers.specs.TicketRule.{total}
+use Rattle.gp_inbox.specs.Senders.{times}
+use Rattle.gp_inbox.specs.Rule.{total}
 
 -- one hand changes
 pub total_set : (f : Hand → ℕ) (hands : List Hand) (seat : ℕ) (old new : Hand) → get_elem? hands seat ≡ some old → total f (set hands seat new) + f old ≡ total f hands + f new

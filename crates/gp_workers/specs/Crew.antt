@@ -11,6 +11,7 @@ use Rattle.gp_workers.specs.declared.crew.Job.{Job}
 use Rattle.gp_workers.specs.Drawers.{hand_of, IsDrawerOf, IsSingle, IsUnused}
 use Rattle.gp_workers.specs.Inside.{AnswersOwn, answered_tickets}
 use Rattle.gp_workers.specs.Records.{IsWorkerRecord, tickets_of}
+use Rattle.gp_workers.specs.Telling.{taken_entries}
 use Rattle.gp_workers.specs.Work.{IsAnswerTo}
 
 -- the job of the worker with this number: a drawer of its own, before its first draw
@@ -47,3 +48,7 @@ pub record IsGathered (tickets : Tickets) (problem : Problem) (queries : List Qu
   pub told : answered_tickets gathered.answers.items ≡ (hand_of gathered.drawer).drawn
   pub drawn : flat_map tickets_of gathered.records.items ≡ (hand_of gathered.drawer).drawn
   pub records : All (IsWorkerRecord problem) gathered.records.items
+
+-- a worker offered nothing and took nothing
+abbrev pub SharesNone : Worked → Type 0
+SharesNone worked = (worked.record.offered ≡ []) × (taken_entries worked.record.log ≡ [])

@@ -1,21 +1,24 @@
 -- What one worker does, and what it has done.
-use Rattle.std.specs.Prelude.{ℕ, ◌≡◌, ◌*◌, ◌≤◌, List, [], ◌∷◌, ◌++◌, length, map, slice_get, All, IsSomeAnd}
+use Rattle.std.specs.Prelude.{ℕ, ◌≡◌, ◌+◌, ◌*◌, ◌≤◌, Option, List, [], ◌∷◌, ◌++◌, length, map, slice_get, All, IsSomeAnd}
+use Rattle.gp_clause.specs.declared.kind.Kind.{Kind}
 use Rattle.gp_clause.specs.declared.problem.Problem.{Problem}
 use Rattle.gp_clause.specs.declared.problem.Query.{Query}
 use Rattle.gp_clause.specs.Valuation.{Meets}
 use Rattle.gp_derivation.specs.declared.log.LogEntry.{LogEntry}
 use Rattle.gp_derivation.specs.declared.record.WorkerRecord.{WorkerRecord}
 use Rattle.gp_derivation.specs.Certificate.{Refutes}
-use Rattle.gp_derivation.specs.Log.{IsLearned}
+use Rattle.gp_derivation.specs.Log.{LogPasses}
 use Rattle.gp_derivation.specs.Spent.{HasTurnSpentOn}
 use Rattle.gp_search.specs.declared.verdict.Verdict.{Verdict}
 use Rattle.gp_search.specs.declared.verdict.Verdict.TheVariants as verdict
-use Rattle.gp_search.specs.Verdict.{Learns, turn_of}
+use Rattle.gp_search.specs.Mail.{MailForm}
+use Rattle.gp_search.specs.Verdict.{LearnsAndShares, turn_of}
 use Rattle.gp_workers.specs.declared.crew.Answered.{Answered}
 use Rattle.gp_workers.specs.declared.work.WorkAnswer.{WorkAnswer}
 use Rattle.gp_workers.specs.declared.work.WorkAnswer.TheVariants as answer
 use Rattle.gp_workers.specs.declared.worker.Worker.{Worker}
 use Rattle.gp_workers.specs.Records.{TurnsCover, tickets_of}
+use Rattle.gp_workers.specs.Telling.{given_by, SharesSoFar}
 
 -- the record of a worker so far
 abbrev pub record_of : Worker → WorkerRecord
@@ -30,12 +33,13 @@ pub record IsFresh (worker : Worker) : Type 0 where
   pub log : worker.search.log ≡ []
   pub turns : worker.turns.items ≡ []
 
--- a worker took one turn more at the query of a ticket: it learned what was added to its log
-pub record TakesTurn (query : Query) (ticket budget : ℕ) (old new : Worker) : Type 0 where
+-- a worker took one turn more at the query of a ticket: it took and learned what was added to its log, by what its mail told
+-- before and after
+pub record TakesTurn (query : Query) (ticket budget : ℕ) (old new : Worker) (before after : Option MailForm) : Type 0 where
   pub number : new.number ≡ old.number
   pub problem : new.search.problem ≡ old.search.problem
-  pub log : Learns old.search.problem query budget old.search.log new.search.log
-  pub turns : new.turns.items ≡ old.turns.items ++ turn_of ticket (length old.search.log) (length new.search.log) ∷ []
+  pub log : LearnsAndShares old.search.problem query budget old.search.log new.search.log new.search.learned before after
+  pub turns : new.turns.items ≡ old.turns.items ++ turn_of ticket (length old.search.log) new.search.learned (length new.search.log) ∷ []
 
 -- what the worker of a number answers by a verdict of its search
 abbrev pub answer_by : ℕ → Verdict → WorkAnswer
@@ -58,13 +62,18 @@ AnswersOwn problem queries budget number own answered =
 abbrev pub answered_tickets : List Answered → List ℕ
 answered_tickets answers = map (λ (answered : Answered). answered.ticket) answers
 
--- a worker answered the queries of the tickets that it drew, each in a turn of its own, and learned all of its log in these
--- turns
-pub record HasWorked (problem : Problem) (queries : List Query) (budget : ℕ) (drawn : List ℕ) (worker : Worker) (answers : List Answered) : Type 0 where
+-- every entry of a log passes, in some turn
+abbrev pub PassesAll : Problem → List LogEntry → Type 0
+PassesAll problem log = (locals : List Kind) × (begins : ℕ) × LogPasses problem locals log begins
+
+-- a worker answered the queries of the tickets that it drew, each in a turn of its own, and took or learned all of its log in
+-- these turns, as its mail tells
+pub record HasWorked (problem : Problem) (queries : List Query) (budget : ℕ) (drawn : List ℕ) (worker : Worker) (answers : List Answered) (mail : Option MailForm) : Type 0 where
   pub searches : worker.search.problem ≡ problem
   pub answered : All (AnswersOwn problem queries budget worker.number (record_of worker)) answers
   pub told : answered_tickets answers ≡ drawn
   pub tickets : tickets_of (record_of worker) ≡ drawn
   pub covered : TurnsCover 0 (length worker.search.log) worker.turns.items
-  pub learned : All (λ (entry : LogEntry). IsLearned entry.origin) worker.search.log
-  pub few : length worker.search.log ≤ length drawn * budget
+  pub passes : PassesAll problem worker.search.log
+  pub shares : SharesSoFar problem worker.search.log mail
+  pub few : length worker.search.log ≤ length drawn * budget + given_by mail

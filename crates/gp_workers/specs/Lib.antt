@@ -4,4 +4,14 @@ pub mod Inside
 pub mod Tickets
 pub mod TicketRule
 pub mod Drawers
+pub mod InOrder
 pub mod Crew
+pub mod Telling
+pub mod Sharing
+pub mod Desk
+pub mod Offering
+pub mod Together
+pub mod Opening
+pub mod Joining
+pub mod Finishing
+pub mod Prefixes

@@ -2,13 +2,10 @@
 use Rattle.std.specs.Prelude.{ℕ, ◌≡◌, ◌+◌, ◌<◌, ◌≤◌, min, List, [], ◌∷◌, length}
 use mathlib.Core.Option.{some}
 use lib.ListN.{get_elem?}
+use Rattle.gp_inbox.specs.Rule.{total}
 use Rattle.gp_workers.specs.declared.ticket_rule.Hand.{Hand}
-use Rattle.gp_workers.specs.Tickets.{once_below, times}
-
--- a number of each hand, added up
-abbrev pub total : (Hand → ℕ) → List Hand → ℕ
-total number [] = 0
-total number (hand ∷ hands) = number hand + total number hands
+use Rattle.gp_inbox.specs.Senders.{times}
+use Rattle.gp_workers.specs.Tickets.{once_below}
 
 -- how many numbers were drawn in all
 abbrev pub drawn_in : List Hand → ℕ

@@ -1,11 +1,7 @@
 -- What the drawers of tickets know: what each drew, and how often it was told that no number is left.
 use Rattle.std.specs.Prelude.{ℕ, ◌≡◌, ◌+◌, ◌-◌, ◌<◌, ◌≤◌, ◌==◌, nat_lt, Bool, true, false, List, [], ◌∷◌, ◌++◌, length, if◌then◌else◌}
+use Rattle.gp_inbox.specs.Senders.{times}
 use Rattle.gp_workers.specs.declared.ticket_rule.Hand.{Hand}
-
--- how often a number stands in a list
-abbrev pub times : ℕ → List ℕ → ℕ
-times number [] = 0
-times number (first ∷ rest) = (if number == first then 1 else 0) + times number rest
 
 -- once for a number below the count, and never for another
 abbrev pub once_below : ℕ → ℕ → ℕ

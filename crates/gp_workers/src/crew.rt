@@ -1,6 +1,7 @@
 use crate::drawers::Drawer;
 use crate::work::WorkAnswer;
 use gp_derivation::WorkerRecord;
+use gp_inbox::Pass;
 
 // The answer to the query of a ticket.
 #[derive(Debug, Drop)]
@@ -22,6 +23,20 @@ pub(crate) struct Worked {
     pub(crate) answers: Vec<Answered>,
     pub(crate) record: WorkerRecord,
     pub(crate) drawer: Drawer,
+}
+
+// What a worker does that shares: a job, and its passes of the inboxes.
+#[derive(Drop)]
+pub(crate) struct SharingJob {
+    pub(crate) job: Job,
+    pub(crate) passes: Vec<Pass>,
+}
+
+// What a worker hands back that shared, with its passes.
+#[derive(Drop)]
+pub(crate) struct Shared {
+    pub(crate) worked: Worked,
+    pub(crate) passes: Vec<Pass>,
 }
 
 // What was gathered of the first workers: their answers, their records by number, and one drawer for theirs.

@@ -1,4 +1,4 @@
-ghost use Rattle.std.specs.Prelude.{◌≡◌, ◌+◌, ℕ, List, IfOk, OnOk, length, map};
+ghost use Rattle.std.specs.Prelude.{◌≡◌, ◌+◌, ◌++◌, ◌∷◌, [], ℕ, List, IfOk, OnOk, length, map};
 ghost use Rattle.gp_clause.specs.declared.problem.Problem.{Problem};
 ghost use Rattle.gp_clause.specs.declared.problem.Query.{Query};
 ghost use Rattle.gp_workers.specs.declared.drawers.Tickets.{Tickets};
@@ -11,6 +11,7 @@ use crate::crew::{Answered, Gathered, Worked};
 use crate::drawers::Tickets;
 use crate::work::{WindowWork, WorkAnswer};
 use gp_clause::Row;
+use gp_inbox::Pass;
 use std::alloc::{AllocError, Global};
 
 impl Gathered {
@@ -18,6 +19,7 @@ impl Gathered {
     pub(crate) fn of(alloc: Global, worked: Worked) -> Result<Gathered, AllocError>
         ensures first { IfOk result (λ gathered. length gathered.records.items ≡ 1) }
         ensures drawer { IfOk result (λ gathered. gathered.drawer ≡ worked.drawer) }
+        ensures records { IfOk result (λ gathered. gathered.records.items ≡ worked.record ∷ []) }
         ensures gathered { (tickets : Tickets) (problem : Problem) (queries : List Query) (budget : ℕ) → IsDone tickets problem queries budget 1 worked → IfOk result (IsGathered tickets problem queries budget) }
     {
         let Worked {
@@ -38,6 +40,7 @@ impl Gathered {
         requires own { IsDrawerOf tickets.now self.old.drawer × WasTold (hand_of self.old.drawer) }
         requires other { IsDrawerOf tickets.now worked.drawer × WasTold (hand_of worked.drawer) }
         ensures drawer { OnOk result (IsDrawerOf tickets.now self.new.drawer × WasTold (hand_of self.new.drawer)) }
+        ensures records { OnOk result (self.new.records.items ≡ self.old.records.items ++ worked.record ∷ []) }
         ensures one_more { OnOk result (length self.new.records.items ≡ length self.old.records.items + 1) }
         ensures gathered { (problem : Problem) (queries : List Query) (budget : ℕ) → IsGathered tickets.now problem queries budget self.old → IsDone tickets.now problem queries budget (length self.old.records.items + 1) worked → OnOk result (IsGathered tickets.now problem queries budget self.new) }
     {
@@ -52,9 +55,15 @@ impl Gathered {
         Ok(())
     }
 
-    // The answers in the order of their tickets.
-    pub(crate) fn into_work(self, alloc: Global) -> Result<WindowWork, AllocError>
-        ensures { (tickets : Tickets) (problem : Problem) (queries : List Query) (budget : ℕ) → IsGathered tickets problem queries budget self → length self.records.items ≡ tickets.crew → tickets.count ≡ length queries → IfOk result (IsWork problem queries tickets.crew budget) }
+    // The answers in the order of their tickets, beside the passes that are handed out.
+    pub(crate) fn into_work(
+        self,
+        alloc: Global,
+        passes: Vec<Pass>,
+    ) -> Result<WindowWork, AllocError>
+        ensures records { IfOk result (λ work. work.records ≡ self.records.items) }
+        ensures passes { IfOk result (λ work. work.passes ≡ passes.items) }
+        ensures work { (tickets : Tickets) (problem : Problem) (queries : List Query) (budget : ℕ) → IsGathered tickets problem queries budget self → length self.records.items ≡ tickets.crew → tickets.count ≡ length queries → IfOk result (IsWork problem queries tickets.crew budget) }
     {
         let Gathered {
             mut answers,
@@ -66,6 +75,7 @@ impl Gathered {
         Ok(WindowWork {
             answers: Row::from_vec(answers_of(alloc, answers)?),
             records: Row::from_vec(records),
+            passes: Row::from_vec(passes),
         })
     }
 }

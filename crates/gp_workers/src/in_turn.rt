@@ -1,16 +1,18 @@
 ghost use Rattle.std.specs.Prelude.{◌≡◌, ◌≤◌, ◌<◌, ◌+◌, ℕ, All, IfOk, length, slice_index_or};
 ghost use Rattle.gp_clause.specs.Problem.{IsValidProblem, IsValidQuery};
 ghost use Rattle.gp_search.specs.Verdict.{IsSolvable};
-ghost use Rattle.gp_workers.specs.Crew.{AreDone, IsJob};
+ghost use Rattle.gp_workers.specs.Crew.{AreDone, IsJob, SharesNone};
+ghost use Rattle.gp_workers.specs.Sharing.{SharesNothing};
 ghost use Rattle.gp_workers.specs.Work.{CanBeAsked, CanBeWorked, IsWork};
 
-use crate::all::{gather, hire};
 use crate::crew::{Job, Worked};
 use crate::drawers::Tickets;
+use crate::hiring::{gather, hire};
 use crate::work::WindowWork;
 use crate::working::work;
 use gp_clause::{Problem, Query};
 use gp_outside::Gate;
+use gp_search::NoMail;
 use std::alloc::{AllocError, Global};
 use std::collections::VecDeque;
 
@@ -30,11 +32,12 @@ pub fn work_in_turn<G: Gate>(
     requires solvable { IsSolvable problem.now.edges }
     requires queries { All (IsValidQuery problem.now) queries.now }
     requires few { CanBeWorked problem.now queries.now budget }
-    ensures { IfOk result (IsWork problem.now queries.now workers budget) }
+    ensures work { IfOk result (IsWork problem.now queries.now workers budget) }
+    ensures alone { IfOk result SharesNothing }
 {
     let (tickets, jobs) = hire(alloc, queries.len() as u64, workers)?;
     let crew = run_in_turn(alloc, &tickets, problem, queries, budget, gate, jobs)?;
-    gather(alloc, &tickets, crew)?.into_work(alloc)
+    gather(alloc, &tickets, crew)?.into_work(alloc, Vec::new(alloc))
 }
 
 // What each worker hands back, by number, where one works after another.
@@ -51,11 +54,15 @@ fn run_in_turn<G: Gate>(
     requires count { tickets.now.count ≡ length queries.now }
     requires jobs { (i : ℕ) (d : _) → i < length jobs.items → IsJob tickets.now (i + 1) (slice_index_or jobs.items i d) }
     ensures len { IfOk result (λ crew. length crew.items ≡ length jobs.items) }
+    ensures alone { IfOk result (λ crew. All SharesNone crew.items) }
     ensures done { IfOk result (λ crew. AreDone tickets.now problem.now queries.now budget 1 crew.items) }
 {
     let mut crew = VecDeque::new(alloc);
     for job in jobs {
-        let worked = work(alloc, tickets, problem, queries, budget, gate, job)?;
+        let mut mail = NoMail::new(problem);
+        let worked = work(
+            alloc, tickets, problem, queries, budget, gate, job, &mut mail,
+        )?;
         crew.push_back(worked)?;
     }
     Ok(crew)

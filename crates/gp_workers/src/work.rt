@@ -1,5 +1,6 @@
 use gp_clause::{Row, Valuation};
 use gp_derivation::{Certificate, WorkerRecord};
+use gp_inbox::Pass;
 
 /// The answer to a query of a window.
 #[derive(Debug, Drop)]
@@ -11,8 +12,12 @@ pub enum WorkAnswer {
 }
 
 /// What the workers of a window answer, query by query in order, and what each of them did.
-#[derive(Debug, Drop)]
+///
+/// Where two workers or more share, there is a pass of each worker's inbox, by worker, to which the passes of all were
+/// joined, and through which all was taken that was left.
+#[derive(Drop)]
 pub struct WindowWork {
     pub answers: Row<WorkAnswer>,
     pub records: Row<WorkerRecord>,
+    pub passes: Row<Pass>,
 }

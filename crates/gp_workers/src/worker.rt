@@ -1,4 +1,4 @@
-ghost use Rattle.std.specs.Prelude.{◌≡◌, ◌≤◌, IfOk, OnOk};
+ghost use Rattle.std.specs.Prelude.{◌≡◌, ◌≤◌, IfOk, OnOk, false, length};
 ghost use Rattle.gp_clause.specs.Problem.{IsValidProblem, IsValidQuery};
 ghost use Rattle.gp_search.specs.Verdict.{IsSolvable, HasRoom};
 ghost use Rattle.gp_workers.specs.Inside.{answer_by, record_of, IsAnswerBy, IsFresh, TakesTurn};
@@ -6,10 +6,10 @@ ghost use Rattle.gp_workers.specs.Inside.{answer_by, record_of, IsAnswerBy, IsFr
 use crate::work::WorkAnswer;
 use gp_clause::{Problem, Query, Row};
 use gp_derivation::{Turn, WorkerRecord};
-use gp_search::{Search, Verdict};
+use gp_search::{Mail, Search, Verdict};
 use std::alloc::{AllocError, Global};
 
-// A worker that takes nothing from others: its number, from 1, its search, and its turns so far.
+// A worker: its number, from 1, its search, and its turns so far.
 #[derive(Debug, Drop)]
 pub(crate) struct Worker<'a> {
     pub(crate) number: u32,
@@ -38,26 +38,33 @@ impl<'a> Worker<'a> {
     }
 
     // Answers the query of a ticket in a turn.
-    pub(crate) fn answer(
+    pub(crate) fn answer<M: Mail>(
         &mut self,
         ticket: u64,
         query: &Query,
         budget: u64,
+        mail: &mut M,
     ) -> Result<WorkAnswer, AllocError>
         requires valid { IsValidQuery self.old.search.problem query.now }
         requires budget { 1 ≤ budget }
         requires few { HasRoom self.old.search budget }
-        ensures turn { OnOk result (TakesTurn query.now ticket budget self.old self.new) }
+        requires mail { M.problem mail.old ≡ self.old.search.problem }
+        ensures problem { M.problem mail.new ≡ M.problem mail.old }
+        ensures number { M.number mail.new ≡ M.number mail.old }
+        ensures may_give { M.may_give mail.new ≡ M.may_give mail.old }
+        ensures none_taken { M.may_give mail.old ≡ false → OnOk result (self.new.search.learned ≡ length self.old.search.log) }
+        ensures turn { OnOk result (TakesTurn query.now ticket budget self.old self.new (M.told mail.old) (M.told mail.new)) }
         ensures answer { IfOk result
             (IsAnswerBy self.old.search.problem query.now budget self.old.number (record_of self.new) ticket) }
     {
         let begins = self.search.log().len() as u32;
-        let verdict = self.search.ask(query, budget)?;
+        let verdict = self.search.ask(query, budget, mail)?;
+        let learned = self.search.learned_from();
         let ends = self.search.log().len() as u32;
         self.turns.push(Turn {
             ticket,
             begins,
-            learned: begins,
+            learned,
             ends,
         })?;
         Ok(answer_of(self.number, verdict))

@@ -4,19 +4,22 @@ ghost use Rattle.gp_search.specs.Verdict.{HasRoom};
 ghost use Rattle.gp_workers.specs.Crew.{IsDone};
 ghost use Rattle.gp_workers.specs.Drawers.{hand_of, IsSingle, IsUnused};
 ghost use Rattle.gp_workers.specs.Inside.{empty_record, HasWorked, IsFresh};
+ghost use Rattle.gp_workers.specs.Telling.{IsSilent, SharesSoFar, TellsOrGivesNone};
 ghost use Rattle.gp_workers.specs.Work.{CanBeAsked};
 
+use crate::bounded::BoundedMail;
 use crate::crew::{Answered, Job, Worked};
 use crate::drawers::{Drawer, Tickets};
 use crate::worker::Worker;
 use gp_clause::{Problem, Query, Row};
-use gp_derivation::{WorkerRecord, spent_stays};
+use gp_derivation::{WorkerRecord, certificate_follows, fit_stays, spent_stays};
 use gp_outside::Gate;
+use gp_search::Mail;
 use std::alloc::{AllocError, Global};
 
 // A worker answers the query of each ticket that it draws, by one search, until none is left. One that draws none makes no
 // search, which costs as much as the problem is large.
-pub(crate) fn work<G: Gate>(
+pub(crate) fn work<G: Gate, M: BoundedMail>(
     alloc: Global,
     tickets: &Tickets,
     problem: &Problem,
@@ -24,12 +27,20 @@ pub(crate) fn work<G: Gate>(
     budget: u64,
     gate: &G,
     job: Job,
+    mail: &mut M,
 ) -> Result<Worked, AllocError>
     requires asked { CanBeAsked problem.now queries.now budget }
     requires count { tickets.now.count ≡ length queries.now }
     requires drawer { IsUnused tickets.now job.drawer }
-    ensures { IfOk result (IsDone tickets.now problem.now queries.now budget job.number) }
+    requires mail { M.problem mail.old ≡ problem.now }
+    requires silent { IsSilent (M.told mail.old) }
+    ensures number { M.number mail.new ≡ M.number mail.old }
+    ensures problem { IfOk result (λ worked. M.problem mail.new ≡ problem.now) }
+    ensures done { IfOk result (IsDone tickets.now problem.now queries.now budget job.number) }
+    ensures none_offered { IfOk result (λ worked. worked.record.offered ≡ []) }
+    ensures shares { IfOk result (λ worked. SharesSoFar problem.now worked.record.log (M.told mail.new)) }
 {
+    certificate_follows();
     let Job { number, mut drawer } = job;
     let Some(first) = tickets.draw(&mut drawer) else {
         return Ok(Worked::idle(alloc, drawer));
@@ -43,6 +54,7 @@ pub(crate) fn work<G: Gate>(
         gate,
         &mut worker,
         &mut drawer,
+        mail,
         first,
     )?;
     let record = worker.into_record();
@@ -74,7 +86,7 @@ impl Worked {
 }
 
 // The answers to the queries of the tickets that a worker draws, in order, of which it has drawn the first.
-fn answer_drawn<G: Gate>(
+fn answer_drawn<G: Gate, M: BoundedMail>(
     alloc: Global,
     tickets: &Tickets,
     queries: &[Query],
@@ -82,6 +94,7 @@ fn answer_drawn<G: Gate>(
     gate: &G,
     worker: &mut Worker,
     drawer: &mut Drawer,
+    mail: &mut M,
     first: u64,
 ) -> Result<Vec<Answered>, AllocError>
     requires asked { CanBeAsked worker.old.search.problem queries.now budget }
@@ -90,38 +103,51 @@ fn answer_drawn<G: Gate>(
     requires drawer { IsSingle tickets.now 0 drawer.old }
     requires first { (hand_of drawer.old).drawn ≡ first ∷ [] }
     requires within { first < length queries.now }
+    requires mail { M.problem mail.old ≡ worker.old.search.problem }
+    requires silent { IsSilent (M.told mail.old) }
     ensures number { OnOk result (worker.new.number ≡ worker.old.number) }
+    ensures mail_number { M.number mail.new ≡ M.number mail.old }
+    ensures mail_problem { IfOk result (λ answers. M.problem mail.new ≡ worker.new.search.problem) }
     ensures drawer { IfOk result (λ answers. IsSingle tickets.now 1 drawer.new) }
     ensures worked { IfOk result (λ answers.
-        HasWorked worker.old.search.problem queries.now budget (hand_of drawer.new).drawn worker.new answers.items) }
+        HasWorked worker.old.search.problem queries.now budget (hand_of drawer.new).drawn worker.new answers.items (M.told mail.new)) }
 {
     let mut answers = Vec::new(alloc);
-    answer_one(queries, budget, gate, worker, first, &mut answers)?;
+    mail.gives_few();
+    answer_one(queries, budget, gate, worker, first, mail, &mut answers)?;
     while let Some(ticket) = tickets.draw(drawer) {
-        answer_one(queries, budget, gate, worker, ticket, &mut answers)?;
+        mail.gives_few();
+        answer_one(queries, budget, gate, worker, ticket, mail, &mut answers)?;
     }
     Ok(answers)
 }
 
 // Answers the query of one ticket more.
-fn answer_one<G: Gate>(
+fn answer_one<G: Gate, M: Mail>(
     queries: &[Query],
     budget: u64,
     gate: &G,
     worker: &mut Worker,
     ticket: u64,
+    mail: &mut M,
     answers: &mut Vec<Answered>,
 ) -> Result<(), AllocError>
     requires asked { CanBeAsked worker.old.search.problem queries.now budget }
     requires ticket { ticket < length queries.now }
     requires few { HasRoom worker.old.search budget }
+    requires mail { M.problem mail.old ≡ worker.old.search.problem }
+    requires tells { TellsOrGivesNone (M.may_give mail.old) (M.told mail.old) }
     ensures number { OnOk result (worker.new.number ≡ worker.old.number) }
-    ensures worked { (problem : Problem) (drawn : List ℕ) → HasWorked problem queries.now budget drawn worker.old answers.old.items
-        → OnOk result (HasWorked problem queries.now budget (drawn ++ ticket ∷ []) worker.new answers.new.items) }
+    ensures problem { OnOk result (M.problem mail.new ≡ worker.new.search.problem) }
+    ensures mail_number { M.number mail.new ≡ M.number mail.old }
+    ensures may_give { M.may_give mail.new ≡ M.may_give mail.old }
+    ensures worked { (problem : Problem) (drawn : List ℕ) → HasWorked problem queries.now budget drawn worker.old answers.old.items (M.told mail.old)
+        → OnOk result (HasWorked problem queries.now budget (drawn ++ ticket ∷ []) worker.new answers.new.items (M.told mail.new)) }
 {
     spent_stays();
+    fit_stays();
     gate.pass(worker.number, ticket);
-    let answer = worker.answer(ticket, &queries[ticket as usize], budget)?;
+    let answer = worker.answer(ticket, &queries[ticket as usize], budget, mail)?;
     answers.push(Answered { ticket, answer })?;
     Ok(())
 }

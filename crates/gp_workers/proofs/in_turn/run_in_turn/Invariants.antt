@@ -1,6 +1,6 @@
-use Rattle.std.proofs.Common.{◌≡◌, ◌+◌, length}
+use Rattle.std.proofs.Common.{◌≡◌, ◌+◌, All, length}
 use Rattle.std.specs.Vec.Iter.{into_iter_items, into_iter_len}
-use Rattle.gp_workers.specs.Crew.{AreDone}
+use Rattle.gp_workers.specs.Crew.{AreDone, SharesNone}
 use Rattle.gp_workers.proofs.Jobs.{AreJobs}
 use Rattle.gp_workers.proofs.in_turn.run_in_turn.Given as goal
 
@@ -9,5 +9,6 @@ invariant-loop-job g l = record {
   counted : into_iter_len l.job-iterator ≡ length (into_iter_items l.job-iterator);
   in_all : length l.crew.items + length (into_iter_items l.job-iterator) ≡ length l.fn.jobs.items;
   left : AreJobs l.tickets (length l.crew.items + 1) (into_iter_items l.job-iterator);
+  alone : All SharesNone l.crew.items;
   done : AreDone l.tickets l.problem l.queries l.budget 1 l.crew.items;
 }

@@ -9,6 +9,8 @@ decreases-loop-ticket g l = length l.queries - length (hand_of l.drawer).drawn
 abbrev pub invariant-loop-ticket : goal.invariant-loop-ticket
 invariant-loop-ticket g l = record {
   number : l.worker.number ≡ l.fn.worker.number;
+  mail : g.M.Mail.problem l.mail ≡ l.worker.search.problem;
+  mail_number : g.M.Mail.number l.mail ≡ g.M.Mail.number l.fn.mail;
   single : IsSingle l.tickets 0 l.drawer;
-  worked : HasWorked l.fn.worker.search.problem l.queries l.budget (hand_of l.drawer).drawn l.worker l.answers.items;
+  worked : HasWorked l.fn.worker.search.problem l.queries l.budget (hand_of l.drawer).drawn l.worker l.answers.items (g.M.Mail.told l.mail);
 }

@@ -1,15 +1,27 @@
 -- What the worker did is what it hands back.
-use Rattle.std.proofs.Common.{◌∙◌, subst}
+use Rattle.std.proofs.Common.{◌∙◌, sym, subst}
 use Rattle.gp_clause.specs.declared.problem.Problem.{Problem}
+use Rattle.gp_derivation.specs.declared.record.WorkerRecord.{WorkerRecord}
 use Rattle.gp_workers.specs.Drawers.{hand_of}
 use Rattle.gp_workers.specs.Inside.{HasWorked}
+use Rattle.gp_workers.specs.Telling.{SharesSoFar}
 use Rattle.gp_workers.proofs.Turning.{is_done}
 use Rattle.gp_workers.proofs.working.work.Goals as goal
 
-pub returns : goal.returns
-returns g c =
+pub returns-clause-done : goal.returns-clause-done
+returns-clause-done g c =
     let worker = c.answer_drawn.new.worker in
     let drawer = c.answer_drawn.new.drawer in
-    let worked : HasWorked c.args.problem.now c.args.queries.now c.args.budget (hand_of drawer).drawn worker c.in_ok-answers.answers.items =
-    subst (λ (p : Problem). HasWorked p c.args.queries.now c.args.budget (hand_of drawer).drawn worker c.in_ok-answers.answers.items) c.in_ok-worker.ensures.problem c.in_ok-answers.ensures.worked in
-    is_done c.args.tickets.now c.args.problem.now c.args.queries.now c.args.budget c.args.job.number worker _ c.in_ok-answers.ensures.drawer worked (c.in_ok-answers.ensures.number ∙ c.in_ok-worker.ensures.number) c.into_record-record.ensures
+    let told = g.M.Mail.told c.answer_drawn.new.mail in
+    let worked : HasWorked c.args.problem.now c.args.queries.now c.args.budget (hand_of drawer).drawn worker c.in_ok-answers.answers.items told =
+    subst (λ (p : Problem). HasWorked p c.args.queries.now c.args.budget (hand_of drawer).drawn worker c.in_ok-answers.answers.items told) c.in_ok-worker.ensures.problem c.in_ok-answers.ensures.worked in
+    is_done c.certificate_follows.ensures c.args.tickets.now c.args.problem.now c.args.queries.now c.args.budget c.args.job.number worker _ told c.requires.asked.valid c.in_ok-answers.ensures.drawer worked (c.in_ok-answers.ensures.number ∙ c.in_ok-worker.ensures.number) c.into_record-record.ensures
+
+pub returns-clause-shares : goal.returns-clause-shares
+returns-clause-shares g c =
+    let worker = c.answer_drawn.new.worker in
+    let drawer = c.answer_drawn.new.drawer in
+    let told = g.M.Mail.told c.answer_drawn.new.mail in
+    let worked : HasWorked c.args.problem.now c.args.queries.now c.args.budget (hand_of drawer).drawn worker c.in_ok-answers.answers.items told =
+    subst (λ (p : Problem). HasWorked p c.args.queries.now c.args.budget (hand_of drawer).drawn worker c.in_ok-answers.answers.items told) c.in_ok-worker.ensures.problem c.in_ok-answers.ensures.worked in
+    subst (λ (own : WorkerRecord). SharesSoFar c.args.problem.now own.log told) (sym c.into_record-record.ensures) worked.shares

@@ -1,0 +1,29 @@
+-- What one worker took of what another pushed.
+use Rattle.std.specs.Prelude.{ℕ, ◌≡◌, ◌+◌, ◌<◌, ◌==◌, Bool, false, Some, List, ◌++◌, map, filter, slice_get}
+use Rattle.gp_clause.specs.declared.lit.Lit.{Lit}
+use Rattle.gp_clause.specs.declared.problem.Problem.{Problem}
+use Rattle.gp_derivation.specs.declared.log.LogEntry.{LogEntry}
+use Rattle.gp_derivation.specs.declared.log.Origin.{Origin}
+use Rattle.gp_derivation.specs.declared.log.Origin.TheVariants.{Learned, Taken}
+use Rattle.gp_derivation.specs.declared.record.WorkerRecord.{WorkerRecord}
+use Rattle.gp_workers.specs.declared.work.WindowWork.{WindowWork}
+use Rattle.gp_workers.specs.Sharing.{AllShared, pushed_to}
+
+-- whether an origin is that of an entry that was taken from the worker of a number
+abbrev pub was_taken_from : ℕ → Origin → Bool
+was_taken_from number Learned = false
+was_taken_from number (Taken sender certificate) = sender == number
+
+-- the clauses that a log took from the worker of a number, in order
+abbrev pub taken_from : ℕ → List LogEntry → List (List Lit)
+taken_from number log = map (λ (entry : LogEntry). entry.step.clause) (filter (λ (entry : LogEntry). was_taken_from number entry.origin) log)
+
+-- a list of clauses begins with another
+abbrev pub BeginsWith : List (List Lit) → List (List Lit) → Type 0
+BeginsWith clauses front = (more : List (List Lit)) × (front ++ more ≡ clauses)
+
+-- among workers that shared all, what one of them took from another is a prefix of what the other's record marks as pushed to it
+abbrev pub TakesPrefixes : Type 0
+TakesPrefixes = (problem : Problem) (count : ℕ) (work : WindowWork) → AllShared problem count work
+    → (place other : ℕ) (own one : WorkerRecord) → place < count → other < count → (other ≡ place → ⊥) → slice_get work.records place ≡ Some own → slice_get work.records other ≡ Some one
+    → BeginsWith (pushed_to one other place) (taken_from (other + 1) own.log)

@@ -31,7 +31,7 @@ use Rattle.gp_analysis.specs.Queries.{found_of, queries_of}
 use Rattle.gp_analysis.specs.Telling.{CanTell, CanTellEach, IsSound, TellsAnswer, TellsEach, TellsFound}
 use Rattle.gp_analysis.specs.Tickets.{found_count}
 
--- what is known of a window whose workers share no steps
+-- what is known of a window whose certificates share no steps
 abbrev pub unshared : ℕ → List WorkerRecord → Evidence
 unshared budget workers = record { budget = budget; shared = []; workers = workers }
 

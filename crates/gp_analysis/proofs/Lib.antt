@@ -8,6 +8,6 @@ mod Windows
 mod Parted
 mod Walked
 mod Counted
-mod Joined
+mod Drawing
 mod Agreement
 mod Acceptance

@@ -26,7 +26,7 @@ one_of_sum f first (suc count) k least most =
     ]
 
 -- no window asks more than all do
-within_limit : (r : RecordingForm) (ps : List PropertyForm) (budget k : ℕ) → 1 ≤ k → k ≤ r.manifest.epochs → asked_total r ps * budget ≤ 1000000 → asked_in r ps k * budget ≤ 1000000
+pub within_limit : (r : RecordingForm) (ps : List PropertyForm) (budget k : ℕ) → 1 ≤ k → k ≤ r.manifest.epochs → asked_total r ps * budget ≤ 1000000 → asked_in r ps k * budget ≤ 1000000
 within_limit r ps budget k first last limit =
     let part : asked_in r ps k ≤ asked_total r ps = one_of_sum (asked_in r ps) 1 r.manifest.epochs k first (omega arith) in
     let scaled : asked_in r ps k * budget ≤ asked_total r ps * budget = mul-le-mul_right budget part in

@@ -5,6 +5,7 @@ pub mod Answered
 pub mod Queries
 pub mod Telling
 pub mod Told
+pub mod Drawn
 pub mod Laws
 pub mod Agreement
 pub mod Acceptance

@@ -15,15 +15,17 @@ use gp_report::{Report, WindowRecord};
 use gp_text::Row;
 use gp_window::Recording;
 use std::alloc::{AllocError, Global};
+use std::sync::Wait;
 use std::thread::Threads;
 
 // So many windows for each worker are many: then whole windows are worked side by side, and the workers of each in turn.
 const MANY_WINDOWS: u32 = 4;
 
 /// Answers each instance of each property in each window of a recording, window by window, by so many workers, each of
-/// which passes the gate before each of its own. Where no thread can be made, they run one after another.
+/// which passes the gate before each of its own. Where no thread can be made, they run one after another. Two or more that
+/// work on one window side by side pass each other what they learn, and one may wait there for another.
 /// The report has format 1.
-pub fn analyse<R: Threads + Sync, G: Gate + Sync>(
+pub fn analyse<R: Threads + Wait + Sync, G: Gate + Sync>(
     rt: &R,
     alloc: Global,
     recording: &Recording,
@@ -51,7 +53,7 @@ pub fn analyse<R: Threads + Sync, G: Gate + Sync>(
 }
 
 // What is told of all windows, in order.
-fn told_windows<R: Threads + Sync, G: Gate + Sync>(
+fn told_windows<R: Threads + Wait + Sync, G: Gate + Sync>(
     rt: &R,
     alloc: Global,
     recording: &Recording,
@@ -67,19 +69,18 @@ fn told_windows<R: Threads + Sync, G: Gate + Sync>(
             first: 1,
             count: epochs,
         };
-        return told_run(rt, alloc, recording, all, task, Order::SideBySide);
+        return told_run(rt, alloc, recording, all, task);
     }
     told_side_by_side(rt, alloc, recording, task)
 }
 
-// What is told of the windows of a run, in order.
-pub(crate) fn told_run<R: Threads + Sync, G: Gate + Sync>(
+// What is told of the windows of a run, in order. The workers of each work side by side.
+fn told_run<R: Threads + Wait + Sync, G: Gate + Sync>(
     rt: &R,
     alloc: Global,
     recording: &Recording,
     run: Run,
     task: &Task<'_, G>,
-    order: Order,
 ) -> Result<Vec<WindowRecord>, AllocError>
     requires can { CanBeAnalysed recording.now task.now.properties.now task.now.workers task.now.budget }
     requires run { IsRun recording.now.manifest.epochs run }
@@ -89,7 +90,7 @@ pub(crate) fn told_run<R: Threads + Sync, G: Gate + Sync>(
     let mut told = Vec::new(alloc);
     let mut walk = RunWalk::new(alloc, recording, run)?;
     while let Some(window) = walk.next(alloc)? {
-        told.push(window_record(rt, alloc, &window, task, order)?)?;
+        told.push(window_record(rt, alloc, &window, task, Order::SideBySide)?)?;
     }
     Ok(told)
 }

@@ -7,6 +7,7 @@
 
 mod analysing;
 mod counting;
+mod drawn;
 mod entries;
 mod laws;
 mod listing;
@@ -16,6 +17,7 @@ mod side_by_side;
 mod task;
 mod untold;
 mod window;
+mod window_walk;
 
 pub use analysing::analyse;
 pub use counting::too_much;

@@ -1,9 +1,10 @@
-ghost use Rattle.std.specs.Prelude.{◌≡◌, ◌≤◌, ◌∷◌, IfOk, Some};
+ghost use Rattle.std.specs.Prelude.{◌≡◌, ◌∷◌, IfOk, Some};
 ghost use Rattle.gp_window.specs.WindowForm.{window_of};
 ghost use Rattle.gp_analysis.specs.Runs.{IsRun, windows_of};
 ghost use Rattle.gp_analysis.specs.Walks.{CanGoTo, TakesFirst, windows_to};
 
 use crate::runs::Run;
+use crate::window_walk::walk_from_start;
 use gp_window::{Recording, Window, WindowWalk};
 use std::alloc::{AllocError, Global};
 use std::marker::Model;
@@ -39,7 +40,7 @@ impl<'a> RunWalk<'a> {
         ensures { IfOk result (λ walk. walk ≡ windows_of recording.now run) }
     {
         Ok(RunWalk {
-            walk: Some(walk_to(alloc, recording, run.first)?),
+            walk: Some(walk_from_start(alloc, recording, run.first)?),
             last: run.first + run.count - 1,
         })
     }
@@ -67,19 +68,4 @@ fn next_to(walk: WindowWalk<'_>, last: u32) -> Result<Option<WindowWalk<'_>>, Al
         return walk.advance();
     }
     Ok(None)
-}
-
-// The walk that stands at window `k` of a recording.
-fn walk_to(alloc: Global, recording: &Recording, k: u32) -> Result<WindowWalk<'_>, AllocError>
-    requires { (1 ≤ k) × (k ≤ recording.now.manifest.epochs) }
-    ensures { IfOk result (λ walk. (walk.recording ≡ recording.now) × (walk.number ≡ k)) }
-{
-    let mut walk = WindowWalk::new(alloc, recording)?;
-    for number in 1..k {
-        let Some(next) = walk.advance()? else {
-            unreachable!()
-        };
-        walk = next;
-    }
-    Ok(walk)
 }

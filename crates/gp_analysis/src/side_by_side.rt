@@ -1,19 +1,21 @@
-ghost use Rattle.std.specs.Prelude.{◌≡◌, ◌<◌, ◌≤◌, ℕ, List, Ok, IfOk, flat_map, length, map, slice_index_or};
-ghost use Rattle.gp_analysis.specs.Runs.{IsRun, PartAll, windows_of};
+ghost use Rattle.std.specs.Prelude.{◌≡◌, ◌≤◌, All, IfOk, length};
+ghost use Rattle.gp_workers.specs.Drawers.{IsUnused};
+ghost use Rattle.gp_analysis.specs.Drawn.{IsDrawn};
 ghost use Rattle.gp_analysis.specs.Told.{CanBeAnalysed, TellEach, all_windows};
 
-use crate::analysing::told_run;
-use crate::runs::{Run, runs_of};
-use crate::task::{Order, Task};
+use crate::drawn::{Drawn, gather, tell_drawn};
+use crate::task::Task;
 use gp_outside::Gate;
 use gp_report::WindowRecord;
 use gp_window::Recording;
+use gp_workers::{Drawer, Tickets};
 use std::alloc::{AllocError, Global};
+use std::sync::Wait;
 use std::thread;
 use std::thread::Threads;
 
-// What is told of all windows, in order: as many runs as there are workers are told side by side.
-pub(crate) fn told_side_by_side<R: Threads + Sync, G: Gate + Sync>(
+// What is told of all windows, in order: as many threads as there are workers draw them side by side.
+pub(crate) fn told_side_by_side<R: Threads + Wait + Sync, G: Gate + Sync>(
     rt: &R,
     alloc: Global,
     recording: &Recording,
@@ -24,47 +26,33 @@ pub(crate) fn told_side_by_side<R: Threads + Sync, G: Gate + Sync>(
     ensures { IfOk result (λ told.
         TellEach task.now.properties.now task.now.workers task.now.budget (all_windows recording.now) told.items) }
 {
-    let runs = runs_of(alloc, recording.manifest().epochs(), task.workers)?;
-    let parts = told_runs(rt, alloc, recording, task, runs)?;
-    joined(alloc, parts)
+    let epochs = recording.manifest().epochs();
+    let (tickets, drawers) = Tickets::new(alloc, u64::from(epochs), task.workers)?;
+    let parts = told_by_each(rt, alloc, recording, task, &tickets, drawers)?;
+    Ok(gather(&tickets, parts)?.in_order())
 }
 
-// What is told of each of these runs. One alone is told in the calling thread.
-fn told_runs<R: Threads + Sync, G: Gate + Sync>(
+// What is told of the windows that each of these drawers draws. One alone draws in the calling thread.
+fn told_by_each<R: Threads + Wait + Sync, G: Gate + Sync>(
     rt: &R,
     alloc: Global,
     recording: &Recording,
     task: &Task<'_, G>,
-    runs: Vec<Run>,
-) -> Result<Vec<Result<Vec<WindowRecord>, AllocError>>, AllocError>
+    tickets: &Tickets,
+    drawers: Vec<Drawer>,
+) -> Result<Vec<Result<Drawn, AllocError>>, AllocError>
     requires can { CanBeAnalysed recording.now task.now.properties.now task.now.workers task.now.budget }
-    requires runs { PartAll recording.now.manifest.epochs runs.items }
-    ensures len { IfOk result (λ parts. length parts.items ≡ length runs.items) }
-    ensures told { IfOk result (λ parts. (i : ℕ) (run : _) (part : _) → i < length runs.items → IfOk (slice_index_or parts.items i part) (λ told.
-        TellEach task.now.properties.now task.now.workers task.now.budget (windows_of recording.now (slice_index_or runs.items i run)) told.items)) }
+    requires count { tickets.now.count ≡ recording.now.manifest.epochs }
+    requires drawers { All (IsUnused tickets.now) drawers.items }
+    ensures len { IfOk result (λ parts. length parts.items ≡ length drawers.items) }
+    ensures drawn { IfOk result (λ parts. All (λ part. IfOk part (IsDrawn tickets.now recording.now task.now.properties.now task.now.workers task.now.budget 1)) parts.items) }
 {
     thread::map_vec(
         rt,
-        runs,
-        &|run: Run| -> Result<Vec<WindowRecord>, AllocError>
-            requires { CanBeAnalysed recording.now task.now.properties.now task.now.workers task.now.budget × IsRun recording.now.manifest.epochs run }
-            ensures { IfOk result (λ told.
-                TellEach task.entry.now.properties.now task.entry.now.workers task.entry.now.budget (windows_of recording.entry.now run) told.items) }
-        { told_run(rt, alloc, recording, run, task, Order::InTurn) },
+        drawers,
+        &|drawer: Drawer| -> Result<Drawn, AllocError>
+            requires { CanBeAnalysed recording.now task.now.properties.now task.now.workers task.now.budget × (tickets.now.count ≡ recording.now.manifest.epochs) × IsUnused tickets.now drawer }
+            ensures { IfOk result (IsDrawn tickets.entry.now recording.entry.now task.entry.now.properties.now task.entry.now.workers task.entry.now.budget 1) }
+        { tell_drawn(rt, alloc, recording, task, tickets, drawer) },
     )
-}
-
-// All that is told in these parts, in order.
-fn joined(
-    alloc: Global,
-    parts: Vec<Result<Vec<WindowRecord>, AllocError>>,
-) -> Result<Vec<WindowRecord>, AllocError>
-    ensures { IfOk result (λ joined.
-        (told : List _) × (parts.items ≡ map Ok told) × (joined.items ≡ flat_map (λ part. part.items) told)) }
-{
-    let mut joined = Vec::new(alloc);
-    for part in parts {
-        joined.append(&mut part?)?;
-    }
-    Ok(joined)
 }

@@ -25,10 +25,11 @@ use gp_window::Window;
 use gp_witness::schedules_are_complete;
 use gp_workers::{WindowWork, work_all, work_in_turn};
 use std::alloc::{AllocError, Global};
+use std::sync::Wait;
 use std::thread::Threads;
 
 // What is told of a window: its constraints are too large, or each of its instances is answered.
-pub(crate) fn window_record<R: Threads + Sync, G: Gate + Sync>(
+pub(crate) fn window_record<R: Threads + Wait + Sync, G: Gate + Sync>(
     rt: &R,
     alloc: Global,
     window: &Window,
@@ -56,7 +57,7 @@ pub(crate) fn window_record<R: Threads + Sync, G: Gate + Sync>(
 }
 
 // What is told of a window that has these constraints.
-fn answered_record<R: Threads + Sync, G: Gate + Sync>(
+fn answered_record<R: Threads + Wait + Sync, G: Gate + Sync>(
     rt: &R,
     alloc: Global,
     window: &Window,
@@ -78,7 +79,7 @@ fn answered_record<R: Threads + Sync, G: Gate + Sync>(
 }
 
 // The workers answer the queries; then each answer is told, property by property.
-fn worked_record<R: Threads + Sync, G: Gate + Sync>(
+fn worked_record<R: Threads + Wait + Sync, G: Gate + Sync>(
     rt: &R,
     alloc: Global,
     window: &Window,
@@ -101,7 +102,11 @@ fn worked_record<R: Threads + Sync, G: Gate + Sync>(
     laws();
     let number = window.number();
     let queries = listing.queries.as_slice();
-    let WindowWork { answers, records } = work(rt, alloc, encoded.problem(), queries, task, order)?;
+    let WindowWork {
+        answers,
+        records,
+        ..
+    } = work(rt, alloc, encoded.problem(), queries, task, order)?;
     let mut untold = Untold::of(answers);
     let mut told = Row::new(alloc);
     let mut left = listing.found.as_slice();
@@ -121,7 +126,7 @@ fn worked_record<R: Threads + Sync, G: Gate + Sync>(
 }
 
 // What the workers answer to these queries.
-fn work<R: Threads + Sync, G: Gate + Sync>(
+fn work<R: Threads + Wait + Sync, G: Gate + Sync>(
     rt: &R,
     alloc: Global,
     problem: &Problem,

@@ -20,13 +20,14 @@ use gp_outside::{Gate, PutFault, Sink};
 use gp_report::{Answer, Entry, PropertyRecord, Report, WindowRecord, print_report};
 use gp_text::Row;
 use std::alloc::{AllocError, Global};
+use std::sync::Wait;
 use std::thread::Threads;
 
 /// The format that tells the steps which the certificates of a window share by themselves.
 const COMPACT: u32 = 2;
 
 /// Answers each instance of what would be listed, and writes the report in the format that is asked for.
-pub fn put_analysis<R: AllocGlobal + Threads + Sync, S: Sink, G: Gate + Sync>(
+pub fn put_analysis<R: AllocGlobal + Threads + Wait + Sync, S: Sink, G: Gate + Sync>(
     rt: &R,
     sink: &mut S,
     listing: &Listing,
@@ -43,7 +44,7 @@ pub fn put_analysis<R: AllocGlobal + Threads + Sync, S: Sink, G: Gate + Sync>(
 }
 
 /// The report of an analysis, in the format that is asked for.
-fn analysis_report<R: AllocGlobal + Threads + Sync, G: Gate + Sync>(
+fn analysis_report<R: AllocGlobal + Threads + Wait + Sync, G: Gate + Sync>(
     rt: &R,
     listing: &Listing,
     asked: Asked,

@@ -22,14 +22,16 @@ use crate::writing::{put_answer, put_due};
 use gp_outside::{Folder, Gate, Sink};
 use gp_words::{Command, Task, command_of};
 use std::alloc::Global;
+use std::sync::Wait;
 use std::thread::Threads;
 
 /// Does what the words ask for, with the files of the folder, and writes the text to the sink.
 ///
 /// `words` are the words after the program's name: options, of which `--task` is one, and the folder that holds
 /// `manifest`, `t1.trace` and so on, and `props`, `schedule` or `report`. A worker of task analyse passes the gate before
-/// each query.
-pub fn run<R: AllocGlobal + Threads + Sync, F: Folder, S: Sink, G: Gate + Sync>(
+/// each query. Two workers or more of one window pass each other what they learn, and one may wait there for another: that
+/// the call returns is said by no clause.
+pub fn run<R: AllocGlobal + Threads + Wait + Sync, F: Folder, S: Sink, G: Gate + Sync>(
     rt: &R,
     words: &[String],
     folder: &mut F,
@@ -91,7 +93,7 @@ fn reads_files(task: Task) -> bool
 }
 
 /// Does what a command asks for that reads files. A refusal is an answer too.
-fn answer<R: AllocGlobal + Threads + Sync, F: Folder, S: Sink, G: Gate + Sync>(
+fn answer<R: AllocGlobal + Threads + Wait + Sync, F: Folder, S: Sink, G: Gate + Sync>(
     rt: &R,
     command: &Command<'_>,
     folder: &mut F,

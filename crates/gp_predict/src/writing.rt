@@ -19,10 +19,11 @@ use gp_property::Property;
 use gp_text::Row;
 use gp_window::{Recording, WindowWalk};
 use std::alloc::Global;
+use std::sync::Wait;
 use std::thread::Threads;
 
 /// Puts what is due to a sink, each line of its text by one call.
-pub fn put_due<R: AllocGlobal + Threads + Sync, S: Sink, G: Gate + Sync>(
+pub fn put_due<R: AllocGlobal + Threads + Wait + Sync, S: Sink, G: Gate + Sync>(
     rt: &R,
     sink: &mut S,
     due: &Due,

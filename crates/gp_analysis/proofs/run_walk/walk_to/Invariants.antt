@@ -1,5 +1,0 @@
-use Rattle.std.proofs.Common.{◌≡◌}
-use Rattle.gp_analysis.proofs.run_walk.walk_to.Given as goal
-
-abbrev pub invariant-loop-number : goal.invariant-loop-number
-invariant-loop-number l = (l.walk.recording ≡ l.recording) × (l.walk.number ≡ l.number)

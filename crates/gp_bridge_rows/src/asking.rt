@@ -14,7 +14,7 @@ use gp_constraint::{Encoded, problems_are_valid, query};
 use gp_instance::{Instance, instances, is_one_for_each, lists_exactly, matches};
 use gp_property::Property;
 use gp_replay::{ReplayFault, replay};
-use gp_search::{Search, Verdict};
+use gp_search::{NoMail, Search, Verdict};
 use gp_window::{EventId, Schedule, Window};
 use gp_witness::schedule_of;
 use std::alloc::{AllocError, Global};
@@ -114,7 +114,8 @@ fn ends(
     }
     let query = query(alloc, encoded, window, property, instance)?;
     let mut search = Search::new(alloc, problem)?;
-    match search.ask(&query, BUDGET)? {
+    let mut mail = NoMail::new(problem);
+    match search.ask(&query, BUDGET, &mut mail)? {
         Verdict::Model(valuation) => finds(
             alloc, window, encoded, property, instance, &valuation, due,
         ),

@@ -17,12 +17,12 @@ use std::sync::Arc;
 use std::test::Fail;
 
 // The literals of a step's clause, and its hints.
-type Line<'a> = (&'a [i32], &'a [u32]);
+pub type Line<'a> = (&'a [i32], &'a [u32]);
 
 // An entry, and the lines of its certificate where it is taken.
-type Entry<'a> = (Line<'a>, Option<&'a [Line<'a>]>);
+pub type Entry<'a> = (Line<'a>, Option<&'a [Line<'a>]>);
 
-fn step(alloc: Global, line: &Line) -> Result<Step, Fail> {
+pub fn step(alloc: Global, line: &Line) -> Result<Step, Fail> {
     let (words, hints) = line;
     Ok(Step {
         clause: Clause::of(lits_of(alloc, words)?)?,
@@ -73,7 +73,7 @@ fn push_entry(alloc: Global, log: &mut Row<LogEntry>, line: &Entry) -> Result<()
     Ok(())
 }
 
-fn log_of(alloc: Global, entries: &[Entry]) -> Result<Row<LogEntry>, Fail> {
+pub fn log_of(alloc: Global, entries: &[Entry]) -> Result<Row<LogEntry>, Fail> {
     let mut log = Row::new(alloc);
     for entry in entries {
         push_entry(alloc, &mut log, entry)?;
@@ -86,7 +86,7 @@ fn is_step(given: &Step, line: &Line) -> bool {
     are_lits(given.clause.lits(), words) && given.hints.as_slice() == *hints
 }
 
-fn are_steps(given: &[Step], lines: &[Line]) -> bool {
+pub fn are_steps(given: &[Step], lines: &[Line]) -> bool {
     given.len() == lines.len()
         && given
             .iter()
@@ -219,7 +219,7 @@ fn logs_that_can_and_cannot_be_numbered(rt: HostRuntime) -> Result<(), Fail> {
 }
 
 // Two free variables, and the clauses {a, b} and {a, not b}.
-const TWO: Rows = Rows {
+pub const TWO: Rows = Rows {
     points: 0,
     kinds: &[Kind::Free, Kind::Free],
     edges: &[],

@@ -9,8 +9,16 @@ mod difference;
 #[cfg(test)]
 mod fixture;
 #[cfg(test)]
+mod meeting;
+#[cfg(test)]
+mod memory_mail;
+#[cfg(test)]
+mod passing;
+#[cfg(test)]
 mod sat;
 #[cfg(test)]
 mod search;
+#[cfg(test)]
+mod small_cones;
 #[cfg(test)]
 mod working;

@@ -7,14 +7,14 @@ use crate::fixture::{
     query_of,
 };
 use gp_clause::{Edge, Kind, Problem, Query};
-use gp_search::{Search, Verdict};
+use gp_search::{NoMail, Search, Verdict};
 use std::alloc::Global;
 use std::process::Abort;
 use std::test::Fail;
 
 // 1 verdict: the entries that were learned, the last clause of a certificate, or literals that are true.
 #[derive(Drop, Clone, Copy)]
-enum Due<'a> {
+pub enum Due<'a> {
     Spent(u32, u32),
     Refuted(&'a [i32]),
     Model(&'a [i32]),
@@ -30,7 +30,7 @@ fn all_true(truth: &[bool], words: &[i32]) -> bool {
 }
 
 // Whether a verdict is the one that is due. The places of a model keep these edges.
-fn is_due(verdict: &Verdict, due: &Due, kept: &[Edge]) -> bool {
+pub fn is_due(verdict: &Verdict, due: &Due, kept: &[Edge]) -> bool {
     match (verdict, due) {
         (Verdict::Spent { from, to }, Due::Spent(first, end)) => from == first && to == end,
         (Verdict::Refuted(certificate), Due::Refuted(lits)) => {
@@ -77,7 +77,8 @@ fn is_answered(
     assert!(rt; is_asked(problem, query));
     assert!(rt; problem.clauses.len() < 1000 && search.log().len() < 1000);
     assert!(rt; 0 < *budget && *budget < 1000);
-    let verdict = search.ask(query, *budget)?;
+    let mut mail = NoMail::new(problem);
+    let verdict = search.ask(query, *budget, &mut mail)?;
     Ok(is_due(&verdict, due, kept) && has_length(search.log().len(), *logged))
 }
 

@@ -3,12 +3,14 @@ ghost use Rattle.gp_clause.specs.Problem.{IsValidProblem, IsValidQuery};
 ghost use Rattle.gp_workers.specs.Work.{CanBeWorked};
 
 use crate::fixture::{EIGHT, FREE, Rows, is_asked, is_solvable, is_valid, problem_of, query_of};
+use crate::meeting::MeetGate;
 use gp_clause::{Problem, Query};
-use gp_derivation::WorkerRecord;
+use gp_derivation::{LogEntry, Offered, Origin, Sent, Turn, WorkerRecord};
 use gp_outside::{FreeGate, Gate, HoldGate};
 use gp_workers::{Tickets, WindowWork, WorkAnswer, work_all};
 use std::alloc::{AllocError, Global};
 use std::process::Abort;
+use std::sync::Wait;
 use std::test::Fail;
 use std::thread::Threads;
 
@@ -100,27 +102,75 @@ fn is_due(alloc: Global, work: &WindowWork, workers: usize) -> Result<bool, Allo
     )
 }
 
-// Whether so many workers refute each query, in one turn for each.
-fn refute<R: Threads + Sync + Abort, G: Gate + Sync>(
+// Whether an offer was pushed to each of so many others.
+fn is_pushed(offered: &Offered, others: usize) -> bool {
+    offered.sent.len() == others
+        && offered
+            .sent
+            .as_slice()
+            .iter()
+            .all(|sent| *sent == Sent::Pushed)
+}
+
+// Whether all that a worker offered was pushed to each of so many others.
+fn are_pushed(worker: &WorkerRecord, others: usize) -> bool {
+    worker
+        .offered
+        .as_slice()
+        .iter()
+        .all(|offered| is_pushed(offered, others))
+}
+
+fn offers_none(worker: &WorkerRecord) -> bool {
+    worker.offered.is_empty()
+}
+
+// Whether a worker shares nothing alone, and so many share what they learned: there is a pass of each one's inbox, some of
+// them offered a clause, and all that they offered was pushed.
+fn shares(work: &WindowWork, workers: usize) -> bool {
+    let records = work.records.as_slice();
+    let none = records.iter().all(offers_none);
+    if workers == 1 {
+        return none && work.passes.is_empty();
+    }
+    let others = workers.saturating_sub(1);
+    !none && work.passes.len() == workers && records.iter().all(|worker| are_pushed(worker, others))
+}
+
+// The work of so many workers on these queries.
+fn work_on<R: Threads + Wait + Sync + Abort, G: Gate + Sync>(
     rt: &R,
     alloc: Global,
     problem: &Problem,
     queries: &[Query],
     workers: u32,
     gate: &G,
-) -> Result<bool, Fail>
+) -> Result<WindowWork, Fail>
     requires { (1 ≤ workers) × (workers ≤ 16) }
 {
     assert!(rt; is_valid(problem));
     assert!(rt; is_solvable(&[], problem.edges.as_slice()));
     assert!(rt; are_asked(problem, queries));
     assert!(rt; are_few(problem, queries));
-    let work = work_all(rt, alloc, problem, queries, workers, BUDGET, gate)?;
-    Ok(is_due(alloc, &work, workers as usize)?)
+    Ok(work_all(rt, alloc, problem, queries, workers, BUDGET, gate)?)
 }
 
-// Whether so many workers refute three queries that assume nothing, in one turn for each.
-fn refute_three<R: Threads + Sync + Abort, G: Gate + Sync>(
+// The work of so many workers on three queries that assume nothing.
+fn work_on_three<R: Threads + Wait + Sync + Abort, G: Gate + Sync>(
+    rt: &R,
+    alloc: Global,
+    workers: u32,
+    gate: &G,
+) -> Result<WindowWork, Fail>
+    requires { (1 ≤ workers) × (workers ≤ 16) }
+{
+    let problem = problem_of(alloc, &ROWS)?;
+    let queries = queries(alloc)?;
+    work_on(rt, alloc, &problem, queries.as_slice(), workers, gate)
+}
+
+// Whether so many workers refute three queries, in one turn for each, and share what they learn.
+fn refute_three<R: Threads + Wait + Sync + Abort, G: Gate + Sync>(
     rt: &R,
     alloc: Global,
     workers: u32,
@@ -128,18 +178,23 @@ fn refute_three<R: Threads + Sync + Abort, G: Gate + Sync>(
 ) -> Result<bool, Fail>
     requires { (1 ≤ workers) × (workers ≤ 16) }
 {
-    let problem = problem_of(alloc, &ROWS)?;
-    let queries = queries(alloc)?;
-    refute(rt, alloc, &problem, queries.as_slice(), workers, gate)
+    let work = work_on_three(rt, alloc, workers, gate)?;
+    let workers = workers as usize;
+    Ok(is_due(alloc, &work, workers)? && shares(&work, workers))
 }
 
-// Whether one worker and sixteen do, and two, of which the second passes the gate while the first is held at it.
-fn crews_refute_three<R: Threads + Sync + Abort>(rt: &R, alloc: Global) -> Result<bool, Fail> {
+// Whether one worker, two, four and sixteen do, and two, of which the second passes the gate while the first is held at it.
+fn crews_refute_three<R: Threads + Wait + Sync + Abort>(
+    rt: &R,
+    alloc: Global,
+) -> Result<bool, Fail> {
     let gate = HoldGate::new(10_000_000);
     Ok(
         refute_three(rt, alloc, 1, &FreeGate)?
             && refute_three(rt, alloc, 2, &gate)?
             && gate.met()
+            && refute_three(rt, alloc, 2, &FreeGate)?
+            && refute_three(rt, alloc, 4, &FreeGate)?
             && refute_three(rt, alloc, 16, &FreeGate)?,
     )
 }
@@ -147,5 +202,59 @@ fn crews_refute_three<R: Threads + Sync + Abort>(rt: &R, alloc: Global) -> Resul
 #[test]
 fn several_workers_refute_what_one_refutes(rt: HostRuntime) -> Result<(), Fail> {
     assert!(rt; crews_refute_three(&rt, rt.alloc())?);
+    Ok(())
+}
+
+// Whether an entry was taken from the worker of this number.
+fn is_taken(entry: &LogEntry, number: u32) -> bool {
+    match &entry.origin {
+        Origin::Learned => false,
+        Origin::Taken { sender, .. } => *sender == number,
+    }
+}
+
+// Whether a turn begins with entries of a log that were taken from the worker of this number.
+fn begins_by_taking(log: &[LogEntry], turn: &Turn, number: u32) -> bool {
+    let Some(taken) = log.get(turn.begins as usize..turn.learned as usize) else {
+        return false;
+    };
+    !taken.is_empty() && taken.iter().all(|entry| is_taken(entry, number))
+}
+
+// Whether the first turn of a worker begins with entries that were taken from the worker of this number.
+fn begins_with_taken(worker: &WorkerRecord, number: u32) -> bool {
+    match worker.turns.as_slice().first() {
+        Some(turn) => begins_by_taking(worker.log.as_slice(), turn, number),
+        None => false,
+    }
+}
+
+// Whether the first of two workers begins with what the second one learned and pushed.
+fn takes_from_second(work: &WindowWork) -> bool {
+    match work.records.as_slice() {
+        [first, second] => {
+            begins_with_taken(first, 2) && !second.offered.is_empty() && are_pushed(second, 1)
+        }
+        _ => false,
+    }
+}
+
+// Whether two workers refute three queries, and the first, held until the second has answered one, begins with what that
+// one learned.
+fn two_meet<R: Threads + Wait + Sync + Abort>(
+    rt: &R,
+    alloc: Global,
+    gate: &MeetGate,
+) -> Result<bool, Fail> {
+    let work = work_on_three(rt, alloc, 2, gate)?;
+    Ok(is_due(alloc, &work, 2)? && shares(&work, 2) && takes_from_second(&work))
+}
+
+#[test]
+fn a_worker_begins_with_what_another_learned(rt: HostRuntime) -> Result<(), Fail> {
+    let gate = MeetGate::new(10_000_000);
+    let taken = two_meet(&rt, rt.alloc(), &gate);
+    assert!(rt; gate.met(), "the turns were spent before the workers met");
+    assert!(rt; taken?);
     Ok(())
 }

@@ -4,6 +4,7 @@ use gp_outside::{FreeGate, MemoryFolder, MemorySink};
 use gp_predict::{Outcome, run};
 use std::alloc::{AllocError, Global};
 use std::process::ExitCode;
+use std::sync::Wait;
 use std::test::Fail;
 use std::thread::Threads;
 
@@ -88,7 +89,7 @@ impl Script {
 }
 
 /// What a run with these words on these files ends with, and its sink, where this fails.
-fn run_on<R: AllocGlobal + Threads + Sync>(
+fn run_on<R: AllocGlobal + Threads + Wait + Sync>(
     rt: &R,
     words: &[String],
     files: Files,
@@ -101,7 +102,7 @@ fn run_on<R: AllocGlobal + Threads + Sync>(
 }
 
 /// Whether words on these files, where this fails, end with this status and write this text.
-fn runs_to<R: AllocGlobal + Threads + Sync>(
+fn runs_to<R: AllocGlobal + Threads + Wait + Sync>(
     rt: &R,
     words: &[String],
     files: Files,
@@ -114,7 +115,7 @@ fn runs_to<R: AllocGlobal + Threads + Sync>(
 }
 
 /// Whether a task on these files ends with this status and writes this text.
-fn ends<R: AllocGlobal + Threads + Sync>(
+fn ends<R: AllocGlobal + Threads + Wait + Sync>(
     rt: &R,
     task: &str,
     files: Files,
@@ -129,7 +130,7 @@ fn ends<R: AllocGlobal + Threads + Sync>(
 
 /// Whether a task on a recording and the file that the task reads ends with this status and writes this
 /// text.
-fn task_ends<R: AllocGlobal + Threads + Sync>(
+fn task_ends<R: AllocGlobal + Threads + Wait + Sync>(
     rt: &R,
     task: &str,
     recorded: [&str; 3],
@@ -147,7 +148,7 @@ fn task_ends<R: AllocGlobal + Threads + Sync>(
 type Run<'a> = ([&'a str; 3], &'a str, u8, &'a str);
 
 /// Whether a task ends as told on each of these.
-fn runs_hold<R: AllocGlobal + Threads + Sync>(
+fn runs_hold<R: AllocGlobal + Threads + Wait + Sync>(
     rt: &R,
     task: &str,
     runs: &[Run],
@@ -164,7 +165,7 @@ fn runs_hold<R: AllocGlobal + Threads + Sync>(
 type Texts<'a> = [&'a str; 4];
 
 /// Whether a task on these texts, with another one at a place, is refused as told.
-fn is_refused<'a, R: AllocGlobal + Threads + Sync>(
+fn is_refused<'a, R: AllocGlobal + Threads + Wait + Sync>(
     rt: &R,
     task: &str,
     mut texts: Texts<'a>,
@@ -179,7 +180,7 @@ fn is_refused<'a, R: AllocGlobal + Threads + Sync>(
 }
 
 /// Whether a task on these texts is refused as told with each of those at a place.
-fn refusals_hold<'a, R: AllocGlobal + Threads + Sync>(
+fn refusals_hold<'a, R: AllocGlobal + Threads + Wait + Sync>(
     rt: &R,
     task: &str,
     texts: Texts<'a>,
@@ -203,7 +204,7 @@ fn lengthen(bytes: &mut Vec<u8>, length: usize) -> Result<(), AllocError> {
 }
 
 /// What replaying `1.0 1.0` ends with, which is stuck at once.
-fn stuck_code<R: AllocGlobal + Threads + Sync>(rt: &R) -> Result<ExitCode, AllocError> {
+fn stuck_code<R: AllocGlobal + Threads + Wait + Sync>(rt: &R) -> Result<ExitCode, AllocError> {
     let alloc = rt.alloc();
     let mut files = recording(alloc, [ONE_ROOT, AUTH, USE])?;
     add(&mut files, alloc, "schedule", "window 1\n1.0 1.0\n")?;

@@ -11,6 +11,7 @@ use super::{
     words_of, words_with,
 };
 use std::alloc::{AllocError, Global};
+use std::sync::Wait;
 use std::test::Fail;
 use std::thread::Threads;
 
@@ -40,7 +41,7 @@ fn without_certificates(alloc: Global, text: &[u8]) -> Result<Vec<u8>, AllocErro
 
 /// Whether words on these files end with this status, keep a report exactly where one is due, and write
 /// this text but for the certificates.
-fn answers<R: AllocGlobal + Threads + Sync>(
+fn answers<R: AllocGlobal + Threads + Wait + Sync>(
     rt: &R,
     words: &[String],
     files: Files,
@@ -57,7 +58,7 @@ fn answers<R: AllocGlobal + Threads + Sync>(
 }
 
 /// Whether task analyse on a recording of two threads and its properties ends so.
-fn analysis_ends<R: AllocGlobal + Threads + Sync>(
+fn analysis_ends<R: AllocGlobal + Threads + Wait + Sync>(
     rt: &R,
     recorded: [&str; 3],
     props: &str,
@@ -76,7 +77,7 @@ fn analysis_ends<R: AllocGlobal + Threads + Sync>(
 }
 
 /// Whether task analyse ends as told on each of these.
-fn analyses_hold<R: AllocGlobal + Threads + Sync>(
+fn analyses_hold<R: AllocGlobal + Threads + Wait + Sync>(
     rt: &R,
     runs: &[Run],
 ) -> Result<bool, AllocError> {
@@ -164,20 +165,31 @@ fn instances_are_answered(rt: HostRuntime) -> Result<(), Fail> {
     Ok(())
 }
 
+/// Whether so many workers answer the instances of a property in a recording of two threads by this text.
+fn workers_answer<R: AllocGlobal + Threads + Wait + Sync>(
+    rt: &R,
+    workers: &str,
+    recorded: [&str; 3],
+    property: &str,
+    text: &str,
+) -> Result<bool, AllocError> {
+    let mut files = recording(rt.alloc(), recorded)?;
+    add(&mut files, rt.alloc(), "props", property)?;
+    let words = words_with(rt.alloc(), &[ANALYSE, workers, "d"])?;
+    answers(rt, words.as_slice(), files, 1, text)
+}
+
 /// Whether so many workers find the one instance by the one schedule that shows it.
-fn workers_find_it<R: AllocGlobal + Threads + Sync>(
+fn workers_find_it<R: AllocGlobal + Threads + Wait + Sync>(
     rt: &R,
     workers: &str,
 ) -> Result<bool, AllocError> {
     let text =
         "gpredict 1\nbudget 200\nwindow 1\nproperty late_auth 1\ninstance 0 2.0 1.1\nfound 3\n1.0 2.0 1.1\nsummary 1 0 0\n";
-    let mut files = recording(rt.alloc(), [ONE_ROOT, AUTH, USE])?;
-    add(&mut files, rt.alloc(), "props", LATE_AUTH)?;
-    let words = words_with(rt.alloc(), &[ANALYSE, workers, "d"])?;
-    answers(rt, words.as_slice(), files, 1, text)
+    workers_answer(rt, workers, [ONE_ROOT, AUTH, USE], LATE_AUTH, text)
 }
 
-fn all_workers_find_it<R: AllocGlobal + Threads + Sync>(rt: &R) -> Result<bool, AllocError> {
+fn all_workers_find_it<R: AllocGlobal + Threads + Wait + Sync>(rt: &R) -> Result<bool, AllocError> {
     Ok(
         workers_find_it(rt, "--workers=1")?
             && workers_find_it(rt, "--workers=4")?
@@ -188,6 +200,41 @@ fn all_workers_find_it<R: AllocGlobal + Threads + Sync>(rt: &R) -> Result<bool, 
 #[test]
 fn any_number_of_workers_answers_alike(rt: HostRuntime) -> Result<(), Fail> {
     assert!(rt; all_workers_find_it(&rt)?);
+    Ok(())
+}
+
+/// An operation in every other of eight windows, from the first.
+const EVERY_OTHER: &str = "op a\nmark\nmark\nop a\nmark\nmark\nop a\nmark\nmark\nop a\nmark\n";
+
+/// An operation in each of eight windows.
+const EACH: &str =
+    "op b\nmark\nop b\nmark\nop b\nmark\nop b\nmark\nop b\nmark\nop b\nmark\nop b\nmark\nop b\n";
+
+/// Whether so many workers tell eight windows in order: two draw them by ticket, and sixteen are too many for that.
+fn workers_tell_eight<R: AllocGlobal + Threads + Wait + Sync>(
+    rt: &R,
+    workers: &str,
+) -> Result<bool, AllocError> {
+    let manifest = "gptrace 1\nthreads 2\nepochs 8\nroots 1 2\n";
+    let property = "property ba\nevent a op a\nevent b op b\npattern b@u a@t\n";
+    let text =
+        "gpredict 1\nbudget 200\nwindow 1\nproperty ba 1\ninstance 0 2.0 1.0\nfound 2\n2.0 1.0\nwindow 2\nproperty ba 0\nwindow 3\nproperty ba 1\ninstance 0 2.0 1.0\nfound 2\n2.0 1.0\nwindow 4\nproperty ba 0\nwindow 5\nproperty ba 1\ninstance 0 2.0 1.0\nfound 2\n2.0 1.0\nwindow 6\nproperty ba 0\nwindow 7\nproperty ba 1\ninstance 0 2.0 1.0\nfound 2\n2.0 1.0\nwindow 8\nproperty ba 0\nsummary 4 0 0\n";
+    workers_answer(rt, workers, [manifest, EVERY_OTHER, EACH], property, text)
+}
+
+fn all_workers_tell_eight<R: AllocGlobal + Threads + Wait + Sync>(
+    rt: &R,
+) -> Result<bool, AllocError> {
+    Ok(
+        workers_tell_eight(rt, "--workers=1")?
+            && workers_tell_eight(rt, "--workers=2")?
+            && workers_tell_eight(rt, "--workers=16")?,
+    )
+}
+
+#[test]
+fn windows_that_are_drawn_are_told_in_order(rt: HostRuntime) -> Result<(), Fail> {
+    assert!(rt; all_workers_tell_eight(&rt)?);
     Ok(())
 }
 
@@ -234,7 +281,9 @@ fn each_window_is_answered_by_itself(rt: HostRuntime) -> Result<(), Fail> {
 
 /// Whether a read beside a write is answered where both threads share the lock: which one takes it first
 /// is free of choice.
-fn shared_lock_is_answered<R: AllocGlobal + Threads + Sync>(rt: &R) -> Result<bool, AllocError> {
+fn shared_lock_is_answered<R: AllocGlobal + Threads + Wait + Sync>(
+    rt: &R,
+) -> Result<bool, AllocError> {
     let texts = [
         "gpredict 1\nbudget 200\nwindow 1\nproperty adj 1\ninstance 0 1.1 2.1\nfound 4\n1.0 2.0 1.1 2.1\nsummary 1 0 0\n",
         "gpredict 1\nbudget 200\nwindow 1\nproperty adj 1\ninstance 0 1.1 2.1\nfound 4\n2.0 1.0 1.1 2.1\nsummary 1 0 0\n",
@@ -283,7 +332,7 @@ fn alone(alloc: Global, count: usize, props: &str) -> Result<Files, AllocError> 
 
 /// Whether task analyse on a recording of one thread that did `op a` so many times ends so, where it is
 /// asked for `op b`.
-fn size_ends<R: AllocGlobal + Threads + Sync>(
+fn size_ends<R: AllocGlobal + Threads + Wait + Sync>(
     rt: &R,
     count: usize,
     text: &str,
@@ -298,7 +347,7 @@ fn size_ends<R: AllocGlobal + Threads + Sync>(
     )
 }
 
-fn sizes_end_so<R: AllocGlobal + Threads + Sync>(rt: &R) -> Result<bool, AllocError> {
+fn sizes_end_so<R: AllocGlobal + Threads + Wait + Sync>(rt: &R) -> Result<bool, AllocError> {
     let large = "gpredict 1\nbudget 200\nwindow 1\ntoolarge 2049 0\nsummary 0 0 0\n";
     let none = "gpredict 1\nbudget 200\nwindow 1\nproperty p 0\nsummary 0 0 0\n";
     Ok(size_ends(rt, 2_049, large)? && size_ends(rt, 2_048, none)? && size_ends(rt, 0, none)?)
@@ -310,7 +359,7 @@ fn a_window_has_2048_events_at_most(rt: HostRuntime) -> Result<(), Fail> {
     Ok(())
 }
 
-fn too_many_are_told<R: AllocGlobal + Threads + Sync>(rt: &R) -> Result<bool, AllocError> {
+fn too_many_are_told<R: AllocGlobal + Threads + Wait + Sync>(rt: &R) -> Result<bool, AllocError> {
     let pairs = "property p\nevent a op a\nevent b op b\npattern a@t b@u\n";
     let text = "gpredict 1\nbudget 200\nwindow 1\nproperty p toomany\nsummary 0 0 0\n";
     let files = many_pairs(rt.alloc(), "", pairs)?;
@@ -330,7 +379,7 @@ fn too_many_instances_are_not_answered(rt: HostRuntime) -> Result<(), Fail> {
 }
 
 /// Whether task analyse with this budget on a recording of so many instances ends so.
-fn limit_ends<R: AllocGlobal + Threads + Sync>(
+fn limit_ends<R: AllocGlobal + Threads + Wait + Sync>(
     rt: &R,
     budget: &str,
     count: usize,
@@ -350,7 +399,7 @@ fn limit_ends<R: AllocGlobal + Threads + Sync>(
     ))
 }
 
-fn limits_hold<R: AllocGlobal + Threads + Sync>(rt: &R) -> Result<bool, AllocError> {
+fn limits_hold<R: AllocGlobal + Threads + Wait + Sync>(rt: &R) -> Result<bool, AllocError> {
     let one =
         "gpredict 1\nbudget 1000000\nwindow 1\nproperty p 1\ninstance 0 1.0\nfound 1\n1.0\nsummary 1 0 0\n";
     Ok(

@@ -5,6 +5,7 @@ use super::{
     words_of,
 };
 use std::alloc::{AllocError, Global};
+use std::sync::Wait;
 use std::test::Fail;
 use std::thread::Threads;
 
@@ -39,7 +40,7 @@ fn unreported(alloc: Global, recorded: &Recorded) -> Result<Files, AllocError> {
 }
 
 /// Whether a task on a report on what is recorded ends with this status and writes this text.
-pub fn report_ends<R: AllocGlobal + Threads + Sync>(
+pub fn report_ends<R: AllocGlobal + Threads + Wait + Sync>(
     rt: &R,
     task: &str,
     recorded: &Recorded,
@@ -57,7 +58,7 @@ pub fn report_ends<R: AllocGlobal + Threads + Sync>(
 /// What is recorded, a report on it, and the status and the text that task check ends with.
 type Verdict<'a> = (Recorded<'a>, &'a str, u8, &'a str);
 
-fn verdicts_hold<R: AllocGlobal + Threads + Sync>(
+fn verdicts_hold<R: AllocGlobal + Threads + Wait + Sync>(
     rt: &R,
     rows: &[Verdict],
 ) -> Result<bool, AllocError> {
@@ -122,7 +123,7 @@ pub const SINGLE: [Recorded; 7] = [
 ];
 
 /// What task analyse prints on what is recorded.
-pub fn analysed<R: AllocGlobal + Threads + Sync>(
+pub fn analysed<R: AllocGlobal + Threads + Wait + Sync>(
     rt: &R,
     recorded: &Recorded,
 ) -> Result<Vec<u8>, AllocError> {
@@ -134,7 +135,7 @@ pub fn analysed<R: AllocGlobal + Threads + Sync>(
 }
 
 /// Whether the report on one instance is accepted.
-fn is_accepted<R: AllocGlobal + Threads + Sync>(
+fn is_accepted<R: AllocGlobal + Threads + Wait + Sync>(
     rt: &R,
     recorded: &Recorded,
 ) -> Result<bool, AllocError> {
@@ -142,7 +143,7 @@ fn is_accepted<R: AllocGlobal + Threads + Sync>(
     report_ends(rt, CHECK, recorded, report.as_slice(), 0, "accepted 1\n")
 }
 
-fn are_accepted<R: AllocGlobal + Threads + Sync>(
+fn are_accepted<R: AllocGlobal + Threads + Wait + Sync>(
     rt: &R,
     all: &[Recorded],
 ) -> Result<bool, AllocError> {
@@ -160,7 +161,7 @@ fn what_analyse_prints_is_accepted(rt: HostRuntime) -> Result<(), Fail> {
 }
 
 /// Whether task check is refused so on these properties, where there is no report.
-fn absence_is_refused<R: AllocGlobal + Threads + Sync>(
+fn absence_is_refused<R: AllocGlobal + Threads + Wait + Sync>(
     rt: &R,
     props: &str,
     text: &str,
@@ -173,7 +174,9 @@ fn absence_is_refused<R: AllocGlobal + Threads + Sync>(
     Ok(runs_to(rt, words.as_slice(), files, script, 3, text))
 }
 
-fn absences_are_refused<R: AllocGlobal + Threads + Sync>(rt: &R) -> Result<bool, AllocError> {
+fn absences_are_refused<R: AllocGlobal + Threads + Wait + Sync>(
+    rt: &R,
+) -> Result<bool, AllocError> {
     Ok(
         absence_is_refused(rt, LATE_AUTH, "refused report absent\n")?
             && absence_is_refused(rt, "foo\n", "refused props 1 badword\n")?,

@@ -5,6 +5,7 @@ use super::{
     ANALYSE, AUTH, ONE_ROOT, Script, USE, add, recording, run_on, runs_to, words_of, words_with,
 };
 use std::alloc::AllocError;
+use std::sync::Wait;
 use std::test::Fail;
 use std::thread::Threads;
 
@@ -21,7 +22,7 @@ const SHARED_STEP: &str =
 /// A task that reads a report, a report on `WAITING`, and the status and the text that the task ends with.
 type Reading<'a> = (&'a str, &'a str, u8, &'a str);
 
-fn readings_hold<R: AllocGlobal + Threads + Sync>(
+fn readings_hold<R: AllocGlobal + Threads + Wait + Sync>(
     rt: &R,
     rows: &[Reading],
 ) -> Result<bool, AllocError> {
@@ -59,7 +60,7 @@ fn steps_of_the_window_are_told_once(rt: HostRuntime) -> Result<(), Fail> {
 }
 
 /// What task compact prints for a report on what is recorded.
-fn compacted<R: AllocGlobal + Threads + Sync>(
+fn compacted<R: AllocGlobal + Threads + Wait + Sync>(
     rt: &R,
     recorded: &Recorded,
     report: &[u8],
@@ -72,7 +73,7 @@ fn compacted<R: AllocGlobal + Threads + Sync>(
 }
 
 /// Whether a compact report is accepted as the report that it was made of is, and stays as it is where it is made compact.
-fn stays_compact<R: AllocGlobal + Threads + Sync>(
+fn stays_compact<R: AllocGlobal + Threads + Wait + Sync>(
     rt: &R,
     recorded: &Recorded,
 ) -> Result<bool, AllocError> {
@@ -86,7 +87,7 @@ fn stays_compact<R: AllocGlobal + Threads + Sync>(
     )
 }
 
-fn all_stay_compact<R: AllocGlobal + Threads + Sync>(
+fn all_stay_compact<R: AllocGlobal + Threads + Wait + Sync>(
     rt: &R,
     all: &[Recorded],
 ) -> Result<bool, AllocError> {
@@ -104,7 +105,9 @@ fn compact_reports_are_accepted_and_stay_so(rt: HostRuntime) -> Result<(), Fail>
 }
 
 /// Whether the report that is kept and printed is a compact one.
-fn is_analysed_compactly<R: AllocGlobal + Threads + Sync>(rt: &R) -> Result<bool, AllocError> {
+fn is_analysed_compactly<R: AllocGlobal + Threads + Wait + Sync>(
+    rt: &R,
+) -> Result<bool, AllocError> {
     let text =
         "gpredict 2\nbudget 200\nwindow 1\nshared 0\nproperty late_auth 1\ninstance 0 2.0 1.1\nfound 3\n1.0 2.0 1.1\nsummary 1 0 0\n";
     let alloc = rt.alloc();

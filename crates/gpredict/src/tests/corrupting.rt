@@ -5,6 +5,7 @@ use super::words_with;
 use gp_outside::{Folder, FreeGate, MemoryFolder, MemorySink};
 use gp_predict::run;
 use std::alloc::{AllocError, Global};
+use std::sync::Wait;
 use std::test::Fail;
 use std::thread::Threads;
 
@@ -121,7 +122,7 @@ fn is_verdict(status: u8, text: &[u8]) -> bool {
 }
 
 /// Whether task check on this report has a verdict.
-fn ends_in_a_verdict<R: AllocGlobal + Threads + Sync>(
+fn ends_in_a_verdict<R: AllocGlobal + Threads + Wait + Sync>(
     rt: &R,
     folder: &mut MemoryFolder,
     report: &[u8],
@@ -133,7 +134,7 @@ fn ends_in_a_verdict<R: AllocGlobal + Threads + Sync>(
     Ok(is_verdict(outcome.status, sink.bytes()))
 }
 
-fn all_end_in_a_verdict<R: AllocGlobal + Threads + Sync>(rt: &R) -> Result<bool, Fail> {
+fn all_end_in_a_verdict<R: AllocGlobal + Threads + Wait + Sync>(rt: &R) -> Result<bool, Fail> {
     let mut folder = large_folder(rt)?;
     let report = large_report(rt, &mut folder, "--workers=1", &FreeGate)?;
     let mut hold = true;

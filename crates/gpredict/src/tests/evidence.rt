@@ -18,6 +18,7 @@ use gp_property::{Property, read_properties};
 use gp_report::{Answer, Report};
 use gp_window::{Window, cut, read_recording};
 use std::alloc::{AllocError, Global};
+use std::sync::Wait;
 use std::test::Fail;
 use std::thread::Threads;
 
@@ -137,7 +138,7 @@ fn refutes_recorded<R: AllocGlobal + Threads + Sync>(
 }
 
 /// The report of an analysis by one worker with this budget.
-fn report_of<R: AllocGlobal + Threads + Sync>(
+fn report_of<R: AllocGlobal + Threads + Wait + Sync>(
     rt: &R,
     recorded: &Recorded,
     budget: &str,
@@ -149,7 +150,10 @@ fn report_of<R: AllocGlobal + Threads + Sync>(
 }
 
 /// Whether the last window of what is recorded has one instance, and the certificate in its report refutes it.
-fn is_refuted<R: AllocGlobal + Threads + Sync>(rt: &R, recorded: &Recorded) -> Result<bool, Fail> {
+fn is_refuted<R: AllocGlobal + Threads + Wait + Sync>(
+    rt: &R,
+    recorded: &Recorded,
+) -> Result<bool, Fail> {
     let Some(report) = report_of(rt, recorded, "--budget=200")? else {
         return Ok(false);
     };
@@ -159,7 +163,10 @@ fn is_refuted<R: AllocGlobal + Threads + Sync>(rt: &R, recorded: &Recorded) -> R
     }
 }
 
-fn are_refuted<R: AllocGlobal + Threads + Sync>(rt: &R, all: &[Recorded]) -> Result<bool, Fail> {
+fn are_refuted<R: AllocGlobal + Threads + Wait + Sync>(
+    rt: &R,
+    all: &[Recorded],
+) -> Result<bool, Fail> {
     let mut hold = true;
     for recorded in all {
         hold &= is_refuted(rt, recorded)?;
@@ -232,7 +239,7 @@ const TWO_WRITES: Recorded = (
     LATE_AUTH,
 );
 
-fn ends_spent<R: AllocGlobal + Threads + Sync>(rt: &R) -> Result<bool, AllocError> {
+fn ends_spent<R: AllocGlobal + Threads + Wait + Sync>(rt: &R) -> Result<bool, AllocError> {
     let report = report_of(rt, &TWO_WRITES, "--budget=1")?;
     Ok(report.is_some_and(|report| is_spent(&report, 1)))
 }

@@ -7,6 +7,7 @@ use super::{ANALYSE, AUTH, Files, LIST, ONE_ROOT, REPLAY, Script, USE, runs_to, 
 use gp_outside::{FreeGate, MemoryFolder, MemorySink};
 use gp_predict::{Outcome, run};
 use std::alloc::{AllocError, Global};
+use std::sync::Wait;
 use std::test::Fail;
 use std::thread::Threads;
 
@@ -146,7 +147,7 @@ fn are_left(files: &[(String, Vec<u8>)], made: &[(&str, &str)]) -> bool {
 }
 
 /// What a run on the files ends with where this fails, its sink and its folder.
-fn run_where<R: AllocGlobal + Threads + Sync>(
+fn run_where<R: AllocGlobal + Threads + Wait + Sync>(
     rt: &R,
     words: &[&str],
     script: Script,
@@ -159,7 +160,7 @@ fn run_where<R: AllocGlobal + Threads + Sync>(
 }
 
 /// Whether a run on the files ends so where this fails.
-fn ends_so<R: AllocGlobal + Threads + Sync>(
+fn ends_so<R: AllocGlobal + Threads + Wait + Sync>(
     rt: &R,
     words: &[&str],
     script: Script,
@@ -175,7 +176,7 @@ fn ends_so<R: AllocGlobal + Threads + Sync>(
 }
 
 /// Whether a run ends so where the call of the folder after so many fails.
-fn call_ends<R: AllocGlobal + Threads + Sync>(
+fn call_ends<R: AllocGlobal + Threads + Wait + Sync>(
     rt: &R,
     words: &[&str],
     calls: usize,
@@ -201,7 +202,10 @@ fn end_of_calls<'a>(job: &Job<'a>, calls: usize) -> End<'a> {
 }
 
 /// Whether a job ends as it has to where each of its calls of the folder fails in turn, and makes no other call.
-fn calls_end_so<R: AllocGlobal + Threads + Sync>(rt: &R, job: &Job) -> Result<bool, AllocError> {
+fn calls_end_so<R: AllocGlobal + Threads + Wait + Sync>(
+    rt: &R,
+    job: &Job,
+) -> Result<bool, AllocError> {
     let mut hold = call_ends(rt, job.words, job.calls, &job.end)?;
     for calls in 0..job.calls {
         hold &= call_ends(rt, job.words, calls, &end_of_calls(job, calls))?;
@@ -209,7 +213,7 @@ fn calls_end_so<R: AllocGlobal + Threads + Sync>(rt: &R, job: &Job) -> Result<bo
     Ok(hold)
 }
 
-fn all_calls_end_so<R: AllocGlobal + Threads + Sync>(rt: &R) -> Result<bool, AllocError> {
+fn all_calls_end_so<R: AllocGlobal + Threads + Wait + Sync>(rt: &R) -> Result<bool, AllocError> {
     let mut hold = true;
     for job in &JOBS {
         hold &= calls_end_so(rt, job)?;
@@ -224,7 +228,7 @@ fn each_call_of_the_folder_may_fail(rt: HostRuntime) -> Result<(), Fail> {
 }
 
 /// Whether words on these files end so where this call of the folder fails.
-fn call_fault_ends<R: AllocGlobal + Threads + Sync>(
+fn call_fault_ends<R: AllocGlobal + Threads + Wait + Sync>(
     rt: &R,
     words: &[&str],
     files: Files,
@@ -242,7 +246,7 @@ fn call_fault_ends<R: AllocGlobal + Threads + Sync>(
 }
 
 /// Whether the check of a report with a certificate ends so where this call fails.
-fn check_fault_ends<R: AllocGlobal + Threads + Sync>(
+fn check_fault_ends<R: AllocGlobal + Threads + Wait + Sync>(
     rt: &R,
     call: u64,
     status: u8,
@@ -253,7 +257,7 @@ fn check_fault_ends<R: AllocGlobal + Threads + Sync>(
 }
 
 /// Whether that check ends as it has to where each of its five calls fails in turn.
-fn check_faults_end_so<R: AllocGlobal + Threads + Sync>(rt: &R) -> Result<bool, AllocError> {
+fn check_faults_end_so<R: AllocGlobal + Threads + Wait + Sync>(rt: &R) -> Result<bool, AllocError> {
     let mut hold = check_fault_ends(rt, 6, 0, "accepted 1\n")?;
     for call in 1..6u64 {
         hold &= check_fault_ends(rt, call, 4, "")?;
@@ -262,7 +266,7 @@ fn check_faults_end_so<R: AllocGlobal + Threads + Sync>(rt: &R) -> Result<bool, 
 }
 
 /// Whether making 600 events of four threads ends as it has to where each of its six calls fails in turn.
-fn make_faults_end_so<R: AllocGlobal + Threads + Sync>(rt: &R) -> Result<bool, AllocError> {
+fn make_faults_end_so<R: AllocGlobal + Threads + Wait + Sync>(rt: &R) -> Result<bool, AllocError> {
     let mut hold = call_fault_ends(rt, &LARGE, Vec::new(rt.alloc()), 7, 0, "made 4 600 3\n")?;
     for call in 1..7u64 {
         hold &= call_fault_ends(rt, &LARGE, Vec::new(rt.alloc()), call, 4, "")?;
@@ -277,7 +281,7 @@ fn a_call_that_fails_ends_a_check_and_a_making(rt: HostRuntime) -> Result<(), Fa
 }
 
 /// Whether a run ends so where the put after so many fails when so many of its bytes are out.
-fn put_ends<R: AllocGlobal + Threads + Sync>(
+fn put_ends<R: AllocGlobal + Threads + Wait + Sync>(
     rt: &R,
     words: &[&str],
     (puts, bytes): (usize, u64),
@@ -300,7 +304,7 @@ fn end_of_bytes<'a>(job: &Job<'a>, length: usize) -> End<'a> {
 }
 
 /// Whether a job ends as it has to where the put of a line fails, of which none of the bytes, the first, or all go out.
-fn line_ends<R: AllocGlobal + Threads + Sync>(
+fn line_ends<R: AllocGlobal + Threads + Wait + Sync>(
     rt: &R,
     job: &Job,
     puts: usize,
@@ -315,7 +319,10 @@ fn line_ends<R: AllocGlobal + Threads + Sync>(
 }
 
 /// Whether a job ends as it has to where each of its puts fails in turn, one for each line, and makes no other put.
-fn puts_end_so<R: AllocGlobal + Threads + Sync>(rt: &R, job: &Job) -> Result<bool, AllocError> {
+fn puts_end_so<R: AllocGlobal + Threads + Wait + Sync>(
+    rt: &R,
+    job: &Job,
+) -> Result<bool, AllocError> {
     let mut hold = true;
     let mut puts = 0usize;
     let mut start = 0usize;
@@ -329,7 +336,7 @@ fn puts_end_so<R: AllocGlobal + Threads + Sync>(rt: &R, job: &Job) -> Result<boo
     Ok(hold && put_ends(rt, job.words, (puts, 0), &job.end)?)
 }
 
-fn all_puts_end_so<R: AllocGlobal + Threads + Sync>(rt: &R) -> Result<bool, AllocError> {
+fn all_puts_end_so<R: AllocGlobal + Threads + Wait + Sync>(rt: &R) -> Result<bool, AllocError> {
     let mut hold = true;
     for job in &JOBS {
         hold &= puts_end_so(rt, job)?;
@@ -345,7 +352,7 @@ fn each_put_may_fail(rt: HostRuntime) -> Result<(), Fail> {
 
 /// Whether a job writes its whole text, or where memory was wanting a prefix of it. Whoever runs the tests
 /// with a failing allocation meets the second.
-fn text_is_whole_or_begun<R: AllocGlobal + Threads + Sync>(
+fn text_is_whole_or_begun<R: AllocGlobal + Threads + Wait + Sync>(
     rt: &R,
     job: &Job,
 ) -> Result<bool, AllocError> {
@@ -357,7 +364,9 @@ fn text_is_whole_or_begun<R: AllocGlobal + Threads + Sync>(
     })
 }
 
-fn texts_are_whole_or_begun<R: AllocGlobal + Threads + Sync>(rt: &R) -> Result<bool, AllocError> {
+fn texts_are_whole_or_begun<R: AllocGlobal + Threads + Wait + Sync>(
+    rt: &R,
+) -> Result<bool, AllocError> {
     let mut hold = true;
     for job in &JOBS {
         hold &= text_is_whole_or_begun(rt, job)?;

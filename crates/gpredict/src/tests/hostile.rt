@@ -3,6 +3,7 @@ use super::checking::{CHECK, WAITING, report_ends};
 use super::listing::{LATE_AUTH, repeated};
 use super::{LIST, add, ends};
 use std::alloc::{AllocError, Global};
+use std::sync::Wait;
 use std::test::Fail;
 use std::thread::Threads;
 
@@ -36,7 +37,7 @@ fn changed(alloc: Global, before: usize, lines: &str, after: usize) -> Result<St
 /// How many lines stay, what comes then, and after how many lines the others follow; and how task check ends.
 type Change<'a> = (usize, &'a str, usize, u8, &'a str);
 
-fn change_ends<R: AllocGlobal + Threads + Sync>(
+fn change_ends<R: AllocGlobal + Threads + Wait + Sync>(
     rt: &R,
     change: &Change,
 ) -> Result<bool, AllocError> {
@@ -45,7 +46,7 @@ fn change_ends<R: AllocGlobal + Threads + Sync>(
     report_ends(rt, CHECK, &WAITING, report.as_bytes(), status, text)
 }
 
-fn changes_end_so<R: AllocGlobal + Threads + Sync>(
+fn changes_end_so<R: AllocGlobal + Threads + Wait + Sync>(
     rt: &R,
     changes: &[Change],
 ) -> Result<bool, AllocError> {
@@ -140,14 +141,16 @@ fn a_report_that_breaks_a_rule_is_refused(rt: HostRuntime) -> Result<(), Fail> {
     Ok(())
 }
 
-fn long_line_is_refused<R: AllocGlobal + Threads + Sync>(rt: &R) -> Result<bool, AllocError> {
+fn long_line_is_refused<R: AllocGlobal + Threads + Wait + Sync>(
+    rt: &R,
+) -> Result<bool, AllocError> {
     let mut long = repeated(rt.alloc(), "#", 4_097)?;
     long.push_str("\n")?;
     change_ends(rt, &(1, long.as_str(), 1, 3, "refused report 2 longline\n"))
 }
 
 /// Whether the recording of one thread is refused so.
-fn trace_is_refused<R: AllocGlobal + Threads + Sync>(
+fn trace_is_refused<R: AllocGlobal + Threads + Wait + Sync>(
     rt: &R,
     manifest: &str,
     trace: &str,
@@ -162,7 +165,7 @@ fn trace_is_refused<R: AllocGlobal + Threads + Sync>(
 }
 
 /// The manifest, the trace and the refusal of each.
-fn traces_are_refused<R: AllocGlobal + Threads + Sync>(
+fn traces_are_refused<R: AllocGlobal + Threads + Wait + Sync>(
     rt: &R,
     rows: &[[&str; 3]],
 ) -> Result<bool, AllocError> {

@@ -4,6 +4,7 @@ use super::{
     refusals_hold, runs_hold, task_ends,
 };
 use std::alloc::{AllocError, Global};
+use std::sync::Wait;
 use std::test::Fail;
 use std::thread::Threads;
 
@@ -180,7 +181,7 @@ pub fn many_pairs(alloc: Global, after: &str, props: &str) -> Result<Files, Allo
     Ok(files)
 }
 
-fn too_many_are_told<R: AllocGlobal + Threads + Sync>(rt: &R) -> Result<bool, AllocError> {
+fn too_many_are_told<R: AllocGlobal + Threads + Wait + Sync>(rt: &R) -> Result<bool, AllocError> {
     let alloc = rt.alloc();
     let pairs = "property p\nevent a op a\nevent b op b\npattern a@t b@u\n";
     let none = "window 1\nproperty p toomany\ntotal 0\n";
@@ -199,7 +200,9 @@ fn too_many_instances_are_not_listed(rt: HostRuntime) -> Result<(), Fail> {
     Ok(())
 }
 
-fn long_line_is_refused<R: AllocGlobal + Threads + Sync>(rt: &R) -> Result<bool, AllocError> {
+fn long_line_is_refused<R: AllocGlobal + Threads + Wait + Sync>(
+    rt: &R,
+) -> Result<bool, AllocError> {
     let mut long = repeated(rt.alloc(), "#", 4_097)?;
     long.push_str("\n")?;
     let text = "refused props 1 longline\n";
@@ -271,7 +274,7 @@ fn properties_come_after_the_recording(rt: HostRuntime) -> Result<(), Fail> {
     Ok(())
 }
 
-fn own_file_is_read<R: AllocGlobal + Threads + Sync>(rt: &R) -> Result<bool, AllocError> {
+fn own_file_is_read<R: AllocGlobal + Threads + Wait + Sync>(rt: &R) -> Result<bool, AllocError> {
     let alloc = rt.alloc();
     let text = "window 1\nproperty late_auth 1\ninstance 0 2.0 1.1\ntotal 1\n";
     let mut listed = recording(alloc, [ONE_ROOT, AUTH, USE])?;
@@ -290,7 +293,7 @@ fn each_task_reads_its_own_file(rt: HostRuntime) -> Result<(), Fail> {
 }
 
 /// Whether listing ends so, where `props` has this length.
-fn length_ends<R: AllocGlobal + Threads + Sync>(
+fn length_ends<R: AllocGlobal + Threads + Wait + Sync>(
     rt: &R,
     length: usize,
     status: u8,
@@ -304,7 +307,7 @@ fn length_ends<R: AllocGlobal + Threads + Sync>(
     ends(rt, LIST, files, status, text)
 }
 
-fn lengths_hold<R: AllocGlobal + Threads + Sync>(rt: &R) -> Result<bool, AllocError> {
+fn lengths_hold<R: AllocGlobal + Threads + Wait + Sync>(rt: &R) -> Result<bool, AllocError> {
     let text = "window 1\nproperty late_auth 1\ninstance 0 2.0 1.1\ntotal 1\n";
     Ok(
         length_ends(rt, 262_144, 0, text)?

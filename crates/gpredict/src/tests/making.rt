@@ -4,6 +4,7 @@ use super::{ANALYSE, LIST, words_with};
 use gp_outside::{Folder, FreeGate, Gate, HoldGate, MemoryFolder, MemorySink};
 use gp_predict::run;
 use std::alloc::{AllocError, Global};
+use std::sync::Wait;
 use std::test::Fail;
 use std::thread::Threads;
 
@@ -21,7 +22,7 @@ fn empty_folder(alloc: Global) -> MemoryFolder {
 }
 
 /// What a run with these words on a folder ends with, and what it writes.
-fn written<R: AllocGlobal + Threads + Sync, G: Gate + Sync>(
+fn written<R: AllocGlobal + Threads + Wait + Sync, G: Gate + Sync>(
     rt: &R,
     words: &[&str],
     folder: &mut MemoryFolder,
@@ -35,7 +36,7 @@ fn written<R: AllocGlobal + Threads + Sync, G: Gate + Sync>(
 }
 
 /// Whether words on a folder end with this status and write this text.
-pub fn writes<R: AllocGlobal + Threads + Sync>(
+pub fn writes<R: AllocGlobal + Threads + Wait + Sync>(
     rt: &R,
     words: &[&str],
     folder: &mut MemoryFolder,
@@ -79,7 +80,9 @@ pub const TWO_THREADS_MADE: [(&str, &str); 4] = [
     ("d/props", USE_BEFORE_AUTH),
 ];
 
-fn two_threads_are_made<R: AllocGlobal + Threads + Sync>(rt: &R) -> Result<bool, AllocError> {
+fn two_threads_are_made<R: AllocGlobal + Threads + Wait + Sync>(
+    rt: &R,
+) -> Result<bool, AllocError> {
     let mut folder = empty_folder(rt.alloc());
     Ok(
         writes(rt, &TWO_THREADS, &mut folder, 0, "made 2 30 1\n")?
@@ -87,7 +90,7 @@ fn two_threads_are_made<R: AllocGlobal + Threads + Sync>(rt: &R) -> Result<bool,
     )
 }
 
-fn one_event_is_made<R: AllocGlobal + Threads + Sync>(rt: &R) -> Result<bool, AllocError> {
+fn one_event_is_made<R: AllocGlobal + Threads + Wait + Sync>(rt: &R) -> Result<bool, AllocError> {
     const FILES: [(&str, &str); 3] = [
         ("d/manifest", "gptrace 1\nthreads 1\nepochs 1\nroots 1\n"),
         ("d/t1.trace", "read v17 0\n"),
@@ -138,13 +141,15 @@ fn has_fingerprint(file: &(String, Vec<u8>), due: &(&str, u64)) -> bool {
 }
 
 /// A folder with the recording of 600 events of four threads.
-pub fn large_folder<R: AllocGlobal + Threads + Sync>(rt: &R) -> Result<MemoryFolder, AllocError> {
+pub fn large_folder<R: AllocGlobal + Threads + Wait + Sync>(
+    rt: &R,
+) -> Result<MemoryFolder, AllocError> {
     let mut folder = empty_folder(rt.alloc());
     make_large(rt, &mut folder)?;
     Ok(folder)
 }
 
-fn make_large<R: AllocGlobal + Threads + Sync>(
+fn make_large<R: AllocGlobal + Threads + Wait + Sync>(
     rt: &R,
     folder: &mut MemoryFolder,
 ) -> Result<(), AllocError> {
@@ -152,7 +157,9 @@ fn make_large<R: AllocGlobal + Threads + Sync>(
     Ok(())
 }
 
-fn four_threads_are_made<R: AllocGlobal + Threads + Sync>(rt: &R) -> Result<bool, AllocError> {
+fn four_threads_are_made<R: AllocGlobal + Threads + Wait + Sync>(
+    rt: &R,
+) -> Result<bool, AllocError> {
     const FILES: [(&str, u64); 6] = [
         ("d/manifest", 8_935_004_418_284_290_925),
         ("d/t1.trace", 56_188_480_314_350_118),
@@ -168,7 +175,9 @@ fn four_threads_are_made<R: AllocGlobal + Threads + Sync>(rt: &R) -> Result<bool
     )
 }
 
-fn instances_are_listed<R: AllocGlobal + Threads + Sync>(rt: &R) -> Result<bool, AllocError> {
+fn instances_are_listed<R: AllocGlobal + Threads + Wait + Sync>(
+    rt: &R,
+) -> Result<bool, AllocError> {
     let mut folder = large_folder(rt)?;
     let (status, text) = written(rt, &[LIST, "d"], &mut folder, &FreeGate)?;
     let windows = count_lines(text.as_slice(), b"property use_before_auth 14");
@@ -189,7 +198,7 @@ fn a_recording_of_600_events_is_made_and_listed(rt: HostRuntime) -> Result<(), F
 }
 
 /// What analysing the recording of 600 events prints, with so many workers.
-pub fn large_report<R: AllocGlobal + Threads + Sync, G: Gate + Sync>(
+pub fn large_report<R: AllocGlobal + Threads + Wait + Sync, G: Gate + Sync>(
     rt: &R,
     folder: &mut MemoryFolder,
     workers: &str,
@@ -200,7 +209,7 @@ pub fn large_report<R: AllocGlobal + Threads + Sync, G: Gate + Sync>(
 }
 
 /// Whether a report on the folder is accepted as one of 42 instances.
-fn large_is_accepted<R: AllocGlobal + Threads + Sync>(
+fn large_is_accepted<R: AllocGlobal + Threads + Wait + Sync>(
     rt: &R,
     folder: &mut MemoryFolder,
     report: &[u8],
@@ -210,7 +219,7 @@ fn large_is_accepted<R: AllocGlobal + Threads + Sync>(
 }
 
 /// Whether one worker prints one report, however often the recording is made and it is asked.
-fn one_worker_repeats_itself<R: AllocGlobal + Threads + Sync>(rt: &R) -> Result<bool, Fail> {
+fn one_worker_repeats_itself<R: AllocGlobal + Threads + Wait + Sync>(rt: &R) -> Result<bool, Fail> {
     let mut folder = large_folder(rt)?;
     let first = large_report(rt, &mut folder, "--workers=1", &FreeGate)?;
     make_large(rt, &mut folder)?;
@@ -245,9 +254,9 @@ fn answers(alloc: Global, report: &[u8]) -> Result<Vec<u8>, AllocError> {
     Ok(told)
 }
 
-/// Whether no instance has an answer in one list that the other contradicts.
+/// Whether two lists answer all instances, and no answer in one is contradicted by the other.
 fn agree(some: &[u8], others: &[u8]) -> bool {
-    some.len() == others.len() && agree_pairwise(some, others)
+    some.len() == 42 && others.len() == 42 && agree_pairwise(some, others)
 }
 
 fn agree_pairwise(some: &[u8], others: &[u8]) -> bool {
@@ -258,30 +267,40 @@ fn is_alike(one: u8, other: u8) -> bool {
     one == other || one == b'u' || other == b'u'
 }
 
-/// Whether a report by so many workers is accepted, and contradicts none by one worker.
-fn workers_agree<R: AllocGlobal + Threads + Sync>(rt: &R, workers: &str) -> Result<bool, Fail> {
+/// The answers of a report by so many workers, where it is accepted; else none.
+fn accepted_answers<R: AllocGlobal + Threads + Wait + Sync>(
+    rt: &R,
+    folder: &mut MemoryFolder,
+    workers: &str,
+) -> Result<Vec<u8>, Fail> {
+    let report = large_report(rt, folder, workers, &FreeGate)?;
+    if !large_is_accepted(rt, folder, report.as_slice())? {
+        return Ok(Vec::new(rt.alloc()));
+    }
+    Ok(answers(rt.alloc(), report.as_slice())?)
+}
+
+/// Whether the reports by one, four and sixteen workers are accepted, and no two of them contradict each other.
+fn workers_agree<R: AllocGlobal + Threads + Wait + Sync>(rt: &R) -> Result<bool, Fail> {
     let mut folder = large_folder(rt)?;
-    let alone = large_report(rt, &mut folder, "--workers=1", &FreeGate)?;
-    let together = large_report(rt, &mut folder, workers, &FreeGate)?;
-    let told = answers(rt.alloc(), together.as_slice())?;
+    let one = accepted_answers(rt, &mut folder, "--workers=1")?;
+    let four = accepted_answers(rt, &mut folder, "--workers=4")?;
+    let sixteen = accepted_answers(rt, &mut folder, "--workers=16")?;
     Ok(
-        told.len() == 42
-            && agree(
-                answers(rt.alloc(), alone.as_slice())?.as_slice(),
-                told.as_slice(),
-            )
-            && large_is_accepted(rt, &mut folder, together.as_slice())?,
+        agree(one.as_slice(), four.as_slice())
+            && agree(one.as_slice(), sixteen.as_slice())
+            && agree(four.as_slice(), sixteen.as_slice()),
     )
 }
 
 #[test]
 fn several_workers_never_contradict_one(rt: HostRuntime) -> Result<(), Fail> {
-    assert!(rt; workers_agree(&rt, "--workers=4")? && workers_agree(&rt, "--workers=16")?);
+    assert!(rt; workers_agree(&rt)?);
     Ok(())
 }
 
 /// Whether the second worker passes the gate while the first is held at it.
-fn two_workers_meet<R: AllocGlobal + Threads + Sync>(rt: &R) -> Result<bool, Fail> {
+fn two_workers_meet<R: AllocGlobal + Threads + Wait + Sync>(rt: &R) -> Result<bool, Fail> {
     let mut folder = large_folder(rt)?;
     let gate = HoldGate::new(10_000_000);
     let report = large_report(rt, &mut folder, "--workers=2", &gate)?;

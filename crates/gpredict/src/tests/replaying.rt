@@ -4,6 +4,7 @@ use super::{
     runs_hold, task_ends,
 };
 use std::alloc::AllocError;
+use std::sync::Wait;
 use std::test::Fail;
 use std::thread::Threads;
 
@@ -154,7 +155,9 @@ fn malformed_manifests_are_refused_at_their_line(rt: HostRuntime) -> Result<(), 
 }
 
 /// Whether a root that is alone is refused so.
-fn one_thread_is_refused<R: AllocGlobal + Threads + Sync>(rt: &R) -> Result<bool, AllocError> {
+fn one_thread_is_refused<R: AllocGlobal + Threads + Wait + Sync>(
+    rt: &R,
+) -> Result<bool, AllocError> {
     let one = "gptrace 1\nthreads 1\nepochs 1\nroots 1\n";
     let two = "gptrace 1\nthreads 1\nepochs 2\nroots 1\n";
     let released = "refused t1.trace 2 releaseunheld\n";
@@ -237,7 +240,7 @@ fn malformed_schedules_are_refused_at_their_line(rt: HostRuntime) -> Result<(), 
 }
 
 /// Whether replaying ends so where a file has this length.
-fn length_ends<R: AllocGlobal + Threads + Sync>(
+fn length_ends<R: AllocGlobal + Threads + Wait + Sync>(
     rt: &R,
     place: usize,
     length: usize,
@@ -252,7 +255,7 @@ fn length_ends<R: AllocGlobal + Threads + Sync>(
     ends(rt, REPLAY, files, status, text)
 }
 
-fn lengths_are_limited<R: AllocGlobal + Threads + Sync>(
+fn lengths_are_limited<R: AllocGlobal + Threads + Wait + Sync>(
     rt: &R,
     rows: &[(usize, usize, &str)],
 ) -> Result<bool, AllocError> {
@@ -277,7 +280,7 @@ fn a_file_may_be_as_long_as_its_limit(rt: HostRuntime) -> Result<(), Fail> {
 }
 
 /// Whether a trace whose line has this length ends so.
-fn line_ends<R: AllocGlobal + Threads + Sync>(
+fn line_ends<R: AllocGlobal + Threads + Wait + Sync>(
     rt: &R,
     length: usize,
     status: u8,
@@ -292,7 +295,7 @@ fn line_ends<R: AllocGlobal + Threads + Sync>(
     ends(rt, REPLAY, files, status, text)
 }
 
-fn long_lines_hold<R: AllocGlobal + Threads + Sync>(rt: &R) -> Result<bool, AllocError> {
+fn long_lines_hold<R: AllocGlobal + Threads + Wait + Sync>(rt: &R) -> Result<bool, AllocError> {
     Ok(
         line_ends(rt, 4_096, 0, "feasible 0\n")?
             && line_ends(rt, 4_097, 3, "refused t1.trace 1 longline\n")?,

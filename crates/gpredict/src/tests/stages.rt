@@ -4,11 +4,14 @@ use super::{
     runs_hold, runs_to, words_of,
 };
 use std::alloc::AllocError;
+use std::sync::Wait;
 use std::test::Fail;
 use std::thread::Threads;
 
 /// Whether two starts by the first and the third thread are told before the schedule.
-fn two_starts_are_refused<R: AllocGlobal + Threads + Sync>(rt: &R) -> Result<bool, AllocError> {
+fn two_starts_are_refused<R: AllocGlobal + Threads + Wait + Sync>(
+    rt: &R,
+) -> Result<bool, AllocError> {
     let three = "gptrace 1\nthreads 3\nepochs 1\nroots 1 3\n";
     let alloc = rt.alloc();
     let mut files = recording(alloc, [three, "start 2\n", ""])?;
@@ -111,7 +114,7 @@ fn the_first_refusal_in_order_is_told(rt: HostRuntime) -> Result<(), Fail> {
 
 /// Whether the files of a task without the one at a place are refused so, where the folder would fail
 /// at the call after this one.
-fn absence_ends<R: AllocGlobal + Threads + Sync>(
+fn absence_ends<R: AllocGlobal + Threads + Wait + Sync>(
     rt: &R,
     task: &str,
     files: Files,
@@ -132,7 +135,7 @@ fn absence_ends<R: AllocGlobal + Threads + Sync>(
 }
 
 /// Whether a task is refused so where the file at a place is absent.
-fn is_missed<R: AllocGlobal + Threads + Sync>(
+fn is_missed<R: AllocGlobal + Threads + Wait + Sync>(
     rt: &R,
     task: &str,
     first: &str,
@@ -145,7 +148,9 @@ fn is_missed<R: AllocGlobal + Threads + Sync>(
     absence_ends(rt, task, files, place, told)
 }
 
-fn absences_are_refused<R: AllocGlobal + Threads + Sync>(rt: &R) -> Result<bool, AllocError> {
+fn absences_are_refused<R: AllocGlobal + Threads + Wait + Sync>(
+    rt: &R,
+) -> Result<bool, AllocError> {
     const ROWS: [(usize, &str, &str); 4] = [
         (0, "foo\n", "refused manifest absent\n"),
         (1, "foo\n", "refused t1.trace absent\n"),
@@ -170,7 +175,7 @@ fn an_absent_file_is_refused_and_none_after_it_is_read(rt: HostRuntime) -> Resul
 
 /// Whether a task on a recording and one file more is refused so, where the folder would fail at this
 /// call.
-fn refusal_ends<R: AllocGlobal + Threads + Sync>(
+fn refusal_ends<R: AllocGlobal + Threads + Wait + Sync>(
     rt: &R,
     task: &str,
     recorded: [&str; 3],
@@ -190,7 +195,9 @@ fn refusal_ends<R: AllocGlobal + Threads + Sync>(
     Ok(runs_to(rt, words.as_slice(), files, script, status, text))
 }
 
-fn nothing_is_read_after<R: AllocGlobal + Threads + Sync>(rt: &R) -> Result<bool, AllocError> {
+fn nothing_is_read_after<R: AllocGlobal + Threads + Wait + Sync>(
+    rt: &R,
+) -> Result<bool, AllocError> {
     const ROWS: [(&str, [&str; 3], &str, u64, &str); 8] = [
         (
             "--task=lists",

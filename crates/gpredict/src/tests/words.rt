@@ -4,11 +4,12 @@ use super::{
     ANALYSE, AUTH, Files, LIST, ONE_ROOT, REPLAY, Script, USE, add, recording, runs_to, words_with,
 };
 use std::alloc::AllocError;
+use std::sync::Wait;
 use std::test::Fail;
 use std::thread::Threads;
 
 /// Whether words end with this status and write this text, where no file is there.
-fn words_end<R: AllocGlobal + Threads + Sync>(
+fn words_end<R: AllocGlobal + Threads + Wait + Sync>(
     rt: &R,
     words: &[&str],
     status: u8,
@@ -21,7 +22,7 @@ fn words_end<R: AllocGlobal + Threads + Sync>(
 }
 
 /// Whether words end as told in each row, where no file is there.
-fn words_hold<R: AllocGlobal + Threads + Sync>(
+fn words_hold<R: AllocGlobal + Threads + Wait + Sync>(
     rt: &R,
     rows: &[(&[&str], u8, &str)],
 ) -> Result<bool, AllocError> {
@@ -85,7 +86,7 @@ fn a_budget_is_a_number_to_a_million(rt: HostRuntime) -> Result<(), Fail> {
 }
 
 /// Whether words on these files end with this status and write this text.
-fn words_on<R: AllocGlobal + Threads + Sync>(
+fn words_on<R: AllocGlobal + Threads + Wait + Sync>(
     rt: &R,
     words: &[&str],
     files: Files,
@@ -99,7 +100,7 @@ fn words_on<R: AllocGlobal + Threads + Sync>(
 }
 
 /// Whether words on a recording in folder `d` end as told in each row.
-fn orders_hold<R: AllocGlobal + Threads + Sync>(
+fn orders_hold<R: AllocGlobal + Threads + Wait + Sync>(
     rt: &R,
     rows: &[(&[&str], u8, &str)],
 ) -> Result<bool, AllocError> {
@@ -110,7 +111,7 @@ fn orders_hold<R: AllocGlobal + Threads + Sync>(
     Ok(hold)
 }
 
-fn order_holds<R: AllocGlobal + Threads + Sync>(
+fn order_holds<R: AllocGlobal + Threads + Wait + Sync>(
     rt: &R,
     words: &[&str],
     status: u8,
@@ -122,7 +123,9 @@ fn order_holds<R: AllocGlobal + Threads + Sync>(
 }
 
 /// Whether the manifest of a folder is read whose name begins as an option does.
-fn hyphened_folder_is_read<R: AllocGlobal + Threads + Sync>(rt: &R) -> Result<bool, AllocError> {
+fn hyphened_folder_is_read<R: AllocGlobal + Threads + Wait + Sync>(
+    rt: &R,
+) -> Result<bool, AllocError> {
     let alloc = rt.alloc();
     let mut files = Vec::new(alloc);
     let path = String::from_str(alloc, "-d/manifest")?;
@@ -160,7 +163,7 @@ fn options_and_the_folder_come_in_any_order(rt: HostRuntime) -> Result<(), Fail>
 }
 
 /// Whether a folder's name of this length ends so.
-fn folder_ends<R: AllocGlobal + Threads + Sync>(
+fn folder_ends<R: AllocGlobal + Threads + Wait + Sync>(
     rt: &R,
     length: usize,
     status: u8,
@@ -173,7 +176,7 @@ fn folder_ends<R: AllocGlobal + Threads + Sync>(
     words_end(rt, &[REPLAY, name.as_str()], status, text)
 }
 
-fn folder_names_hold<R: AllocGlobal + Threads + Sync>(rt: &R) -> Result<bool, AllocError> {
+fn folder_names_hold<R: AllocGlobal + Threads + Wait + Sync>(rt: &R) -> Result<bool, AllocError> {
     Ok(
         folder_ends(rt, 4_096, 3, "refused manifest absent\n")?
             && folder_ends(rt, 4_097, 2, "words\n")?,

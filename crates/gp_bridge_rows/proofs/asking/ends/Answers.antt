@@ -1,4 +1,4 @@
-use Rattle.std.proofs.Common.{◌∙◌, arith}
+use Rattle.std.proofs.Common.{◌∙◌, length, arith}
 use Rattle.gp_bridge_rows.proofs.Asked.{answers, has_room, is_base, solvable, valid, valid_query}
 use Rattle.gp_bridge_rows.proofs.asking.ends.Goals as goal
 
@@ -27,6 +27,6 @@ ask-requires-clause-few c =
 pub finds-requires-clause-answer : goal.finds-requires-clause-answer
 finds-requires-clause-answer c =
     answers c.args.window.now c.args.property.now c.args.instance.now.events c.in_ok-search.search.problem c.in_ok-query.query
-    c.in_ok-search.search.log c.ask.new.self.log c.in_ok-valuation.field-0 c.in-Model.valuation
+    c.ask.new.self.log (length c.in_ok-search.search.log) c.ask.new.self.learned c.in_ok-valuation.field-0 c.in-Model.valuation
     (c.in_ok-search.ensures.problem ∙ is_base c.args.window.now c.args.encoded.now c.problem-problem.result.now c.requires.encoded c.problem-problem.ensures.problem)
     c.in_ok-query.ensures c.in-Model.is c.in_ok-valuation.ensures.verdict

@@ -1,0 +1,2 @@
+mod Goodness
+mod Mailing

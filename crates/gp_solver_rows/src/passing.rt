@@ -1,0 +1,346 @@
+ghost use Rattle.std.specs.Arc.{arc_value};
+ghost use Rattle.std.specs.Prelude.{◌≡◌, ◌∷◌, [], All, IfOk, IsTrue};
+ghost use Rattle.gp_clause.specs.Problem.{IsValidProblem};
+ghost use Rattle.gp_derivation.specs.Exchange.{IsGood, IsGoodBy};
+ghost use Rattle.gp_search.specs.Verdict.{IsSolvable};
+
+use crate::derivation::TWO;
+use crate::fixture::{
+    EIGHT, FREE, Rows, are_lits, are_named, is_asked, is_solvable, is_valid, lits_of, problem_of,
+    query_of,
+};
+use crate::memory_mail::{Letters, MemoryMail, Offer};
+use crate::search::{Due, is_due};
+use crate::small_cones::is_fit;
+use gp_clause::{Clause, Kind, Problem, Query, Row};
+use gp_derivation::{
+    Certificate, LogEntry, Origin, SharedClause, Step, check_certificate, shares_nothing,
+};
+use gp_search::Search;
+use std::alloc::Global;
+use std::collections::VecDeque;
+use std::marker::Brand;
+use std::process::Abort;
+use std::sync::Arc;
+use std::test::Fail;
+
+// The number under which the clauses come that a mail gives.
+const SENDER: u32 = 2;
+
+// A certificate of one step without hints.
+fn plain(alloc: Global, clause: &Clause) -> Result<Certificate, Fail>
+    ensures { IfOk result (λ certificate. certificate.steps ≡ record { clause = clause.now; hints = [] } ∷ []) }
+{
+    let mut steps = Row::new(alloc);
+    steps.push(Step {
+        clause: clause.clone()?,
+        hints: Row::new(alloc),
+    })?;
+    Ok(Certificate { steps })
+}
+
+// The query that has no locals and assumes nothing.
+fn nothing(alloc: Global) -> Query
+    ensures { result.locals ≡ [] }
+{
+    Query {
+        locals: Row::new(alloc),
+        assumed: Row::new(alloc),
+    }
+}
+
+// Whether a clause is good by one step without hints.
+fn is_good(
+    alloc: Global,
+    problem: &Problem,
+    query: &Query,
+    clause: &Clause,
+    certificate: &Certificate,
+) -> Result<bool, Fail>
+    requires valid { IsValidProblem problem.now }
+    requires none { query.now.locals ≡ [] }
+    requires plain { certificate.now.steps ≡ record { clause = clause.now; hints = [] } ∷ [] }
+    ensures { IfOk result (λ good. IsTrue good → IsGoodBy problem.now clause.now certificate.now) }
+{
+    shares_nothing();
+    if clause.len() > 8 {
+        return Ok(false);
+    }
+    if !are_named(problem.kinds.len(), clause.lits()) {
+        return Ok(false);
+    }
+    if !is_asked(problem, query) {
+        return Ok(false);
+    }
+    Ok(check_certificate(alloc, problem, &[], query, certificate)?)
+}
+
+fn with_sender(
+    alloc: Global,
+    clause: Clause,
+    certificate: Certificate,
+) -> Result<SharedClause, Fail>
+    ensures { IfOk result (λ shared. (shared.clause ≡ clause) × (arc_value shared.certificate ≡ certificate)) }
+{
+    Ok(SharedClause {
+        sender: SENDER,
+        clause,
+        certificate: Arc::new(alloc, certificate)?,
+    })
+}
+
+// A clause that is good by one step without hints.
+fn shared_of(
+    rt: &impl Abort,
+    alloc: Global,
+    problem: &Problem,
+    words: &[i32],
+) -> Result<SharedClause, Fail>
+    requires { IsValidProblem problem.now }
+    ensures { IfOk result (IsGood problem.now) }
+{
+    let clause = Clause::of(lits_of(alloc, words)?)?;
+    let certificate = plain(alloc, &clause)?;
+    let query = nothing(alloc);
+    assert!(rt; is_good(alloc, problem, &query, &clause, &certificate)?);
+    with_sender(alloc, clause, certificate)
+}
+
+fn waiting_of(
+    rt: &impl Abort,
+    alloc: Global,
+    problem: &Problem,
+    clauses: &[&[i32]],
+) -> Result<VecDeque<SharedClause>, Fail>
+    requires { IsValidProblem problem.now }
+    ensures { IfOk result (λ waiting. All (IsGood problem.now) waiting.items) }
+{
+    let mut waiting = VecDeque::new(alloc);
+    for words in clauses {
+        let shared = shared_of(rt, alloc, problem, words)?;
+        waiting.push_back(shared)?;
+    }
+    Ok(waiting)
+}
+
+// What a search over a problem is asked by a mail in which clauses wait: its locals, what is assumed, the verdict, how long
+// its log then is, and the places of the entries that it offered.
+#[derive(Drop, Clone, Copy)]
+struct Mailed<'a> {
+    waiting: &'a [&'a [i32]],
+    locals: &'a [Kind],
+    assumed: &'a [i32],
+    due: Due<'a>,
+    logged: usize,
+    offered: &'a [u32],
+}
+
+// Whether an entry was taken, with this clause.
+fn is_taken(entry: &LogEntry, words: &[i32]) -> bool {
+    let taken = match &entry.origin {
+        Origin::Learned => false,
+        Origin::Taken { sender, .. } => *sender == SENDER,
+    };
+    taken && entry.step.hints.is_empty() && are_lits(entry.step.clause.lits(), words)
+}
+
+fn is_learned(entry: &LogEntry) -> bool {
+    matches!(&entry.origin, Origin::Learned)
+}
+
+// Whether a log took clauses that waited, and learned what comes after them.
+fn takes_all(log: &[LogEntry], waiting: &[&[i32]]) -> bool {
+    let Some((taken, learned)) = log.split_at_checked(waiting.len()) else {
+        return false;
+    };
+    are_taken(taken, waiting) && learned.iter().all(is_learned)
+}
+
+fn are_taken(entries: &[LogEntry], waiting: &[&[i32]]) -> bool {
+    entries
+        .iter()
+        .zip(waiting)
+        .all(|(entry, words)| is_taken(entry, words))
+}
+
+// Whether the entry at this place was offered.
+fn is_offer(log: &[LogEntry], offer: &Offer, place: u32) -> bool {
+    match log.get(place as usize) {
+        Some(entry) => offer.entry == place && offer.clause.lits() == entry.step.clause.lits(),
+        None => false,
+    }
+}
+
+// Whether the entries at these places were offered, and no others.
+fn are_offers(log: &[LogEntry], offered: &[Offer], places: &[u32]) -> bool {
+    offered.len() == places.len()
+        && offered
+            .iter()
+            .zip(places)
+            .all(|(offer, place)| is_offer(log, offer, *place))
+}
+
+// Whether the learned entries at these places are fit to share, and no other learned ones.
+fn are_fit(
+    rt: &impl Abort,
+    alloc: Global,
+    problem: &Problem,
+    log: &[LogEntry],
+    places: &[u32],
+) -> Result<bool, Fail> {
+    assert!(rt; log.len() < 1000);
+    let mut all = true;
+    for (place, entry) in log.iter().enumerate() {
+        let due = places.contains(&(place as u32));
+        all &= !is_learned(entry) || is_fit(rt, alloc, problem, log, place as u32)? == due;
+    }
+    Ok(all)
+}
+
+// Whether a search that is asked by a mail takes, learns and offers what is due.
+fn asks<L: Letters>(
+    rt: &impl Abort,
+    alloc: Global,
+    problem: &Problem,
+    query: &Query,
+    waiting: VecDeque<SharedClause>,
+    mailed: &Mailed,
+) -> Result<bool, Fail>
+    requires valid { IsValidProblem problem.now }
+    requires solvable { IsSolvable problem.now.edges }
+    requires good { All (IsGood problem.now) waiting.items }
+    requires letters { waiting.items ≡ L.all }
+{
+    assert!(rt; is_asked(problem, query));
+    assert!(rt; problem.clauses.len() < 1000);
+    let mut search = Search::new(alloc, problem)?;
+    let mut mail: MemoryMail<L> = MemoryMail::new(alloc, problem, waiting);
+    let verdict = search.ask(query, 27, &mut mail)?;
+    let log = search.log();
+    Ok(
+        is_due(&verdict, &mailed.due, &[])
+            && log.len() == mailed.logged
+            && search.learned_from() as usize == mailed.waiting.len()
+            && takes_all(log, mailed.waiting)
+            && mail.empty() == 1
+            && are_offers(log, mail.offered(), mailed.offered)
+            && are_fit(rt, alloc, problem, log, mailed.offered)?,
+    )
+}
+
+fn is_answered(
+    rt: &impl Abort,
+    alloc: Global,
+    problem: &Problem,
+    mailed: &Mailed,
+) -> Result<bool, Fail>
+    requires valid { IsValidProblem problem.now }
+    requires solvable { IsSolvable problem.now.edges }
+{
+    let waiting = waiting_of(rt, alloc, problem, mailed.waiting)?;
+    let query = query_of(alloc, mailed.locals, mailed.assumed)?;
+    asks::<Brand>(rt, alloc, problem, &query, waiting, mailed)
+}
+
+fn answers(rt: &impl Abort, alloc: Global, rows: &Rows, mailed: &Mailed) -> Result<bool, Fail> {
+    let problem = problem_of(alloc, rows)?;
+    assert!(rt; is_valid(&problem));
+    assert!(rt; is_solvable(&[], problem.edges.as_slice()));
+    let answered = is_answered(rt, alloc, &problem, mailed);
+    drop(problem);
+    answered
+}
+
+fn all_answer(rt: &impl Abort, alloc: Global, rows: &[(&str, Rows, Mailed)]) -> Result<(), Fail> {
+    for (name, problem, mailed) in rows {
+        assert!(rt; answers(rt, alloc, problem, mailed)?, "{name}");
+    }
+    Ok(())
+}
+
+// No valuation meets these clauses.
+const NONE: Rows = Rows {
+    points: 0,
+    kinds: &FREE,
+    edges: &[],
+    clauses: &EIGHT,
+};
+
+// The first variable brings two orders of three points where it is false, and cannot be true.
+const ORDERED: Rows = Rows {
+    points: 3,
+    kinds: &[
+        Kind::Free,
+        Kind::Free,
+        Kind::Free,
+        Kind::Order { a: 0, b: 1 },
+        Kind::Order { a: 1, b: 2 },
+    ],
+    edges: &[],
+    clauses: &[
+        &[1, 4],
+        &[1, 5],
+        &[-1, 2, 3],
+        &[-1, 2, -3],
+        &[-1, -2, 3],
+        &[-1, -2, -3],
+    ],
+};
+
+// The order that closes a cycle with those two.
+const BACK: [Kind; 1] = [Kind::Order { a: 2, b: 0 }];
+
+#[test]
+fn takes_and_offers_by_a_mail(rt: HostRuntime) -> Result<(), Fail> {
+    const ROWS: [(&str, Rows, Mailed); 4] = [
+        (
+            "one clause waits",
+            TWO,
+            Mailed {
+                waiting: &[&[1]],
+                locals: &[],
+                assumed: &[],
+                due: Due::Model(&[1]),
+                logged: 1,
+                offered: &[],
+            },
+        ),
+        (
+            "none waits",
+            NONE,
+            Mailed {
+                waiting: &[],
+                locals: &[],
+                assumed: &[],
+                due: Due::Refuted(&[]),
+                logged: 3,
+                offered: &[0, 1, 2],
+            },
+        ),
+        (
+            "two wait",
+            NONE,
+            Mailed {
+                waiting: &[&[1, 2], &[1, -2]],
+                locals: &[],
+                assumed: &[],
+                due: Due::Refuted(&[]),
+                logged: 4,
+                offered: &[2, 3],
+            },
+        ),
+        (
+            "some rest on a local",
+            ORDERED,
+            Mailed {
+                waiting: &[],
+                locals: &BACK,
+                assumed: &[6],
+                due: Due::Refuted(&[-6]),
+                logged: 2,
+                offered: &[1],
+            },
+        ),
+    ];
+    all_answer(&rt, rt.alloc(), &ROWS)
+}

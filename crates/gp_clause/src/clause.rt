@@ -48,6 +48,14 @@ impl Clause {
         Ok(Clause { lits })
     }
 
+    /// The clause of literals whose variables rise already. Takes no memory.
+    pub fn of_rising(lits: Vec<Lit>) -> Clause
+        requires { IsRising lits.items }
+        ensures { result ≡ lits.items }
+    {
+        Clause { lits }
+    }
+
     pub fn lits(&self) -> &[Lit]
         ensures lits { result.now ≡ self.now }
         ensures rising { IsRising self.now }

@@ -8,7 +8,6 @@ pub mod Truths
 pub mod Lists
 pub mod Tabled
 pub mod Rising
-pub mod Same
 pub mod SignedFamilies
 pub mod Counted
 pub mod Grouped

@@ -16,13 +16,13 @@ use Rattle.gp_constraint.specs.Symbols.{symbol_eq}
 use Rattle.gp_constraint.proofs.Names.{after_first, has_kept, has_with, mention, number_stays, number_within, Stems, symbol_same}
 use Rattle.gp_constraint.proofs.Once.{number_apart}
 
-abbrev pub Less : Lit → Lit → Type 0
+abbrev Less : Lit → Lit → Type 0
 Less l m = l.variable < m.variable
 
 lits_same : (l m : Lit) → l.variable ≡ m.variable → l.positive ≡ m.positive → l ≡ m
 lits_same l m variables signs = λ i. record { variable = variables i; positive = signs i }
 
-pub later_less : (l head : Lit) (rest : List Lit) → l.variable < head.variable → AllByRecursion (Less head) rest → AllByRecursion (Less l) rest
+later_less : (l head : Lit) (rest : List Lit) → l.variable < head.variable → AllByRecursion (Less head) rest → AllByRecursion (Less l) rest
 later_less l head [] less h = tt
 later_less l head (next ∷ rest) less h = let above = h.0 in (omega (arith, less, above), later_less l head rest less h.1)
 

@@ -37,7 +37,7 @@ pub use encoded::Encoded;
 pub use fault::{BaseFault, MOST_CLAUSES, MOST_POINTS};
 pub use instance_query::query;
 pub use laws::{answers_mean, problems_are_valid, truths_are_numbered};
-pub use numbering_laws::{points_come_first, rising_lists_stay};
+pub use numbering_laws::points_come_first;
 pub use point::Point;
 pub use symbol::{Symbol, SymbolicLit};
 pub use term::Term;

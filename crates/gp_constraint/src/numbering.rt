@@ -1,6 +1,5 @@
 ghost use Rattle.std.specs.Prelude.{◌≡◌, ◌≤◌, [], length, IfOk, IfSome, OnOk, MatchOption};
 ghost use Rattle.std.specs.List.{insert};
-ghost use Rattle.gp_clause.specs.Clause.{IsRising};
 ghost use Rattle.gp_constraint.specs.Numbering.{lits_onto, names_after, names_of, numbered, with_lit};
 ghost use Rattle.gp_constraint.specs.Signed.{AreSigned};
 
@@ -112,18 +111,7 @@ pub fn number_clauses(
     let mut row = Row::new(alloc);
     for clause in clauses {
         let lits = number_lits(alloc, names, clause.as_slice())?;
-        row.push(clause_of(lits))?;
+        row.push(Clause::of_rising(lits))?;
     }
     Ok(row)
-}
-
-/// The clause of literals whose variables rise.
-fn clause_of(lits: Vec<Lit>) -> Clause
-    requires { IsRising lits.items }
-    ensures { result ≡ lits.items }
-{
-    match Clause::of(lits) {
-        Ok(clause) => clause,
-        Err(_) => unreachable!(),
-    }
 }

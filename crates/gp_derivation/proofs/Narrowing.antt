@@ -14,7 +14,7 @@ use Rattle.gp_derivation.specs.declared.room.Room.{Room}
 use Rattle.gp_derivation.specs.declared.step.Step.{Step}
 use Rattle.gp_derivation.specs.Certificate.{clauses_of}
 use Rattle.gp_derivation.specs.Cones.{IsCone, steps_given, kept_steps, cone_steps}
-use Rattle.gp_derivation.specs.Numbering.{CanBeNumbered, NamesEarlier, steps_before, number_of, renumbered, moved, with_hints}
+use Rattle.gp_derivation.specs.Numbering.{AllNameEarlier, CanBeNumbered, steps_before, number_of, renumbered, moved, with_hints}
 use Rattle.gp_derivation.specs.Reach.{IsReached, rests_on}
 use Rattle.gp_derivation.specs.Reach.IsReached.{direct, through}
 use Rattle.gp_derivation.specs.Room.{HasNoSmallCone, HasPlace, HasSmallCone, Leaves, clauses_by, whole_room}
@@ -53,7 +53,7 @@ narrowed_none problem log last bases hints before places todo room bases_is hint
 }
 
 -- what a step rests on was visited, or stands at the last place that is queued or before it
-visited_above : (bases : ℕ) (log : List LogEntry) (hints : List ℕ) (bound : ℕ) (places todo : List ℕ) (top : ℕ) → ((place : ℕ) (entry : LogEntry) → slice_get log place ≡ Some entry → NamesEarlier bases place entry.step entry.origin)
+visited_above : (bases : ℕ) (log : List LogEntry) (hints : List ℕ) (bound : ℕ) (places todo : List ℕ) (top : ℕ) → AllNameEarlier bases log
     → IsDescended bases log hints bound places todo → ((place : ℕ) → Contains todo place → place ≤ top) → (place : ℕ) → IsReached bases log hints place → Contains places place ⊎ (place ≤ top)
 visited_above bases log hints bound places todo top names old least place (direct p by) = elim (old.named p by) [
   | inl visited ↦ inl visited

@@ -1,13 +1,12 @@
 -- What passes is true wherever the clauses are that it passes with.
-use Rattle.std.proofs.Common.{◌≡◌, ℕ, ◌<◌, ◌≤◌, ℤ, Bool, List, ◌++◌, Some, length, get_or, All, Contains, ◌⊎◌, inl, inr, ◌∙◌, subst, arith}
+use Rattle.std.proofs.Common.{◌≡◌, ℕ, ℤ, Bool, List, ◌++◌, Some, All, Contains, ◌⊎◌, inl, inr, subst}
 use Rattle.std.specs.List.{slice_get}
 use Rattle.std.proofs.lemmas.List.Elements.{All-append, All-map, All-weaker, All-contains}
 use Rattle.gp_clause.specs.declared.edge.Edge.{Edge}
 use Rattle.gp_clause.specs.declared.kind.Kind.{Kind}
 use Rattle.gp_clause.specs.declared.lit.Lit.{Lit}
-use Rattle.gp_clause.specs.Clause.{HoldsClause, HoldsAll, NamesBelow, TrueOrFalse}
-use Rattle.gp_clause.specs.Closure.{Derived, DerivedMeans}
-use Rattle.gp_clause.specs.Closure.Derived.{given, forced}
+use Rattle.gp_clause.specs.Clause.{HoldsClause, HoldsAll, TrueOrFalse}
+use Rattle.gp_clause.specs.Closure.{DerivedMeans}
 use Rattle.gp_clause.specs.ClosureLaws.{derived_more}
 use Rattle.gp_clause.specs.Edge.{Keeps}
 use Rattle.gp_clause.specs.Kind.{bound_of, KeepsBound}
@@ -84,26 +83,3 @@ more_pass edges kinds clauses more clause longer among literals in_range passes 
   refuted = refuted_more edges kinds (negations clause) clauses (negations longer) more
       (All-map (Contains (negations longer)) opposite clause (All-weaker (Contains longer) (λ lit. Contains (negations longer) (opposite lit)) (λ lit is. contains_map opposite longer lit is) clause literals)) among passes.refuted;
 }
-
--- a clause that passes with clauses of some first variables passes with any other variables after them
-pub passes_alike : (edges : List Edge) (kinds other : List Kind) (n : ℕ) (clauses : List (List Lit)) (clause : List Lit) → n ≤ length other
-    → ((variable : ℕ) → variable < n → slice_get other variable ≡ slice_get kinds variable) → All (NamesBelow n) clauses → NamesBelow n clause
-    → Passes edges kinds clauses clause → Passes edges other clauses clause
-passes_alike edges kinds other n clauses clause enough alike below names passes = record {
-  in_range = λ k d within. let first : (get_or clause k d).variable < n = names k d within in omega arith;
-  refuted = at passes.refuted;
-}
-  where
-    start_below : NamesBelow n (negations clause)
-    start_below = All-map (λ (lit : Lit). lit.variable < n) opposite clause names
-
-    first : (lit : Lit) → Derived (negations clause) clauses lit → lit.variable < n
-    first lit (given l is) = All-contains (λ (l : Lit). l.variable < n) (negations clause) l start_below is
-    first lit (forced one l among within others) = All-contains (λ (l : Lit). l.variable < n) one l (All-contains (NamesBelow n) clauses one below among) within
-
-    bound : (edge : Edge) → IsDerivedBound kinds clauses (negations clause) edge → IsDerivedBound other clauses (negations clause) edge
-    bound edge (lit, kind, from, got, is) = (lit, kind, from, alike lit.variable (first lit from) ∙ got, is)
-
-    at : IsRefuted edges kinds clauses (negations clause) → IsRefuted edges other clauses (negations clause)
-    at (inl conflict) = inl conflict
-    at (inr (bounds, derived, cycle)) = inr (bounds, All-weaker (IsDerivedBound kinds clauses (negations clause)) (IsDerivedBound other clauses (negations clause)) bound bounds derived, cycle)

@@ -21,7 +21,8 @@ use Rattle.gp_derivation.specs.Log.{IsTaken, logged, IsPure, OriginPasses, Entry
 use Rattle.gp_derivation.specs.Log.IsPure.{taken, learned}
 use Rattle.gp_derivation.specs.Step.{Passes, named}
 use Rattle.gp_derivation.specs.ListLaws.{got_all, slice_get_front, joined_cases, named_all}
-use Rattle.gp_derivation.proofs.Passing.{Laws, IsModel, model_from_valuation, passing_true, passes_alike}
+use Rattle.gp_derivation.specs.PassingLaws.{passes_alike}
+use Rattle.gp_derivation.proofs.Passing.{Laws, IsModel, model_from_valuation, passing_true}
 use Rattle.gp_derivation.proofs.Checking.{last_contained, proved_true}
 
 -- each entry of a log whose entries pass does so in some turn

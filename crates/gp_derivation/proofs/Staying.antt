@@ -18,11 +18,11 @@ use Rattle.gp_derivation.specs.Log.{IsLearned, OriginPasses, logged}
 use Rattle.gp_derivation.specs.Step.{named}
 use Rattle.gp_derivation.specs.Tight.{IsTight}
 use Rattle.gp_derivation.specs.Spent.{IsNewBy, SpentStays, turned}
-use Rattle.gp_derivation.specs.Numbering.{NamesEarlier, counted, steps_before, number_of, renumbered, with_hints}
+use Rattle.gp_derivation.specs.Numbering.{AllNameEarlier, NamesEarlier, counted, steps_before, number_of, renumbered, with_hints}
 use Rattle.gp_derivation.specs.Reach.{IsReached, rests_on}
 use Rattle.gp_derivation.specs.Reach.IsReached.{direct, through}
 use Rattle.gp_derivation.specs.Cones.{ConeIsUnique, ConeStays, IsCone, kept_steps, cone_steps}
-use Rattle.gp_derivation.specs.Fit.{IsConeBy, IsFit}
+use Rattle.gp_derivation.specs.Fit.{IsConeBy}
 use Rattle.gp_derivation.specs.FitStaying.{FitStays}
 use Rattle.gp_derivation.specs.ListLaws.{slice_get_front, got_front}
 use Rattle.gp_derivation.proofs.Growing.{origin_longer}
@@ -99,7 +99,7 @@ cone_is_unique bases log last certificate other one two = λ i. record { steps =
     steps = one.steps ∙ ap (λ (k : ℕ → Bool). cone_steps bases k log (length log) ++ with_hints (renumbered bases (number_of bases k log)) last ∷ []) kept ∙ sym two.steps
 
 -- what is reached from hints that name entries of a log stands in it
-pub reached_within : (bases : ℕ) (log : List LogEntry) (hints : List ℕ) → ((place : ℕ) (entry : LogEntry) → slice_get log place ≡ Some entry → NamesEarlier bases place entry.step entry.origin) → All (λ hint. hint < bases + length log) hints
+pub reached_within : (bases : ℕ) (log : List LogEntry) (hints : List ℕ) → AllNameEarlier bases log → All (λ hint. hint < bases + length log) hints
     → (place : ℕ) → IsReached bases log hints place → place < length log
 reached_within bases log hints names within place (direct p by) = let less : bases + p < bases + length log = All-contains (λ h. h < bases + length log) hints (bases + p) within by in omega (arith, less)
 reached_within bases log hints names within place (through p other entry reached got by) =
@@ -110,7 +110,7 @@ reached_longer : (bases : ℕ) (log more : List LogEntry) (hints : List ℕ) (pl
 reached_longer bases log more hints place (direct p by) = direct p by
 reached_longer bases log more hints place (through p other entry reached got by) = through p other entry (reached_longer bases log more hints other reached) (got_front log more other entry got) by
 
-reached_shorter : (bases : ℕ) (log more : List LogEntry) (hints : List ℕ) → ((place : ℕ) (entry : LogEntry) → slice_get log place ≡ Some entry → NamesEarlier bases place entry.step entry.origin) → All (λ hint. hint < bases + length log) hints
+reached_shorter : (bases : ℕ) (log more : List LogEntry) (hints : List ℕ) → AllNameEarlier bases log → All (λ hint. hint < bases + length log) hints
     → (place : ℕ) → IsReached bases (log ++ more) hints place → IsReached bases log hints place
 reached_shorter bases log more hints names within place (direct p by) = direct p by
 reached_shorter bases log more hints names within place (through p other entry reached got by) =
@@ -176,7 +176,7 @@ cone_stays bases log more last certificate names within cone = record {
     front = sym (steps_same bases log more cone.kept none (length (log ++ more)) ∙ steps_past bases log more cone.kept none (length (log ++ more)) (omega (arith, length-append log more)))
 
 -- the cone of a step in a longer log is its cone in the log
-cone_shortens : (bases : ℕ) (log more : List LogEntry) (last : Step) (certificate : Certificate) → ((place : ℕ) (entry : LogEntry) → slice_get log place ≡ Some entry → NamesEarlier bases place entry.step entry.origin)
+cone_shortens : (bases : ℕ) (log more : List LogEntry) (last : Step) (certificate : Certificate) → AllNameEarlier bases log
     → All (λ hint. hint < bases + length log) last.hints → IsCone bases (log ++ more) last certificate → IsCone bases log last certificate
 cone_shortens bases log more last certificate names within cone = record {
   kept = cone.kept;
@@ -199,7 +199,7 @@ cone_shortens bases log more last certificate names within cone = record {
 
 -- the cone of an entry by its origin stays the same
 cone_by_same : (problem : Problem) (log more : List LogEntry) (place : ℕ) (step : Step) (origin : Origin) (certificate : Certificate)
-    → ((k : ℕ) (entry : LogEntry) → slice_get log k ≡ Some entry → NamesEarlier (length problem.clauses) k entry.step entry.origin) → NamesEarlier (length problem.clauses) place step origin → place < length log
+    → AllNameEarlier (length problem.clauses) log → NamesEarlier (length problem.clauses) place step origin → place < length log
     → IsConeBy (length problem.clauses) log step origin certificate ↔ IsConeBy (length problem.clauses) (log ++ more) step origin certificate
 cone_by_same problem log more place step Learned certificate names own within =
     let hints : All (λ hint. hint < length problem.clauses + length log) step.hints =

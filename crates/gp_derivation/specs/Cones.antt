@@ -11,7 +11,7 @@ use Rattle.gp_derivation.specs.declared.log.Origin.{Origin}
 use Rattle.gp_derivation.specs.declared.log.Origin.TheVariants.{Learned, Taken}
 use Rattle.gp_derivation.specs.Certificate.{Checks}
 use Rattle.gp_derivation.specs.Log.{LearnedPasses, LogPasses}
-use Rattle.gp_derivation.specs.Numbering.{NamesEarlier, steps_before, number_of, renumbered, moved, with_hints}
+use Rattle.gp_derivation.specs.Numbering.{AllNameEarlier, steps_before, number_of, renumbered, moved, with_hints}
 use Rattle.gp_derivation.specs.Reach.{IsReached}
 
 -- the steps that an entry gives after so many others: a learned one itself, and a taken one those of its certificate
@@ -50,5 +50,5 @@ ConeIsUnique = (bases : ℕ) (log : List LogEntry) (last : Step) (certificate ot
 -- its end
 abbrev pub ConeStays : Type 0
 ConeStays = (bases : ℕ) (log more : List LogEntry) (last : Step) (certificate : Certificate)
-    → ((place : ℕ) (entry : LogEntry) → slice_get log place ≡ Some entry → NamesEarlier bases place entry.step entry.origin) → All (λ hint. hint < bases + length log) last.hints
+    → AllNameEarlier bases log → All (λ hint. hint < bases + length log) last.hints
     → IsCone bases log last certificate → IsCone bases (log ++ more) last certificate

@@ -19,3 +19,5 @@ pub mod Fit
 pub mod Room
 pub mod Exchange
 pub mod FitStaying
+pub mod EarlierLaws
+pub mod PassingLaws

@@ -23,9 +23,13 @@ NamesEarlier bases place step Learned = All (λ hint. hint < bases + place) step
 NamesEarlier bases place step (Taken sender certificate) = (0 < length (arc_value certificate).steps)
     × ((k : ℕ) (own : Step) → slice_get (arc_value certificate).steps k ≡ Some own → All (λ hint. hint < bases + k) own.hints)
 
+-- each entry of a log names what comes before it
+abbrev pub AllNameEarlier : ℕ → List LogEntry → Type 0
+AllNameEarlier bases log = (place : ℕ) (entry : LogEntry) → slice_get log place ≡ Some entry → NamesEarlier bases place entry.step entry.origin
+
 -- a cone can be numbered: all hints name base clauses or what comes before, and all numbers are below 2^32
 pub record CanBeNumbered (bases : ℕ) (log : List LogEntry) (last : Step) : Type 0 where
-  pub entries : (place : ℕ) (entry : LogEntry) → slice_get log place ≡ Some entry → NamesEarlier bases place entry.step entry.origin
+  pub entries : AllNameEarlier bases log
   pub hints : All (λ hint. hint < bases + length log) last.hints
   pub few : bases + sum_by size_of log + 1 < 2 ^ 32
 

@@ -1,6 +1,6 @@
 ghost use Rattle.std.specs.Prelude.{◌≡◌, ℕ, ◌+◌, ◌-◌, ◌<◌, ◌^◌, ◌↔◌, IsTrue, Some, length, IfOk, All, AllPairs, slice_get};
 ghost use Rattle.std.specs.List.{sum_by};
-ghost use Rattle.gp_derivation.specs.Numbering.{CanBeNumbered, NamesEarlier, HasNumber, IsNumbered, number_beside, renumbered, moved, with_hints, size_of};
+ghost use Rattle.gp_derivation.specs.Numbering.{AllNameEarlier, CanBeNumbered, NamesEarlier, HasNumber, IsNumbered, number_beside, renumbered, moved, with_hints, size_of};
 ghost use Rattle.gp_derivation.specs.declared.log.LogEntry.{LogEntry};
 ghost use Rattle.gp_derivation.specs.declared.step.Step.{Step};
 
@@ -46,7 +46,7 @@ fn size(entry: &LogEntry) -> usize
 
 // Whether each entry names base clauses and what comes before.
 fn each_names_earlier(base_clauses: u32, log: &[LogEntry]) -> bool
-    ensures { IsTrue result ↔ ((place : ℕ) (entry : LogEntry) → slice_get log.now place ≡ Some entry → NamesEarlier base_clauses place entry.step entry.origin) }
+    ensures { IsTrue result ↔ AllNameEarlier base_clauses log.now }
 {
     for (place, entry) in log.iter().enumerate() {
         if !names_earlier(base_clauses, place, entry) {

@@ -10,10 +10,11 @@ use Rattle.gp_inbox.specs.History.{history, sent_by}
 use Rattle.gp_inbox.specs.Rule.{Fits, Kept, one_that_takes}
 use Rattle.gp_inbox.specs.Senders.{AllDifferent, times}
 use Rattle.gp_inbox.specs.Views.{blank, IsGoodFor, NamesOneOf, opened, spent}
+use Rattle.gp_inbox.specs.TotalLaws.{total_push, total_set}
 use Rattle.gp_inbox.proofs.Parting.{some_not_none}
 use Rattle.gp_inbox.proofs.Sending.{both_empty}
 use Rattle.gp_inbox.proofs.Taking.{no_other}
-use Rattle.gp_inbox.proofs.Totals.{each_push, each_set, total_push, total_set}
+use Rattle.gp_inbox.proofs.Elements.{each_push, each_set}
 
 -- without a base no clause is good
 none_good : (clauses : List SharedClause) → All (IsGoodFor None) clauses → clauses ≡ []

@@ -12,11 +12,12 @@ use Rattle.gp_inbox.specs.History.{sent_by}
 use Rattle.gp_inbox.specs.Rule.{Fits, Kept, one_that_takes}
 use Rattle.gp_inbox.specs.Senders.{times}
 use Rattle.gp_inbox.specs.Views.{IsGoodFor, joined, spent}
+use Rattle.gp_inbox.specs.TotalLaws.{total_set, two_most}
 use Rattle.gp_inbox.proofs.Members.{times_append}
 use Rattle.gp_inbox.proofs.Beginning.{spent_fits}
 use Rattle.gp_inbox.proofs.Parting.{some_not_none}
 use Rattle.gp_inbox.proofs.Sending.{sent_append}
-use Rattle.gp_inbox.proofs.Totals.{each_set, total_set, two_most}
+use Rattle.gp_inbox.proofs.Elements.{each_set}
 
 -- what two took, of which one may take at most
 join_taken : (a b : Bool) (mine theirs got : List SharedClause) → (a ≡ true → mine ≡ got) → (b ≡ true → theirs ≡ got) → (a ≡ false → mine ≡ []) → (b ≡ false → theirs ≡ [])

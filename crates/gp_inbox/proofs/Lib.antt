@@ -1,4 +1,4 @@
-mod Totals
+mod Elements
 mod Sending
 mod Members
 mod Pushing

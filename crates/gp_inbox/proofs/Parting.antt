@@ -10,8 +10,9 @@ use Rattle.gp_inbox.specs.History.{sent_by}
 use Rattle.gp_inbox.specs.Rule.{Fits, Kept, one_that_takes}
 use Rattle.gp_inbox.specs.Senders.{times}
 use Rattle.gp_inbox.specs.Views.{IsGoodFor, left_of, one_of}
+use Rattle.gp_inbox.specs.TotalLaws.{total_push, total_set}
 use Rattle.gp_inbox.proofs.Members.{times_parts}
-use Rattle.gp_inbox.proofs.Totals.{each_push, each_set, total_push, total_set}
+use Rattle.gp_inbox.proofs.Elements.{each_push, each_set}
 
 -- a base that is there is not missing
 pub some_not_none : (base : Option Problem) → IsSome base → base ≡ None → ⊥

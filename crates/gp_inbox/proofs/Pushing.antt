@@ -12,8 +12,9 @@ use Rattle.gp_inbox.specs.History.{history, sent_by}
 use Rattle.gp_inbox.specs.Rule.{Fits, Kept, one_that_takes, total}
 use Rattle.gp_inbox.specs.Senders.{times}
 use Rattle.gp_inbox.specs.Views.{IsGoodFor, MayPush, NamesOneOf, pushed_one}
+use Rattle.gp_inbox.specs.TotalLaws.{at_most, total_set, two_most}
 use Rattle.gp_inbox.proofs.Sending.{sent_append, sent_more, sent_other}
-use Rattle.gp_inbox.proofs.Totals.{at_most, each_set, total_set, two_most}
+use Rattle.gp_inbox.proofs.Elements.{each_set}
 
 -- a base for which a clause is good is there
 pub good_some : (base : Option Problem) (clause : SharedClause) → IsGoodFor base clause → IsSome base

@@ -10,9 +10,10 @@ use Rattle.gp_inbox.specs.History.{history, sent_by}
 use Rattle.gp_inbox.specs.Rule.{Fits, Kept, one_that_takes, total}
 use Rattle.gp_inbox.specs.Senders.{times}
 use Rattle.gp_inbox.specs.Views.{IsGoodFor, NamesOneOf, Takes, took_one}
+use Rattle.gp_inbox.specs.TotalLaws.{total_set, two_most}
 use Rattle.gp_inbox.proofs.Pushing.{good_none}
 use Rattle.gp_inbox.proofs.Sending.{all_behind, sent_first}
-use Rattle.gp_inbox.proofs.Totals.{each_set, total_set, two_most}
+use Rattle.gp_inbox.proofs.Elements.{each_set}
 
 -- one view alone may take
 pub no_other : (views : List View) (seat other : ℕ) (view one : View) → total one_that_takes views ≡ 1 → get_elem? views seat ≡ some view → other ≢ seat → get_elem? views other ≡ some one

@@ -1,5 +1,5 @@
 -- What a turn offers of what it learns, as its log grows.
-use Rattle.std.proofs.Common.{◌≡◌, ◌↔◌, refl, sym, ◌∙◌, ap, subst, ℕ, suc, ◌+◌, ◌-◌, ◌<◌, ◌≤◌, Option, Some, None, List, [], ◌∷◌, ◌++◌, length, inl, inr, append_assoc, arith}
+use Rattle.std.proofs.Common.{◌≡◌, refl, sym, ◌∙◌, ap, subst, ℕ, ◌+◌, ◌-◌, ◌<◌, ◌≤◌, Option, Some, None, List, [], ◌∷◌, ◌++◌, length, inl, inr, append_assoc, arith}
 use Rattle.std.specs.Arc.{arc_value}
 use Rattle.std.specs.List.{slice_get}
 use Rattle.std.specs.Prelude.{Result, Ok, Err, OnOk}
@@ -16,55 +16,15 @@ use Rattle.gp_derivation.specs.Exchange.{FitIsGood, IsGood, IsGoodBy}
 use Rattle.gp_derivation.specs.Fit.{IsFit, IsFitBy, IsSmallCone}
 use Rattle.gp_derivation.specs.FitStaying.{FitStays}
 use Rattle.gp_derivation.specs.ListLaws.{slice_get_back}
-use Rattle.gp_derivation.specs.Numbering.{CanBeNumbered, NamesEarlier}
+use Rattle.gp_derivation.specs.Numbering.{AllNameEarlier, CanBeNumbered}
 use Rattle.gp_search.specs.declared.engine.Engine.{Engine}
-use Rattle.gp_search.specs.Mail.{MailForm, OffersFit, WasOffered}
+use Rattle.gp_search.specs.Mail.{MailForm, Offers, WasOffered}
 use Rattle.gp_search.specs.Inside.{IsTurning}
+use Rattle.gp_search.specs.OfferLaws.{StandsAt, fit_alike, offers_alike, offers_joined}
 use Rattle.gp_search.specs.Moves.{AddsAndOffers, AddsFewAndOffers, IsCopyOf, KeepsLog, LearnsAndOffers, LearnsOne, OffersAll, OffersEntry}
 use Rattle.gp_search.proofs.Refuting.{can_number}
 use Rattle.gp_search.proofs.Running.{adds_more, adds_none, adds_few}
 use Rattle.gp_search.proofs.Taught.{hints_before, last_got}
-
--- each entry of a log names what comes before it
-abbrev pub AllNameEarlier : Problem → List LogEntry → Type 0
-AllNameEarlier problem log = (place : ℕ) (entry : LogEntry) → slice_get log place ≡ Some entry → NamesEarlier (length problem.clauses) place entry.step entry.origin
-
--- some entries stand in a log from a place on
-abbrev pub StandsAt : List LogEntry → ℕ → List LogEntry → Type 0
-StandsAt log place entries = (k : ℕ) (entry : LogEntry) → slice_get entries k ≡ Some entry → slice_get log (place + k) ≡ Some entry
-
--- what was offered of some entries is what is fit of them in a longer log
-offers_longer : FitStays → (problem : Problem) (log more : List LogEntry) → AllNameEarlier problem log → (place : ℕ) (entries : List LogEntry) (offered : List (ℕ × List Lit)) → StandsAt log place entries
-    → OffersFit problem log place entries offered → OffersFit problem (log ++ more) place entries offered
-offers_longer law problem log more names place [] offered stands offers = offers
-offers_longer law problem log more names place (entry ∷ entries) offered stands offers = elim offers [
-  | inl one ↦ inl (same.0 one.0, one.1, one.2, offers_longer law problem log more names (place + 1) entries one.1 next one.3)
-  | inr none ↦ inr ((λ fits. none.0 (same.1 fits)), offers_longer law problem log more names (place + 1) entries offered next none.1)
-]
-  where
-    first : slice_get log place ≡ Some entry
-    first = ap (λ (n : ℕ). slice_get log n) (let at : place ≡ place + 0 = omega arith in at) ∙ stands 0 entry refl
-
-    same : IsFit problem log entry ↔ IsFit problem (log ++ more) entry
-    same = law problem log more names place entry first
-
-    next : StandsAt log (place + 1) entries
-    next k own got = ap (λ (n : ℕ). slice_get log n) (let at : place + 1 + k ≡ place + suc k = omega arith in at) ∙ stands (suc k) own got
-
--- what was offered of some entries, and then of others behind them
-offers_joined : (problem : Problem) (log : List LogEntry) (place : ℕ) (entries others : List LogEntry) (offered more : List (ℕ × List Lit)) → OffersFit problem log place entries offered
-    → OffersFit problem log (place + length entries) others more → OffersFit problem log place (entries ++ others) (offered ++ more)
-offers_joined problem log place [] others offered more none offers =
-    let P : ℕ → Type 0 = λ n. OffersFit problem log n others more in
-    let Q : List (ℕ × List Lit) → Type 0 = λ xs. OffersFit problem log place others (xs ++ more) in
-    subst Q (sym none) (subst P (let at : place + 0 ≡ place = omega arith in at) offers)
-offers_joined problem log place (entry ∷ entries) others offered more first offers = elim first [
-  | inl one ↦ inl (one.0, one.1 ++ more, ap (λ (xs : List (ℕ × List Lit)). xs ++ more) one.2, offers_joined problem log (place + 1) entries others one.1 more one.3 next)
-  | inr none ↦ inr (none.0, offers_joined problem log (place + 1) entries others offered more none.1 next)
-]
-  where
-    next : OffersFit problem log (place + 1 + length entries) others more
-    next = let P : ℕ → Type 0 = λ n. OffersFit problem log n others more in subst P (let at : place + suc (length entries) ≡ place + 1 + length entries = omega arith in at) offers
 
 -- at first nothing was offered
 offers_none : (problem : Problem) (log : List LogEntry) (place : ℕ) (before : Option MailForm) → OffersAll problem log place [] before before
@@ -72,7 +32,7 @@ offers_none problem log place None = refl
 offers_none problem log place (Some told) = ([], ap (λ (xs : List (ℕ × List Lit)). Some (record told { offered = xs })) (sym (append-nil told.offered)), refl)
 
 -- then one entry more was offered, where it is fit
-offers_more : FitStays → (problem : Problem) (log : List LogEntry) (place : ℕ) (entries : List LogEntry) (last : LogEntry) (before mid after : Option MailForm) → AllNameEarlier problem log → StandsAt log place entries
+offers_more : FitStays → (problem : Problem) (log : List LogEntry) (place : ℕ) (entries : List LogEntry) (last : LogEntry) (before mid after : Option MailForm) → AllNameEarlier (length problem.clauses) log → StandsAt log place entries
     → OffersAll problem log place entries before mid → OffersEntry problem (log ++ last ∷ []) (place + length entries) last mid after → OffersAll problem (log ++ last ∷ []) place (entries ++ last ∷ []) before after
 offers_more law problem log place entries last None mid after names stands nothing offers = elim offers [
   | inl one ↦ subst (λ (m : Option MailForm). WasOffered m after (place + length entries) last.step.clause) nothing one.1
@@ -83,25 +43,25 @@ offers_more law problem log place entries last (Some told) mid after names stand
     offered ++ (place + length entries, last.step.clause) ∷ [],
     subst (λ (m : Option MailForm). WasOffered m after (place + length entries) last.step.clause) is one.1
         ∙ ap (λ (xs : List (ℕ × List Lit)). Some (record told { offered = xs })) (append_assoc told.offered offered ((place + length entries, last.step.clause) ∷ [])),
-    offers_joined problem (log ++ last ∷ []) place entries (last ∷ []) offered ((place + length entries, last.step.clause) ∷ []) longer (inl (one.0, [], refl, refl)),
+    offers_joined (IsFit problem (log ++ last ∷ [])) place entries (last ∷ []) offered ((place + length entries, last.step.clause) ∷ []) longer (inl (one.0, [], refl, refl)),
   )
   | inr none ↦ (
     offered,
     none.1 ∙ is,
-    let Q : List (ℕ × List Lit) → Type 0 = λ xs. OffersFit problem (log ++ last ∷ []) place (entries ++ last ∷ []) xs in
-        subst Q (append-nil offered) (offers_joined problem (log ++ last ∷ []) place entries (last ∷ []) offered [] longer (inr (none.0, refl))),
+    let Q : List (ℕ × List Lit) → Type 0 = λ xs. Offers (IsFit problem (log ++ last ∷ [])) place (entries ++ last ∷ []) xs in
+        subst Q (append-nil offered) (offers_joined (IsFit problem (log ++ last ∷ [])) place entries (last ∷ []) offered [] longer (inr (none.0, refl))),
   )
 ]
   where
-    longer : OffersFit problem (log ++ last ∷ []) place entries offered
-    longer = offers_longer law problem log (last ∷ []) names place entries offered stands fit
+    longer : Offers (IsFit problem (log ++ last ∷ [])) place entries offered
+    longer = offers_alike (IsFit problem log) (IsFit problem (log ++ last ∷ [])) place entries offered (fit_alike law problem log (last ∷ []) names place entries stands) fit
 
 -- the same along the log of a turn
 pub adds_offers_none : (problem : Problem) (engine : Engine) (before : Option MailForm) → AddsAndOffers problem 0 engine engine before before
 unfolding adds_none
 adds_offers_none problem engine before = record { adds = adds_none engine; offers = offers_none problem engine.log.items (length engine.log.items) before }
 
-pub adds_offers_more : FitStays → (problem : Problem) (count : ℕ) (old now kept new : Engine) (before mid after : Option MailForm) → AllNameEarlier problem now.log.items → AddsAndOffers problem count old now before mid → KeepsLog now kept
+pub adds_offers_more : FitStays → (problem : Problem) (count : ℕ) (old now kept new : Engine) (before mid after : Option MailForm) → AllNameEarlier (length problem.clauses) now.log.items → AddsAndOffers problem count old now before mid → KeepsLog now kept
     → LearnsAndOffers problem kept new mid after → AddsAndOffers problem (count + 1) old new before after
 unfolding adds_more
 adds_offers_more law problem count old now kept new before mid after names some keeps one =

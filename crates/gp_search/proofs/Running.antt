@@ -9,12 +9,13 @@ use Rattle.gp_clause.specs.declared.problem.Problem.{Problem}
 use Rattle.gp_clause.specs.declared.problem.Query.{Query}
 use Rattle.gp_derivation.specs.declared.exchange.SharedClause.{SharedClause}
 use Rattle.gp_derivation.specs.declared.log.LogEntry.{LogEntry}
+use Rattle.gp_derivation.specs.Fit.{IsFit}
 use Rattle.gp_derivation.specs.Log.{IsLearned, IsTaken, EntryPasses, LogPasses}
 use Rattle.gp_derivation.specs.Spent.{IsNewBy, turned}
 use Rattle.gp_derivation.specs.ListLaws.{all_from_got, slice_get_back}
 use Rattle.gp_search.specs.declared.engine.Engine.{Engine}
 use Rattle.gp_search.specs.Inside.{IsWhole, IsTurning, turn_from}
-use Rattle.gp_search.specs.Mail.{MailForm, OffersFit, SharesWith, taken_entry}
+use Rattle.gp_search.specs.Mail.{MailForm, Offers, SharesWith, taken_entry}
 use Rattle.gp_search.specs.Moves.{Adds, AddsFew, AddsFewAndOffers, GrowsAndShares, HasGivenAll, IsGrown, KeepsLog, LearnsOne, OffersAll, TakesAll, TakesSome}
 use Rattle.gp_search.specs.Verdict.{IsUsedUp, Learns, LearnsAndShares}
 
@@ -124,8 +125,8 @@ shares_on problem old log gave added place None mid after longer at given offers
     subst (λ (m : Option MailForm). OffersAll problem log place added m after) given offers
 shares_on problem old log gave added place (Some told) mid after longer at (then, is, clauses, nothing, emptied) offers =
     let all = subst (λ (m : Option MailForm). OffersAll problem log place added m after) is offers in
-    let P : List LogEntry → Type 0 = λ es. OffersFit problem es place added all.0 in
-    let Q : ℕ → Type 0 = λ n. OffersFit problem (old ++ map taken_entry gave ++ added) n added all.0 in (
+    let P : List LogEntry → Type 0 = λ es. Offers (IsFit problem es) place added all.0 in
+    let Q : ℕ → Type 0 = λ n. Offers (IsFit problem (old ++ map taken_entry gave ++ added)) n added all.0 in (
       record then { offered = then.offered ++ all.0 },
       all.1,
       record {

@@ -3,3 +3,4 @@ pub mod Mail
 pub mod Bounds
 pub mod Inside
 pub mod Moves
+pub mod OfferLaws

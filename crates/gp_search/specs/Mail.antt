@@ -33,12 +33,12 @@ WasOffered (Some told) after place clause = after ≡ Some (record told { offere
 abbrev pub taken_entry : SharedClause → LogEntry
 taken_entry shared = record { step = record { clause = shared.clause; hints = [] }; origin = Taken shared.sender shared.certificate }
 
--- of the entries of a log from a place on, exactly those that are fit to share were offered, in order
-abbrev pub OffersFit : Problem → List LogEntry → ℕ → List LogEntry → List (ℕ × List Lit) → Type 0
-OffersFit problem log place [] offered = offered ≡ []
-OffersFit problem log place (entry ∷ entries) offered =
-    (IsFit problem log entry × (more : List (ℕ × List Lit)) × (offered ≡ (place, entry.step.clause) ∷ more) × OffersFit problem log (place + 1) entries more)
-    ⊎ ((IsFit problem log entry → ⊥) × OffersFit problem log (place + 1) entries offered)
+-- of the entries of a log from a place on, exactly those that have a property were offered, in order
+abbrev pub Offers : (LogEntry → Type 0) → ℕ → List LogEntry → List (ℕ × List Lit) → Type 0
+Offers Is place [] offered = offered ≡ []
+Offers Is place (entry ∷ entries) offered =
+    (Is entry × (more : List (ℕ × List Lit)) × (offered ≡ (place, entry.step.clause) ∷ more) × Offers Is (place + 1) entries more)
+    ⊎ ((Is entry → ⊥) × Offers Is (place + 1) entries offered)
 
 -- what a mail told before and after a turn that took some entries and learned others: it gave what was taken, and was offered
 -- what was learned and is fit to share; where it gave fewer than 256, it was found empty
@@ -48,7 +48,7 @@ pub record Shares (problem : Problem) (old : List LogEntry) (taken learned : Lis
   pub logged : taken ≡ map taken_entry gave
   pub offered : List (ℕ × List Lit)
   pub offers : after.offered ≡ before.offered ++ offered
-  pub fit : OffersFit problem (old ++ taken ++ learned) (length old + length taken) learned offered
+  pub fit : Offers (IsFit problem (old ++ taken ++ learned)) (length old + length taken) learned offered
   pub emptied : length gave < 256 → one_more before.empty ≤ after.empty
 
 -- the same of a mail that may tell nothing

@@ -33,7 +33,7 @@ use Rattle.gp_search.specs.declared.turn.Descent.TheVariants.{Verdict as Ended, 
 use Rattle.gp_search.specs.declared.verdict.Verdict.{Verdict}
 use Rattle.gp_search.specs.declared.verdict.Verdict.TheVariants.{Model, Refuted, Spent}
 use Rattle.gp_search.specs.Inside.{all_kinds, turn_from, IsConflict, IsBlank, false_lit}
-use Rattle.gp_search.specs.Mail.{Gives, MailForm, OffersFit, SharesWith, WasOffered, one_more, taken_entry}
+use Rattle.gp_search.specs.Mail.{Gives, MailForm, Offers, SharesWith, WasOffered, one_more, taken_entry}
 
 -- the log, the places where the turn begins and begins to learn, and the number of variables stay
 pub record KeepsLog (old new : Engine) : Type 0 where
@@ -212,7 +212,7 @@ pub record LearnsAndOffers (problem : Problem) (old new : Engine) (before after 
 abbrev pub OffersAll : Problem → List LogEntry → ℕ → List LogEntry → Option MailForm → Option MailForm → Type 0
 OffersAll problem log place entries None after = after ≡ None
 OffersAll problem log place entries (Some before) after =
-    (offered : List (ℕ × List Lit)) × (after ≡ Some (record before { offered = before.offered ++ offered })) × OffersFit problem log place entries offered
+    (offered : List (ℕ × List Lit)) × (after ≡ Some (record before { offered = before.offered ++ offered })) × Offers (IsFit problem log) place entries offered
 
 -- so many entries came to the end of the log, and those that are fit to share were offered
 pub record AddsAndOffers (problem : Problem) (count : ℕ) (old new : Engine) (before after : Option MailForm) : Type 0 where

@@ -1,14 +1,12 @@
 -- A log that grew by a turn, as the mail tells it.
-use Rattle.std.proofs.Common.{◌≡◌, ◌↔◌, refl, sym, ◌∙◌, ap, subst, ℕ, zero, suc, ◌+◌, ◌<◌, ◌≤◌, ◌⊎◌, inl, inr, Bool, true, false, cond, Option, Some, None, List, [], ◌∷◌, ◌++◌, length, map, get_or, All, append_assoc, arith}
+use Rattle.std.proofs.Common.{◌≡◌, ◌↔◌, refl, sym, ◌∙◌, ap, subst, ℕ, ◌+◌, ◌<◌, ◌≤◌, ◌⊎◌, inl, inr, Bool, true, false, cond, Option, Some, None, List, [], ◌∷◌, ◌++◌, length, map, get_or, All, append_assoc, arith}
 use Rattle.std.specs.Arc.{arc_value}
 use Rattle.std.specs.List.{slice_get}
-use Rattle.std.proofs.lemmas.List.{append-nil, length-append, length-map, length_push, map-append}
+use Rattle.std.proofs.lemmas.List.{append-nil, length-append, length-map, map-append}
 use Rattle.std.proofs.lemmas.List.Elements.{All-head, All-tail, All-weaker, filter-append}
 use Rattle.std.proofs.lemmas.Bool.{cases_lt}
-use Rattle.std.proofs.lemmas.Option.{same_Some, slice_get-get_or, slice_get_within}
-use Rattle.gp_clause.specs.declared.edge.Edge.{Edge}
+use Rattle.std.proofs.lemmas.Option.{slice_get-get_or}
 use Rattle.gp_clause.specs.declared.kind.Kind.{Kind}
-use Rattle.gp_clause.specs.declared.lit.Lit.{Lit}
 use Rattle.gp_clause.specs.declared.problem.Problem.{Problem}
 use Rattle.gp_clause.specs.declared.problem.Query.{Query}
 use Rattle.gp_clause.specs.Follows.{Follows}
@@ -18,39 +16,17 @@ use Rattle.gp_derivation.specs.declared.log.LogEntry.{LogEntry}
 use Rattle.gp_derivation.specs.declared.log.Origin.{Origin}
 use Rattle.gp_derivation.specs.declared.log.Origin.TheVariants.{Learned, Taken}
 use Rattle.gp_derivation.specs.declared.step.Step.{Step}
-use Rattle.gp_derivation.specs.Certificate.{CertificateFollows, IsLast, StepsCheck}
+use Rattle.gp_derivation.specs.Certificate.{CertificateFollows}
+use Rattle.gp_derivation.specs.EarlierLaws.{all_earlier}
 use Rattle.gp_derivation.specs.Fit.{IsFit}
 use Rattle.gp_derivation.specs.FitStaying.{FitStays}
 use Rattle.gp_derivation.specs.Log.{IsLearned, IsTaken, OriginPasses}
-use Rattle.gp_derivation.specs.Numbering.{NamesEarlier}
-use Rattle.gp_search.specs.Mail.{MailForm, OffersFit, Shares, SharesWith, taken_entry}
+use Rattle.gp_search.specs.Mail.{MailForm, Offers, Shares, SharesWith, taken_entry}
+use Rattle.gp_search.specs.OfferLaws.{StandsAt, fit_alike, offers_alike, offers_joined, offers_nothing}
 use Rattle.gp_search.specs.Verdict.{LearnsAndShares}
 use Rattle.gp_workers.specs.Inside.{PassesAll}
 use Rattle.gp_workers.specs.Records.{TakenFollow}
-use Rattle.gp_workers.specs.Telling.{given_by, OffersLearned, SharesSoFar, TellsOrGivesNone, taken_entries, was_taken}
-
--- each entry of a log names what comes before it
-abbrev AllNameEarlier : Problem → List LogEntry → Type 0
-AllNameEarlier problem log = (place : ℕ) (entry : LogEntry) → slice_get log place ≡ Some entry → NamesEarlier (length problem.clauses) place entry.step entry.origin
-
--- the hints of steps that check name clauses before them
-steps_name : (edges : List Edge) (kinds : List Kind) (earlier : List (List Lit)) (steps : List Step) → StepsCheck edges kinds earlier steps
-    → (k : ℕ) (own : Step) → slice_get steps k ≡ Some own → All (λ hint. hint < length earlier + k) own.hints
-steps_name edges kinds earlier [] checks k own got = absurd (omega (arith, slice_get_within [] k own got))
-steps_name edges kinds earlier (step ∷ steps) checks zero own got =
-    let same : step ≡ own = same_Some step own got in
-    subst (λ (s : Step). All (λ hint. hint < length earlier + 0) s.hints) same (All-weaker (λ hint. hint < length earlier) (λ hint. hint < length earlier + 0) (λ hint low. omega (arith, low)) step.hints checks.0.hints)
-steps_name edges kinds earlier (step ∷ steps) checks (suc k) own got =
-    All-weaker (λ hint. hint < length (earlier ++ step.clause ∷ []) + k) (λ hint. hint < length earlier + suc k) (λ hint low. omega (arith, low, length_push earlier step.clause)) own.hints
-    (steps_name edges kinds (earlier ++ step.clause ∷ []) steps checks.1 k own got)
-
-has_last : (steps : List Step) (step : Step) → IsLast steps step → 0 < length steps
-has_last steps step last = let size : length steps ≡ length last.0 + 1 = ap (λ (ss : List Step). length ss) last.1 ∙ length_push last.0 step in omega (arith, size)
-
-origin_names : (problem : Problem) (locals : List Kind) (log : List LogEntry) (begins place : ℕ) (step : Step) (origin : Origin) → OriginPasses problem locals log begins place step origin → NamesEarlier (length problem.clauses) place step origin
-origin_names problem locals log begins place step Learned passes = passes.hints
-origin_names problem locals log begins place step (Taken sender certificate) passes =
-    (has_last (arc_value certificate).steps passes.proves.ends.0 passes.proves.ends.1, λ k own got. steps_name problem.edges (problem.kinds ++ []) problem.clauses (arc_value certificate).steps passes.proves.checks k own got)
+use Rattle.gp_workers.specs.Telling.{given_by, IsToOffer, OffersLearned, SharesSoFar, TellsOrGivesNone, taken_entries, was_taken}
 
 -- each entry passes, in a turn of its own or in the last
 entry_passes : (problem : Problem) (log : List LogEntry) → PassesAll problem log → (place : ℕ) (entry : LogEntry) → slice_get log place ≡ Some entry
@@ -60,9 +36,6 @@ entry_passes problem log (locals, begins, passes) place entry got = at (cases_lt
     at : (place < begins) ⊎ (begins ≤ place) → (own : List Kind) × (began : ℕ) × OriginPasses problem own log began place entry.step entry.origin
     at (inl early) = passes.earlier place entry got early
     at (inr late) = (locals, begins, passes.current place entry got late)
-
-names_earlier : (problem : Problem) (log : List LogEntry) → PassesAll problem log → AllNameEarlier problem log
-names_earlier problem log passes place entry got = let own = entry_passes problem log passes place entry got in origin_names problem own.0 log own.1 place entry.step entry.origin own.2
 
 -- the clause of each taken entry follows
 origin_follows : CertificateFollows → (problem : Problem) (locals : List Kind) (log : List LogEntry) (begins place : ℕ) (step : Step) (origin : Origin) → IsValidProblem problem → OriginPasses problem locals log begins place step origin → IsTaken origin
@@ -76,65 +49,27 @@ taken_follow law problem log valid passes k d within taken =
     let own = entry_passes problem log passes k entry (slice_get-get_or log k d within) in
     origin_follows law problem own.0 log own.1 k entry.step entry.origin valid own.2 taken
 
--- some entries stand in a log from a place on
-abbrev StandsAt : List LogEntry → ℕ → List LogEntry → Type 0
-StandsAt log place entries = (k : ℕ) (entry : LogEntry) → slice_get entries k ≡ Some entry → slice_get log (place + k) ≡ Some entry
-
--- what was offered of some entries is what is to be offered of them in a longer log
-learned_longer : FitStays → (problem : Problem) (log more : List LogEntry) → AllNameEarlier problem log → (place : ℕ) (entries : List LogEntry) (offered : List (ℕ × List Lit)) → StandsAt log place entries
-    → OffersLearned problem log place entries offered → OffersLearned problem (log ++ more) place entries offered
-learned_longer law problem log more names place [] offered stands offers = offers
-learned_longer law problem log more names place (entry ∷ entries) offered stands offers = elim offers [
-  | inl one ↦ inl ((one.0.0, same.0 one.0.1), one.1, one.2, learned_longer law problem log more names (place + 1) entries one.1 next one.3)
-  | inr none ↦ inr ((λ is. none.0 (is.0, same.1 is.1)), learned_longer law problem log more names (place + 1) entries offered next none.1)
-]
-  where
-    first : slice_get log place ≡ Some entry
-    first = ap (λ (n : ℕ). slice_get log n) (let at : place ≡ place + 0 = omega arith in at) ∙ stands 0 entry refl
-
-    same : IsFit problem log entry ↔ IsFit problem (log ++ more) entry
-    same = law problem log more names place entry first
-
-    next : StandsAt log (place + 1) entries
-    next k own got = ap (λ (n : ℕ). slice_get log n) (let at : place + 1 + k ≡ place + suc k = omega arith in at) ∙ stands (suc k) own got
-
--- what was offered of some entries, and then of others behind them
-learned_joined : (problem : Problem) (log : List LogEntry) (place : ℕ) (entries others : List LogEntry) (offered more : List (ℕ × List Lit)) → OffersLearned problem log place entries offered
-    → OffersLearned problem log (place + length entries) others more → OffersLearned problem log place (entries ++ others) (offered ++ more)
-learned_joined problem log place [] others offered more none offers =
-    let P : ℕ → Type 0 = λ n. OffersLearned problem log n others more in
-    let Q : List (ℕ × List Lit) → Type 0 = λ xs. OffersLearned problem log place others (xs ++ more) in
-    subst Q (sym none) (subst P (let at : place + 0 ≡ place = omega arith in at) offers)
-learned_joined problem log place (entry ∷ entries) others offered more first offers = elim first [
-  | inl one ↦ inl (one.0, one.1 ++ more, ap (λ (xs : List (ℕ × List Lit)). xs ++ more) one.2, learned_joined problem log (place + 1) entries others one.1 more one.3 next)
-  | inr none ↦ inr (none.0, learned_joined problem log (place + 1) entries others offered more none.1 next)
-]
-  where
-    next : OffersLearned problem log (place + 1 + length entries) others more
-    next = let P : ℕ → Type 0 = λ n. OffersLearned problem log n others more in subst P (let at : place + suc (length entries) ≡ place + 1 + length entries = omega arith in at) offers
-
 learned_not_taken : (origin : Origin) → IsLearned origin → IsTaken origin → ⊥
 learned_not_taken Learned learned taken = taken
 learned_not_taken (Taken sender certificate) learned taken = learned
 
--- nothing is offered of what was taken
-none_offered : (problem : Problem) (log : List LogEntry) (place : ℕ) (taken : List LogEntry) → All (λ (entry : LogEntry). IsTaken entry.origin) taken → OffersLearned problem log place taken []
-none_offered problem log place [] all = refl
-none_offered problem log place (entry ∷ taken) all =
-    let Was : LogEntry → Type 0 = λ one. IsTaken one.origin in
-    inr ((λ is. learned_not_taken entry.origin is.0 (All-head Was entry taken all)), none_offered problem log (place + 1) taken (All-tail Was entry taken all))
+-- what was taken is not to be offered, and what was learned is where it is fit
+none_to_offer : (problem : Problem) (log taken : List LogEntry) → All (λ (entry : LogEntry). IsTaken entry.origin) taken → All (λ (entry : LogEntry). IsToOffer problem log entry → ⊥) taken
+none_to_offer problem log taken were =
+    All-weaker (λ (entry : LogEntry). IsTaken entry.origin) (λ (entry : LogEntry). IsToOffer problem log entry → ⊥) (λ entry was is. learned_not_taken entry.origin is.0 was) taken were
 
--- of what was learned, all that is fit is offered
-fit_offered : (problem : Problem) (log : List LogEntry) (place : ℕ) (added : List LogEntry) (offered : List (ℕ × List Lit)) → All (λ (entry : LogEntry). IsLearned entry.origin) added → OffersFit problem log place added offered
-    → OffersLearned problem log place added offered
-fit_offered problem log place [] offered all offers = offers
-fit_offered problem log place (entry ∷ added) offered all offers = elim offers [
-  | inl one ↦ inl ((All-head Was entry added all, one.0), one.1, one.2, fit_offered problem log (place + 1) added one.1 (All-tail Was entry added all) one.3)
-  | inr none ↦ inr ((λ is. none.0 is.1), fit_offered problem log (place + 1) added offered (All-tail Was entry added all) none.1)
-]
-  where
-    Was : LogEntry → Type 0
-    Was one = IsLearned one.origin
+fit_to_offer : (problem : Problem) (log added : List LogEntry) → All (λ (entry : LogEntry). IsLearned entry.origin) added → All (λ (entry : LogEntry). IsFit problem log entry ↔ IsToOffer problem log entry) added
+fit_to_offer problem log added learned =
+    All-weaker (λ (entry : LogEntry). IsLearned entry.origin) (λ (entry : LogEntry). IsFit problem log entry ↔ IsToOffer problem log entry) (λ entry was. ((λ fit. (was, fit)), λ is. is.1)) added learned
+
+stands_first : (log : List LogEntry) → StandsAt log 0 log
+stands_first log k entry got = ap (λ (n : ℕ). slice_get log n) (let at : 0 + k ≡ k = omega arith in at) ∙ got
+
+-- what is to be offered is so in a longer log
+longer_to_offer : FitStays → (problem : Problem) (log more : List LogEntry) → PassesAll problem log → All (λ (entry : LogEntry). IsToOffer problem log entry ↔ IsToOffer problem (log ++ more) entry) log
+longer_to_offer law problem log more (locals, begins, passes) =
+    All-weaker (λ (entry : LogEntry). IsFit problem log entry ↔ IsFit problem (log ++ more) entry) (λ (entry : LogEntry). IsToOffer problem log entry ↔ IsToOffer problem (log ++ more) entry)
+    (λ entry same. ((λ is. (is.0, same.0 is.1)), λ is. (is.0, same.1 is.1))) log (fit_alike law problem log more (all_earlier problem locals log begins passes) 0 log (stands_first log))
 
 -- whether an entry was taken
 told_taken : (origin : Origin) → IsTaken origin → was_taken origin ≡ true
@@ -164,9 +99,6 @@ taken_after old taken added were learned =
     filter-append was (old ++ taken) added ∙ ap (λ (es : List LogEntry). es ++ taken_entries added) (filter-append was old taken)
     ∙ (λ i. (taken_entries old ++ all_taken taken were i) ++ none_taken added learned i) ∙ append-nil (taken_entries old ++ taken)
 
-stands_first : (log : List LogEntry) → StandsAt log 0 log
-stands_first log k entry got = ap (λ (n : ℕ). slice_get log n) (let at : 0 + k ≡ k = omega arith in at) ∙ got
-
 -- a log that grew is shared as its mail tells
 told_all : FitStays → (problem : Problem) (old taken added : List LogEntry) (before after : MailForm) → PassesAll problem old → All (λ (entry : LogEntry). IsTaken entry.origin) taken → All (λ (entry : LogEntry). IsLearned entry.origin) added
     → Shares problem old taken added before after → SharesSoFar problem old (Some before) → SharesSoFar problem (old ++ taken ++ added) (Some after)
@@ -175,13 +107,14 @@ told_all law problem old taken added before after passes were learned shares so_
   offered =
       let log : List LogEntry = old ++ (taken ++ added) in
       let same : old ++ taken ++ added ≡ log = append_assoc old taken added in
-      let first : OffersLearned problem log 0 old before.offered = learned_longer law problem old (taken ++ added) (names_earlier problem old passes) 0 old before.offered (stands_first old) so_far.offered in
-      let fit : OffersFit problem log (length old + length taken) added shares.offered = subst (λ (es : List LogEntry). OffersFit problem es (length old + length taken) added shares.offered) same shares.fit in
-      let last : OffersLearned problem log (length old + length taken) added shares.offered = fit_offered problem log (length old + length taken) added shares.offered learned fit in
-      let second : OffersLearned problem log (length old) (taken ++ added) shares.offered = learned_joined problem log (length old) taken added [] shares.offered (none_offered problem log (length old) taken were) last in
-      let P : ℕ → Type 0 = λ n. OffersLearned problem log n (taken ++ added) shares.offered in
-      let all : OffersLearned problem log 0 log (before.offered ++ shares.offered) = learned_joined problem log 0 old (taken ++ added) before.offered shares.offered first (let at : length old ≡ 0 + length old = omega arith in subst P at second) in
-      subst (λ (es : List LogEntry). OffersLearned problem es 0 es after.offered) (sym same) (subst (OffersLearned problem log 0 log) (sym shares.offers) all);
+      let Is : LogEntry → Type 0 = IsToOffer problem log in
+      let first : Offers Is 0 old before.offered = offers_alike (IsToOffer problem old) Is 0 old before.offered (longer_to_offer law problem old (taken ++ added) passes) so_far.offered in
+      let fit : Offers (IsFit problem log) (length old + length taken) added shares.offered = subst (λ (es : List LogEntry). Offers (IsFit problem es) (length old + length taken) added shares.offered) same shares.fit in
+      let last : Offers Is (length old + length taken) added shares.offered = offers_alike (IsFit problem log) Is (length old + length taken) added shares.offered (fit_to_offer problem log added learned) fit in
+      let second : Offers Is (length old) (taken ++ added) shares.offered = offers_joined Is (length old) taken added [] shares.offered (offers_nothing Is (length old) taken (none_to_offer problem log taken were)) last in
+      let P : ℕ → Type 0 = λ n. Offers Is n (taken ++ added) shares.offered in
+      let all : OffersLearned problem log (before.offered ++ shares.offered) = offers_joined Is 0 old (taken ++ added) before.offered shares.offered first (let at : length old ≡ 0 + length old = omega arith in subst P at second) in
+      subst (λ (es : List LogEntry). OffersLearned problem es after.offered) (sym same) (subst (OffersLearned problem log) (sym shares.offers) all);
 }
 
 no_entries : (taken : List LogEntry) → length taken ≡ 0 → taken ≡ []

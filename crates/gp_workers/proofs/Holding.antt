@@ -6,8 +6,9 @@ use Rattle.gp_workers.specs.declared.ticket_rule.Hand.{Hand}
 use Rattle.gp_inbox.specs.Senders.{times}
 use Rattle.gp_workers.specs.Tickets.{IsSound, IsWhole, once_below}
 use Rattle.gp_inbox.specs.Rule.{total}
+use Rattle.gp_inbox.specs.TotalLaws.{at_most}
 use Rattle.gp_workers.specs.TicketRule.{drawn_in, Fits, Kept, nones_in}
-use Rattle.gp_workers.proofs.Totals.{at_most, only_one}
+use Rattle.gp_workers.proofs.Totals.{only_one}
 
 -- what is below the least of two is below the first
 once_less : (number count most : ℕ) → once_below number (min count most) ≤ once_below number count

@@ -7,8 +7,9 @@ use Rattle.gp_workers.specs.declared.ticket_rule.Hand.{Hand}
 use Rattle.gp_inbox.specs.Senders.{times}
 use Rattle.gp_workers.specs.Tickets.{drew, joined, left_of, once_below, one_of, spent, told_none}
 use Rattle.gp_inbox.specs.Rule.{total}
+use Rattle.gp_inbox.specs.TotalLaws.{total_push, total_set}
 use Rattle.gp_workers.specs.TicketRule.{drawn_in, Fits, Kept, nones_in}
-use Rattle.gp_workers.proofs.Totals.{times_append, total_push, total_set}
+use Rattle.gp_workers.proofs.Totals.{times_append}
 
 -- all hands fit where one that fits changes, or is added
 fits_set : (count crew : ℕ) (hands : List Hand) (seat : ℕ) (new : Hand) → ((other : ℕ) (hand : Hand) → get_elem? hands other ≡ some hand → Fits count crew hand) → Fits count crew new

@@ -17,10 +17,10 @@ use Rattle.gp_derivation.specs.declared.record.WorkerRecord.{WorkerRecord}
 use Rattle.gp_inbox.specs.declared.rule.View.{View}
 use Rattle.gp_workers.specs.declared.desk.Desk.{Desk}
 use Rattle.gp_workers.specs.declared.desk.Outgoing.{Outgoing}
-use Rattle.gp_search.specs.Mail.{taken_entry}
+use Rattle.gp_search.specs.Mail.{Offers, taken_entry}
 use Rattle.gp_workers.specs.Desk.{clauses_of, IsDesk, Knows, offers_of, PassesAre, sent_of, taken_by, told_by}
 use Rattle.gp_workers.specs.Sharing.{clause_of, mark_for, pushed_to, where_pushed}
-use Rattle.gp_workers.specs.Telling.{OffersLearned, SharesSoFar, taken_entries}
+use Rattle.gp_workers.specs.Telling.{IsToOffer, OffersLearned, SharesSoFar, taken_entries}
 use Rattle.gp_workers.specs.Together.{IsShared}
 use Rattle.gp_workers.proofs.Passing.{passes_know}
 
@@ -34,11 +34,11 @@ abbrev Named : List LogEntry → List (ℕ × List Lit) → Type 0
 Named log [] = Unit {0}
 Named log (one ∷ more) = (clause_of (slice_get log one.0) ≡ one.1 ∷ []) × Named log more
 
-named : (problem : Problem) (log front entries : List LogEntry) (place : ℕ) (offered : List (ℕ × List Lit)) → log ≡ front ++ entries → place ≡ length front → OffersLearned problem log place entries offered → Named log offered
-named problem log front [] place offered is at none = subst (Named log) (sym none) tt
-named problem log front (entry ∷ entries) place offered is at offers = elim offers [
-  | inl one ↦ subst (Named log) (sym one.2) (ap clause_of here, named problem log (front ++ entry ∷ []) entries (place + 1) one.1 longer next one.3)
-  | inr none ↦ named problem log (front ++ entry ∷ []) entries (place + 1) offered longer next none.1
+named : (Is : LogEntry → Type 0) (log front entries : List LogEntry) (place : ℕ) (offered : List (ℕ × List Lit)) → log ≡ front ++ entries → place ≡ length front → Offers Is place entries offered → Named log offered
+named Is log front [] place offered is at none = subst (Named log) (sym none) tt
+named Is log front (entry ∷ entries) place offered is at offers = elim offers [
+  | inl one ↦ subst (Named log) (sym one.2) (ap clause_of here, named Is log (front ++ entry ∷ []) entries (place + 1) one.1 longer next one.3)
+  | inr none ↦ named Is log (front ++ entry ∷ []) entries (place + 1) offered longer next none.1
 ]
   where
     here : slice_get log place ≡ Some entry
@@ -110,7 +110,7 @@ pub handed_back : (desk : Desk) (old new : WorkerRecord) (passes : List (Pass Sh
 handed_back desk old new passes is shares logs offered same = record {
   offers = record {
     offered = map pair_of desk.outgoing.items;
-    learned = subst (λ (log : List LogEntry). OffersLearned desk.problem.now log 0 log (map pair_of desk.outgoing.items)) (sym logs) shares.offered;
+    learned = subst (λ (log : List LogEntry). OffersLearned desk.problem.now log (map pair_of desk.outgoing.items)) (sym logs) shares.offered;
     entries = ap (λ (os : List Offered). map (λ (one : Offered). one.entry) os) offered ∙ map-map (λ (one : Offered). one.entry) (λ (one : Outgoing). one.offered) desk.outgoing.items
         ∙ sym (map-map (λ (one : ℕ × List Lit). one.0) pair_of desk.outgoing.items);
     marked = subst (λ (os : List Offered). (place : ℕ) (one : Offered) → slice_get os place ≡ Some one
@@ -127,4 +127,4 @@ handed_back desk old new passes is shares logs offered same = record {
     sent taker within apart =
         ap (λ (os : List Offered). flat_map (pushed_of new.log (length desk.inboxes.now) desk.place taker is.place within apart) os) offered
         ∙ pushed_is new.log (length desk.inboxes.now) desk.place taker is.place within apart 1024 desk.outgoing.items is.marked
-        (subst (λ (log : List LogEntry). Named log (map pair_of desk.outgoing.items)) (sym logs) (named desk.problem.now old.log [] old.log 0 (map pair_of desk.outgoing.items) refl refl shares.offered))
+        (subst (λ (log : List LogEntry). Named log (map pair_of desk.outgoing.items)) (sym logs) (named (IsToOffer desk.problem.now old.log) old.log [] old.log 0 (map pair_of desk.outgoing.items) refl refl shares.offered))

@@ -11,8 +11,9 @@ use Rattle.atomic_table.specs.Table.{Allows, Joins, keeps, Me, opening, Splits, 
 use Rattle.gp_workers.specs.declared.ticket_rule.Hand.{Hand}
 use Rattle.gp_workers.specs.Tickets.{Draws, drew, IsSound, IsWhole, joined, left_of, one_of, spent, told_none, unused}
 use Rattle.gp_inbox.specs.Rule.{total}
+use Rattle.gp_inbox.specs.TotalLaws.{at_most}
 use Rattle.gp_workers.specs.TicketRule.{drawn_in, Fits, Kept, nones_in}
-use Rattle.gp_workers.proofs.Totals.{at_most, total_le, within}
+use Rattle.gp_workers.proofs.Totals.{total_le, within}
 use Rattle.gp_workers.proofs.Holding.{sound, whole}
 use Rattle.gp_workers.proofs.Moving.{keeps_drawn, keeps_join, keeps_none, keeps_split}
 

@@ -1,27 +1,11 @@
--- A number of each hand, added up, and how it changes with one hand.
-use Rattle.std.proofs.Common.{◌≡◌, refl, sym, ap, ℕ, zero, suc, ◌+◌, ◌<◌, ◌≤◌, ◌≢◌, List, [], ◌∷◌, ◌++◌, length, set, arith}
+-- A number of each hand, added up.
+use Rattle.std.proofs.Common.{◌≡◌, refl, sym, ap, ℕ, zero, suc, ◌+◌, ◌<◌, ◌≤◌, List, [], ◌∷◌, ◌++◌, length, arith}
 use mathlib.Core.Option.{some, some-injective, some-ne-none}
 use lib.ListN.{get_elem?}
 use Rattle.gp_workers.specs.declared.ticket_rule.Hand.{Hand}
 use Rattle.gp_inbox.specs.Senders.{times}
 use Rattle.gp_inbox.specs.Rule.{total}
-
--- one hand changes
-pub total_set : (f : Hand → ℕ) (hands : List Hand) (seat : ℕ) (old new : Hand) → get_elem? hands seat ≡ some old → total f (set hands seat new) + f old ≡ total f hands + f new
-total_set f [] seat old new at = absurd (some-ne-none old (sym at))
-total_set f (hand ∷ hands) zero old new at = let same : f hand ≡ f old = ap f (some-injective hand old at) in omega arith
-total_set f (hand ∷ hands) (suc seat) old new at = let rest = total_set f hands seat old new at in omega arith
-
--- one hand more
-pub total_push : (f : Hand → ℕ) (hands : List Hand) (new : Hand) → total f (hands ++ new ∷ []) ≡ total f hands + f new
-total_push f [] new = omega arith
-total_push f (hand ∷ hands) new = let rest = total_push f hands new in omega arith
-
--- one hand has no more than all
-pub at_most : (f : Hand → ℕ) (hands : List Hand) (seat : ℕ) (hand : Hand) → get_elem? hands seat ≡ some hand → f hand ≤ total f hands
-at_most f [] seat hand at = absurd (some-ne-none hand (sym at))
-at_most f (first ∷ hands) zero hand at = let same : f first ≡ f hand = ap f (some-injective first hand at) in omega arith
-at_most f (first ∷ hands) (suc seat) hand at = let rest = at_most f hands seat hand at in omega arith
+use Rattle.gp_inbox.specs.TotalLaws.{at_most}
 
 -- a number that is nowhere greater than another is not greater in all
 pub total_le : (f g : Hand → ℕ) (hands : List Hand) → ((seat : ℕ) (hand : Hand) → get_elem? hands seat ≡ some hand → f hand ≤ g hand) → total f hands ≤ total g hands
@@ -51,18 +35,6 @@ only_one f g (first ∷ hands) (suc seat) hand at all idle =
     let none : g first ≡ 0 = omega arith in
     let own : f first ≡ 0 = idle 0 first refl none in
     let rest = only_one f g hands seat hand at (omega arith) (λ other one there. idle (suc other) one there) in omega arith
-
--- two hands have no more than all
-pub two_most : (f : Hand → ℕ) (hands : List Hand) (seat other : ℕ) (hand one : Hand) → get_elem? hands seat ≡ some hand → other ≢ seat → get_elem? hands other ≡ some one
-    → f hand + f one ≤ total f hands
-two_most f [] seat other hand one at apart there = absurd (some-ne-none hand (sym at))
-two_most f (first ∷ hands) zero zero hand one at apart there = absurd (apart refl)
-two_most f (first ∷ hands) zero (suc other) hand one at apart there =
-    let same : f first ≡ f hand = ap f (some-injective first hand at) in let rest = at_most f hands other one there in omega arith
-two_most f (first ∷ hands) (suc seat) zero hand one at apart there =
-    let same : f first ≡ f one = ap f (some-injective first one there) in let rest = at_most f hands seat hand at in omega arith
-two_most f (first ∷ hands) (suc seat) (suc other) hand one at apart there =
-    let rest = two_most f hands seat other hand one at (λ same. apart (ap suc same)) there in omega arith
 
 -- how often a number stands in two lists
 pub times_append : (number : ℕ) (xs ys : List ℕ) → times number (xs ++ ys) ≡ times number xs + times number ys

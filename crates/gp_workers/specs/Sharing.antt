@@ -47,7 +47,7 @@ pushed_to one own taker = flat_map (λ (offered : Offered). where_pushed (mark_f
 -- a record offers exactly the learned entries of its log that are fit to share, in order, and marks them
 pub record OffersAll (problem : Problem) (count : ℕ) (own : WorkerRecord) : Type 0 where
   pub offered : List (ℕ × List Lit)
-  pub learned : OffersLearned problem own.log 0 own.log offered
+  pub learned : OffersLearned problem own.log offered
   pub entries : map (λ (one : Offered). one.entry) own.offered ≡ map (λ (one : ℕ × List Lit). one.0) offered
   pub marked : AreMarked count own.offered
 

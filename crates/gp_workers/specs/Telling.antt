@@ -1,5 +1,5 @@
 -- What a log has, by what the worker's mail tells.
-use Rattle.std.specs.Prelude.{ℕ, ◌≡◌, ◌+◌, ◌⊎◌, ◌≤◌, Bool, true, false, Option, None, Some, List, [], ◌∷◌, length, map, filter}
+use Rattle.std.specs.Prelude.{ℕ, ◌≡◌, ◌≤◌, Bool, true, false, Option, None, Some, List, [], length, map, filter}
 use Rattle.gp_clause.specs.declared.lit.Lit.{Lit}
 use Rattle.gp_clause.specs.declared.problem.Problem.{Problem}
 use Rattle.gp_derivation.specs.declared.log.LogEntry.{LogEntry}
@@ -7,7 +7,7 @@ use Rattle.gp_derivation.specs.declared.log.Origin.{Origin}
 use Rattle.gp_derivation.specs.declared.log.Origin.TheVariants.{Learned, Taken}
 use Rattle.gp_derivation.specs.Fit.{IsFit}
 use Rattle.gp_derivation.specs.Log.{IsLearned}
-use Rattle.gp_search.specs.Mail.{MailForm, taken_entry}
+use Rattle.gp_search.specs.Mail.{MailForm, Offers, taken_entry}
 
 -- whether an origin is that of a taken entry
 abbrev pub was_taken : Origin → Bool
@@ -22,17 +22,14 @@ taken_entries log = filter (λ (entry : LogEntry). was_taken entry.origin) log
 abbrev pub IsToOffer : Problem → List LogEntry → LogEntry → Type 0
 IsToOffer problem log entry = IsLearned entry.origin × IsFit problem log entry
 
--- of the entries of a log from a place on, exactly the learned ones that are fit to share were offered, in order
-abbrev pub OffersLearned : Problem → List LogEntry → ℕ → List LogEntry → List (ℕ × List Lit) → Type 0
-OffersLearned problem log place [] offered = offered ≡ []
-OffersLearned problem log place (entry ∷ entries) offered =
-    (IsToOffer problem log entry × (more : List (ℕ × List Lit)) × (offered ≡ (place, entry.step.clause) ∷ more) × OffersLearned problem log (place + 1) entries more)
-    ⊎ ((IsToOffer problem log entry → ⊥) × OffersLearned problem log (place + 1) entries offered)
+-- of the entries of a log, exactly the learned ones that are fit to share were offered, in order
+abbrev pub OffersLearned : Problem → List LogEntry → List (ℕ × List Lit) → Type 0
+OffersLearned problem log offered = Offers (IsToOffer problem log) 0 log offered
 
 -- what a mail gave are the taken entries of a log, and what it was offered are the learned ones that are fit to share
 pub record SharesAll (problem : Problem) (log : List LogEntry) (told : MailForm) : Type 0 where
   pub gave : map taken_entry told.gave ≡ taken_entries log
-  pub offered : OffersLearned problem log 0 log told.offered
+  pub offered : OffersLearned problem log told.offered
 
 -- the same of a mail that may tell nothing, where nothing was taken
 abbrev pub SharesSoFar : Problem → List LogEntry → Option MailForm → Type 0

@@ -1,5 +1,4 @@
 ghost use Rattle.std.specs.Prelude.{◌≡◌, true};
-ghost use Rattle.gp_clause.specs.Clause.{IsRising};
 ghost use Rattle.gp_report.specs.Reading.{Gives, read_lits, read_step, read_steps, rises};
 
 use crate::fault::{ReportFault, ReportRule};
@@ -70,13 +69,10 @@ fn rises(lits: &[Lit]) -> bool
     lits.is_sorted_by(|lit, next| lit.variable < next.variable)
 }
 
-// The clause of literals whose variables rise.
+// The clause of literals that the test finds rising.
 fn clause_of(lits: Vec<Lit>) -> Clause
     requires { rises lits.items ≡ true }
     ensures { result ≡ lits.items }
 {
-    match Clause::of(lits) {
-        Ok(clause) => clause,
-        Err(_) => unreachable!(),
-    }
+    Clause::of_rising(lits)
 }

@@ -8,8 +8,8 @@ use Rattle.gp_constraint.specs.Signed.{Agree}
 use Rattle.gp_constraint.proofs.Rising.{clause_rises, rising_from, signed_head}
 use Rattle.gp_constraint.proofs.numbering.number_clauses.Goals as goal
 
-pub clause_of-requires : goal.clause_of-requires
-clause_of-requires c =
+pub of_rising-requires : goal.of_rising-requires
+of_rising-requires c =
     let clauses : List (List SymbolicLit) = c.args.clauses.now in
     let i : ℕ = c.loop-clause.clause-index in
     let names : List Symbol = c.loop-clause.names in

@@ -1,7 +1,7 @@
 use Rattle.std.proofs.Common.{◌≡◌, refl, ◌∙◌, ◌+◌, length, arith}
 use Rattle.gp_search.proofs.Few.{few_learned}
 use Rattle.gp_search.proofs.Offering.{adds_offers_few, adds_offers_more, adds_offers_none}
-use Rattle.gp_search.proofs.Refuting.{all_earlier}
+use Rattle.gp_derivation.specs.EarlierLaws.{all_earlier}
 use Rattle.gp_search.proofs.Running.{adds_few, adds_few_on, added_length, used_up}
 use Rattle.gp_search.proofs.engine.Engine.run.Goals as goal
 

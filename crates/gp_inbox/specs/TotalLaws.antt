@@ -1,8 +1,7 @@
--- A number of each view, added up, and how it changes with one view.
-use Rattle.std.proofs.Common.{◌≡◌, refl, sym, ap, ℕ, zero, suc, ◌+◌, ◌≤◌, ◌≢◌, List, [], ◌∷◌, ◌++◌, set, subst, ⊎_elim, arith}
+-- A number of each element of a list, added up, and how it changes with one element.
+use Rattle.std.proofs.Common.{◌≡◌, refl, sym, ap, ℕ, zero, suc, ◌+◌, ◌≤◌, ◌≢◌, List, [], ◌∷◌, ◌++◌, set, arith}
 use mathlib.Core.Option.{some, some-injective, some-ne-none}
 use lib.ListN.{get_elem?}
-use Rattle.crossbeam_queue.proofs.Lists.{at_set, at_snoc}
 use Rattle.gp_inbox.specs.Rule.{total}
 
 module _ {V : Type 0} where
@@ -33,16 +32,3 @@ module _ {V : Type 0} where
       let same : f first ≡ f one = ap f (some-injective first one there) in let rest = at_most f views seat view at in omega arith
   two_most f (first ∷ views) (suc seat) (suc other) view one at apart there =
       let rest = two_most f views seat other view one at (λ same. apart (ap suc same)) there in omega arith
-
-  -- what holds of the one that changed and of each other holds of all
-  pub each_set : (F : V → Type 0) (views : List V) (seat : ℕ) (new : V) → F new → ((other : ℕ) (one : V) → other ≢ seat → get_elem? views other ≡ some one → F one)
-      → (other : ℕ) (one : V) → get_elem? (set views seat new) other ≡ some one → F one
-  each_set F views seat new mine others other one there =
-      ⊎_elim (λ (here : (other ≡ seat) × (new ≡ one)). subst F here.1 mine)
-      (λ (elsewhere : (other ≢ seat) × (get_elem? views other ≡ some one)). others other one elsewhere.0 elsewhere.1) (at_set views seat other new one there)
-
-  -- what holds of each and of one more holds of all
-  pub each_push : (F : V → Type 0) (views : List V) (new : V) → ((other : ℕ) (one : V) → get_elem? views other ≡ some one → F one) → F new
-      → (other : ℕ) (one : V) → get_elem? (views ++ new ∷ []) other ≡ some one → F one
-  each_push F views new others mine other one there =
-      ⊎_elim (λ (old : get_elem? views other ≡ some one). others other one old) (λ (last : new ≡ one). subst F last mine) (at_snoc views new one other there)

@@ -1,6 +1,5 @@
 -- A single drawer, before its first draw, after a number and at the end.
-use Rattle.std.proofs.Common.{◌≡◌, ◌∙◌, sym, ap, ℕ, zero, suc, ◌+◌, ◌<◌, List, [], ◌∷◌, Some, length, get_or, arith}
-use Rattle.std.specs.List.{slice_get}
+use Rattle.std.proofs.Common.{◌≡◌, ◌∙◌, ap, ℕ, ◌+◌, ◌<◌, length, arith}
 use Rattle.std.proofs.lemmas.List.{length_push}
 use Rattle.gp_workers.specs.declared.drawers.Drawer.{Drawer}
 use Rattle.gp_workers.specs.declared.drawers.Tickets.{Tickets}
@@ -22,9 +21,3 @@ pub fewer_drawn : (tickets : Tickets) (old new : Drawer) (ticket : ℕ) → IsDr
 fewer_drawn tickets old new ticket own is =
     let more : length (hand_of new).drawn ≡ length (hand_of old).drawn + 1 = ap (λ (h : Hand). length h.drawn) is ∙ length_push (hand_of old).drawn ticket in
     omega (arith, more, new.sound.few, own.same_count)
-
--- what an index names is there
-pub there : {X : Type 0} (xs : List X) (i : ℕ) (x : X) → i < length xs → x ≡ get_or xs i x → slice_get xs i ≡ Some x
-there [] i x within is = absurd (omega (arith, within))
-there (y ∷ xs) zero x within is = ap Some (sym is)
-there (y ∷ xs) (suc i) x within is = there xs i x (omega (arith, within)) is

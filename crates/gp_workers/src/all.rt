@@ -6,8 +6,7 @@ ghost use Rattle.gp_workers.specs.Sharing.{AllShared, SharesNothing};
 ghost use Rattle.gp_workers.specs.Together.{IsSharingJob};
 ghost use Rattle.gp_workers.specs.Work.{CanBeAsked, CanBeWorked, IsWork};
 
-use crate::crew::{Shared, SharingJob};
-use crate::drawers::Tickets;
+use crate::crew::{Shared, SharingJob, Workload};
 use crate::finishing::finish;
 use crate::one::work_one;
 use crate::opening::{hire_sharing, open_inboxes};
@@ -67,9 +66,14 @@ fn work_together<R: Threads + Wait + Sync, G: Gate + Sync>(
     let (inboxes, columns) = open_inboxes(alloc, problem, workers)?;
     let inboxes = inboxes.as_slice();
     let (tickets, jobs) = hire_sharing(alloc, queries.len() as u64, workers, columns)?;
-    let handed = run_all(
-        rt, alloc, &tickets, inboxes, problem, queries, budget, gate, jobs,
-    )?;
+    let load = Workload {
+        tickets: &tickets,
+        problem,
+        queries,
+        budget,
+        gate,
+    };
+    let handed = run_all(rt, alloc, &load, inboxes, jobs)?;
     let crew = in_order(alloc, handed)?;
     finish(rt, alloc, &tickets, inboxes, crew)
 }
@@ -77,32 +81,24 @@ fn work_together<R: Threads + Wait + Sync, G: Gate + Sync>(
 fn run_all<R: Threads + Wait + Sync, G: Gate + Sync>(
     rt: &R,
     alloc: Global,
-    tickets: &Tickets,
+    load: &Workload<'_, G>,
     inboxes: &[Inbox],
-    problem: &Problem,
-    queries: &[Query],
-    budget: u64,
-    gate: &G,
     jobs: Vec<SharingJob>,
 ) -> Result<Vec<Result<Shared, AllocError>>, AllocError>
-    requires asked { CanBeAsked problem.now queries.now budget }
-    requires count { tickets.now.count ≡ length queries.now }
+    requires asked { CanBeAsked load.now.problem.now load.now.queries.now load.now.budget }
+    requires count { load.now.tickets.now.count ≡ length load.now.queries.now }
     requires few { (length inboxes.now ≤ 16) × (length jobs.items ≡ length inboxes.now) }
-    requires jobs { (place : ℕ) (d : _) → place < length jobs.items → IsSharingJob tickets.now problem.now inboxes.now place (slice_index_or jobs.items place d) }
+    requires jobs { (place : ℕ) (d : _) → place < length jobs.items → IsSharingJob load.now.tickets.now load.now.problem.now inboxes.now place (slice_index_or jobs.items place d) }
     ensures len { IfOk result (λ handed. length handed.items ≡ length jobs.items) }
-    ensures done { IfOk result (λ handed. (place : ℕ) (d : _) → place < length handed.items → IfOk (slice_index_or handed.items place d) (IsHandedBack tickets.now problem.now queries.now budget inboxes.now place)) }
+    ensures done { IfOk result (λ handed. (place : ℕ) (d : _) → place < length handed.items → IfOk (slice_index_or handed.items place d) (IsHandedBack load.now.tickets.now load.now.problem.now load.now.queries.now load.now.budget inboxes.now place)) }
 {
     thread::map_vec(
         rt,
         jobs,
         &|sharing: SharingJob| -> Result<Shared, AllocError>
-            requires { CanBeAsked problem.now queries.now budget × (tickets.now.count ≡ length queries.now) × (length inboxes.now ≤ 16) × (1 ≤ sharing.job.number) × (sharing.job.number ≤ length inboxes.now) × IsSharingJob tickets.now problem.now inboxes.now (sharing.job.number - 1) sharing }
-            ensures { IfOk result (IsHandedBack tickets.entry.now problem.entry.now queries.entry.now budget inboxes.entry.now (sharing.job.number - 1)) }
-        {
-            work_beside(
-                rt, alloc, tickets, inboxes, problem, queries, budget, gate, sharing,
-            )
-        },
+            requires { CanBeAsked load.now.problem.now load.now.queries.now load.now.budget × (load.now.tickets.now.count ≡ length load.now.queries.now) × (length inboxes.now ≤ 16) × (1 ≤ sharing.job.number) × (sharing.job.number ≤ length inboxes.now) × IsSharingJob load.now.tickets.now load.now.problem.now inboxes.now (sharing.job.number - 1) sharing }
+            ensures { IfOk result (IsHandedBack load.entry.now.tickets.now load.entry.now.problem.now load.entry.now.queries.now load.entry.now.budget inboxes.entry.now (sharing.job.number - 1)) }
+        { work_beside(rt, alloc, load, inboxes, sharing) },
     )
 }
 

@@ -1,7 +1,19 @@
-use crate::drawers::Drawer;
+use crate::drawers::{Drawer, Tickets};
 use crate::work::WorkAnswer;
+use gp_clause::{Problem, Query};
 use gp_derivation::WorkerRecord;
 use gp_inbox::Pass;
+
+// What the workers of a window work on: the queries of a problem, whose tickets they draw, each with a budget of its own, and
+// the gate that they pass after each ticket.
+#[derive(Drop)]
+pub(crate) struct Workload<'a, G> {
+    pub(crate) tickets: &'a Tickets,
+    pub(crate) problem: &'a Problem,
+    pub(crate) queries: &'a [Query],
+    pub(crate) budget: u64,
+    pub(crate) gate: &'a G,
+}
 
 // The answer to the query of a ticket.
 #[derive(Debug, Drop)]

@@ -5,8 +5,7 @@ ghost use Rattle.gp_workers.specs.Crew.{AreDone, IsJob, SharesNone};
 ghost use Rattle.gp_workers.specs.Sharing.{SharesNothing};
 ghost use Rattle.gp_workers.specs.Work.{CanBeAsked, CanBeWorked, IsWork};
 
-use crate::crew::{Job, Worked};
-use crate::drawers::Tickets;
+use crate::crew::{Job, Worked, Workload};
 use crate::hiring::{gather, hire};
 use crate::work::WindowWork;
 use crate::working::work;
@@ -36,33 +35,34 @@ pub fn work_in_turn<G: Gate>(
     ensures alone { IfOk result SharesNothing }
 {
     let (tickets, jobs) = hire(alloc, queries.len() as u64, workers)?;
-    let crew = run_in_turn(alloc, &tickets, problem, queries, budget, gate, jobs)?;
+    let load = Workload {
+        tickets: &tickets,
+        problem,
+        queries,
+        budget,
+        gate,
+    };
+    let crew = run_in_turn(alloc, &load, jobs)?;
     gather(alloc, &tickets, crew)?.into_work(alloc, Vec::new(alloc))
 }
 
 // What each worker hands back, by number, where one works after another.
 fn run_in_turn<G: Gate>(
     alloc: Global,
-    tickets: &Tickets,
-    problem: &Problem,
-    queries: &[Query],
-    budget: u64,
-    gate: &G,
+    load: &Workload<'_, G>,
     jobs: Vec<Job>,
 ) -> Result<VecDeque<Worked>, AllocError>
-    requires asked { CanBeAsked problem.now queries.now budget }
-    requires count { tickets.now.count ≡ length queries.now }
-    requires jobs { (i : ℕ) (d : _) → i < length jobs.items → IsJob tickets.now (i + 1) (slice_index_or jobs.items i d) }
+    requires asked { CanBeAsked load.now.problem.now load.now.queries.now load.now.budget }
+    requires count { load.now.tickets.now.count ≡ length load.now.queries.now }
+    requires jobs { (i : ℕ) (d : _) → i < length jobs.items → IsJob load.now.tickets.now (i + 1) (slice_index_or jobs.items i d) }
     ensures len { IfOk result (λ crew. length crew.items ≡ length jobs.items) }
     ensures alone { IfOk result (λ crew. All SharesNone crew.items) }
-    ensures done { IfOk result (λ crew. AreDone tickets.now problem.now queries.now budget 1 crew.items) }
+    ensures done { IfOk result (λ crew. AreDone load.now.tickets.now load.now.problem.now load.now.queries.now load.now.budget 1 crew.items) }
 {
     let mut crew = VecDeque::new(alloc);
     for job in jobs {
-        let mut mail = NoMail::new(problem);
-        let worked = work(
-            alloc, tickets, problem, queries, budget, gate, job, &mut mail,
-        )?;
+        let mut mail = NoMail::new(load.problem);
+        let worked = work(alloc, load, job, &mut mail)?;
         crew.push_back(worked)?;
     }
     Ok(crew)

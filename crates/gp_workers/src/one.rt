@@ -4,7 +4,7 @@ ghost use Rattle.gp_search.specs.Verdict.{IsSolvable};
 ghost use Rattle.gp_workers.specs.Sharing.{SharesNothing};
 ghost use Rattle.gp_workers.specs.Work.{CanBeWorked, IsWork};
 
-use crate::crew::{Gathered, Job};
+use crate::crew::{Gathered, Job, Workload};
 use crate::drawers::Tickets;
 use crate::work::WindowWork;
 use crate::working::work;
@@ -34,8 +34,13 @@ pub fn work_one<G: Gate>(
     };
     let job = Job { number: 1, drawer };
     let mut mail = NoMail::new(problem);
-    let worked = work(
-        alloc, &tickets, problem, queries, budget, gate, job, &mut mail,
-    )?;
+    let load = Workload {
+        tickets: &tickets,
+        problem,
+        queries,
+        budget,
+        gate,
+    };
+    let worked = work(alloc, &load, job, &mut mail)?;
     Gathered::of(alloc, worked)?.into_work(alloc, Vec::new(alloc))
 }

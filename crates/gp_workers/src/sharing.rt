@@ -5,12 +5,11 @@ ghost use Rattle.gp_workers.specs.Telling.{SharesSoFar};
 ghost use Rattle.gp_workers.specs.Together.{IsShared, IsSharingJob, SameButOffers};
 ghost use Rattle.gp_workers.specs.Work.{CanBeAsked};
 
-use crate::crew::{Shared, SharingJob, Worked};
+use crate::crew::{Shared, SharingJob, Worked, Workload};
 use crate::desk::{Desk, Outgoing};
-use crate::drawers::Tickets;
 use crate::mail::{Post, WorkerMail};
 use crate::working::work;
-use gp_clause::{Problem, Query, Row};
+use gp_clause::Row;
 use gp_derivation::{Offered, WorkerRecord};
 use gp_inbox::Inbox;
 use gp_outside::Gate;
@@ -22,51 +21,41 @@ use std::sync::Wait;
 pub(crate) fn work_beside<R: Wait, G: Gate>(
     rt: &R,
     alloc: Global,
-    tickets: &Tickets,
+    load: &Workload<'_, G>,
     inboxes: &[Inbox],
-    problem: &Problem,
-    queries: &[Query],
-    budget: u64,
-    gate: &G,
     sharing: SharingJob,
 ) -> Result<Shared, AllocError>
-    requires asked { CanBeAsked problem.now queries.now budget }
-    requires count { tickets.now.count ≡ length queries.now }
+    requires asked { CanBeAsked load.now.problem.now load.now.queries.now load.now.budget }
+    requires count { load.now.tickets.now.count ≡ length load.now.queries.now }
     requires few { length inboxes.now ≤ 16 }
     requires number { (1 ≤ sharing.job.number) × (sharing.job.number ≤ length inboxes.now) }
-    requires job { IsSharingJob tickets.now problem.now inboxes.now (sharing.job.number - 1) sharing }
-    ensures done { IfOk result (λ shared. IsDone tickets.now problem.now queries.now budget sharing.job.number shared.worked) }
-    ensures shared { IfOk result (λ shared. IsShared problem.now inboxes.now (sharing.job.number - 1) shared.worked.record shared.passes.items) }
+    requires job { IsSharingJob load.now.tickets.now load.now.problem.now inboxes.now (sharing.job.number - 1) sharing }
+    ensures done { IfOk result (λ shared. IsDone load.now.tickets.now load.now.problem.now load.now.queries.now load.now.budget sharing.job.number shared.worked) }
+    ensures shared { IfOk result (λ shared. IsShared load.now.problem.now inboxes.now (sharing.job.number - 1) shared.worked.record shared.passes.items) }
 {
-    work_posted::<R, G, Brand>(
-        rt, alloc, tickets, inboxes, problem, queries, budget, gate, sharing,
-    )
+    work_posted::<R, G, Brand>(rt, alloc, load, inboxes, sharing)
 }
 
 // The same, where the post names the inboxes.
 fn work_posted<R: Wait, G: Gate, P: Post>(
     rt: &R,
     alloc: Global,
-    tickets: &Tickets,
+    load: &Workload<'_, G>,
     inboxes: &[Inbox],
-    problem: &Problem,
-    queries: &[Query],
-    budget: u64,
-    gate: &G,
     sharing: SharingJob,
 ) -> Result<Shared, AllocError>
     requires post { inboxes.now ≡ P.inboxes }
-    requires asked { CanBeAsked problem.now queries.now budget }
-    requires count { tickets.now.count ≡ length queries.now }
+    requires asked { CanBeAsked load.now.problem.now load.now.queries.now load.now.budget }
+    requires count { load.now.tickets.now.count ≡ length load.now.queries.now }
     requires few { length inboxes.now ≤ 16 }
     requires number { (1 ≤ sharing.job.number) × (sharing.job.number ≤ length inboxes.now) }
-    requires job { IsSharingJob tickets.now problem.now inboxes.now (sharing.job.number - 1) sharing }
-    ensures done { IfOk result (λ shared. IsDone tickets.now problem.now queries.now budget sharing.job.number shared.worked) }
-    ensures shared { IfOk result (λ shared. IsShared problem.now inboxes.now (sharing.job.number - 1) shared.worked.record shared.passes.items) }
+    requires job { IsSharingJob load.now.tickets.now load.now.problem.now inboxes.now (sharing.job.number - 1) sharing }
+    ensures done { IfOk result (λ shared. IsDone load.now.tickets.now load.now.problem.now load.now.queries.now load.now.budget sharing.job.number shared.worked) }
+    ensures shared { IfOk result (λ shared. IsShared load.now.problem.now inboxes.now (sharing.job.number - 1) shared.worked.record shared.passes.items) }
 {
     let SharingJob { job, passes } = sharing;
     let desk = Desk {
-        problem,
+        problem: load.problem,
         inboxes,
         place: job.number as usize - 1,
         passes,
@@ -74,9 +63,7 @@ fn work_posted<R: Wait, G: Gate, P: Post>(
         empty: 0,
     };
     let mut mail: WorkerMail<R, P> = WorkerMail::new(rt, desk);
-    let worked = work(
-        alloc, tickets, problem, queries, budget, gate, job, &mut mail,
-    )?;
+    let worked = work(alloc, load, job, &mut mail)?;
     mail.into_desk().hand_back(alloc, worked)
 }
 

@@ -8,10 +8,10 @@ ghost use Rattle.gp_workers.specs.Telling.{IsSilent, SharesSoFar, TellsOrGivesNo
 ghost use Rattle.gp_workers.specs.Work.{CanBeAsked};
 
 use crate::bounded::BoundedMail;
-use crate::crew::{Answered, Job, Worked};
-use crate::drawers::{Drawer, Tickets};
+use crate::crew::{Answered, Job, Worked, Workload};
+use crate::drawers::Drawer;
 use crate::worker::Worker;
-use gp_clause::{Problem, Query, Row};
+use gp_clause::Row;
 use gp_derivation::{WorkerRecord, certificate_follows, fit_stays, spent_stays};
 use gp_outside::Gate;
 use gp_search::Mail;
@@ -21,42 +21,28 @@ use std::alloc::{AllocError, Global};
 // search, which costs as much as the problem is large.
 pub(crate) fn work<G: Gate, M: BoundedMail>(
     alloc: Global,
-    tickets: &Tickets,
-    problem: &Problem,
-    queries: &[Query],
-    budget: u64,
-    gate: &G,
+    load: &Workload<'_, G>,
     job: Job,
     mail: &mut M,
 ) -> Result<Worked, AllocError>
-    requires asked { CanBeAsked problem.now queries.now budget }
-    requires count { tickets.now.count ≡ length queries.now }
-    requires drawer { IsUnused tickets.now job.drawer }
-    requires mail { M.problem mail.old ≡ problem.now }
+    requires asked { CanBeAsked load.now.problem.now load.now.queries.now load.now.budget }
+    requires count { load.now.tickets.now.count ≡ length load.now.queries.now }
+    requires drawer { IsUnused load.now.tickets.now job.drawer }
+    requires mail { M.problem mail.old ≡ load.now.problem.now }
     requires silent { IsSilent (M.told mail.old) }
     ensures number { M.number mail.new ≡ M.number mail.old }
-    ensures problem { IfOk result (λ worked. M.problem mail.new ≡ problem.now) }
-    ensures done { IfOk result (IsDone tickets.now problem.now queries.now budget job.number) }
+    ensures problem { IfOk result (λ worked. M.problem mail.new ≡ load.now.problem.now) }
+    ensures done { IfOk result (IsDone load.now.tickets.now load.now.problem.now load.now.queries.now load.now.budget job.number) }
     ensures none_offered { IfOk result (λ worked. worked.record.offered ≡ []) }
-    ensures shares { IfOk result (λ worked. SharesSoFar problem.now worked.record.log (M.told mail.new)) }
+    ensures shares { IfOk result (λ worked. SharesSoFar load.now.problem.now worked.record.log (M.told mail.new)) }
 {
     certificate_follows();
     let Job { number, mut drawer } = job;
-    let Some(first) = tickets.draw(&mut drawer) else {
+    let Some(first) = load.tickets.draw(&mut drawer) else {
         return Ok(Worked::idle(alloc, drawer));
     };
-    let mut worker = Worker::new(alloc, problem, number)?;
-    let answers = answer_drawn(
-        alloc,
-        tickets,
-        queries,
-        budget,
-        gate,
-        &mut worker,
-        &mut drawer,
-        mail,
-        first,
-    )?;
+    let mut worker = Worker::new(alloc, load.problem, number)?;
+    let answers = answer_drawn(alloc, load, &mut worker, &mut drawer, mail, first)?;
     let record = worker.into_record();
     Ok(Worked {
         answers,
@@ -88,66 +74,61 @@ impl Worked {
 // The answers to the queries of the tickets that a worker draws, in order, of which it has drawn the first.
 fn answer_drawn<G: Gate, M: BoundedMail>(
     alloc: Global,
-    tickets: &Tickets,
-    queries: &[Query],
-    budget: u64,
-    gate: &G,
+    load: &Workload<'_, G>,
     worker: &mut Worker,
     drawer: &mut Drawer,
     mail: &mut M,
     first: u64,
 ) -> Result<Vec<Answered>, AllocError>
-    requires asked { CanBeAsked worker.old.search.problem queries.now budget }
-    requires count { tickets.now.count ≡ length queries.now }
+    requires asked { CanBeAsked worker.old.search.problem load.now.queries.now load.now.budget }
+    requires count { load.now.tickets.now.count ≡ length load.now.queries.now }
     requires fresh { IsFresh worker.old }
-    requires drawer { IsSingle tickets.now 0 drawer.old }
+    requires drawer { IsSingle load.now.tickets.now 0 drawer.old }
     requires first { (hand_of drawer.old).drawn ≡ first ∷ [] }
-    requires within { first < length queries.now }
+    requires within { first < length load.now.queries.now }
     requires mail { M.problem mail.old ≡ worker.old.search.problem }
     requires silent { IsSilent (M.told mail.old) }
     ensures number { OnOk result (worker.new.number ≡ worker.old.number) }
     ensures mail_number { M.number mail.new ≡ M.number mail.old }
     ensures mail_problem { IfOk result (λ answers. M.problem mail.new ≡ worker.new.search.problem) }
-    ensures drawer { IfOk result (λ answers. IsSingle tickets.now 1 drawer.new) }
+    ensures drawer { IfOk result (λ answers. IsSingle load.now.tickets.now 1 drawer.new) }
     ensures worked { IfOk result (λ answers.
-        HasWorked worker.old.search.problem queries.now budget (hand_of drawer.new).drawn worker.new answers.items (M.told mail.new)) }
+        HasWorked worker.old.search.problem load.now.queries.now load.now.budget (hand_of drawer.new).drawn worker.new answers.items (M.told mail.new)) }
 {
     let mut answers = Vec::new(alloc);
     mail.gives_few();
-    answer_one(queries, budget, gate, worker, first, mail, &mut answers)?;
-    while let Some(ticket) = tickets.draw(drawer) {
+    answer_one(load, worker, first, mail, &mut answers)?;
+    while let Some(ticket) = load.tickets.draw(drawer) {
         mail.gives_few();
-        answer_one(queries, budget, gate, worker, ticket, mail, &mut answers)?;
+        answer_one(load, worker, ticket, mail, &mut answers)?;
     }
     Ok(answers)
 }
 
 // Answers the query of one ticket more.
 fn answer_one<G: Gate, M: Mail>(
-    queries: &[Query],
-    budget: u64,
-    gate: &G,
+    load: &Workload<'_, G>,
     worker: &mut Worker,
     ticket: u64,
     mail: &mut M,
     answers: &mut Vec<Answered>,
 ) -> Result<(), AllocError>
-    requires asked { CanBeAsked worker.old.search.problem queries.now budget }
-    requires ticket { ticket < length queries.now }
-    requires few { HasRoom worker.old.search budget }
+    requires asked { CanBeAsked worker.old.search.problem load.now.queries.now load.now.budget }
+    requires ticket { ticket < length load.now.queries.now }
+    requires few { HasRoom worker.old.search load.now.budget }
     requires mail { M.problem mail.old ≡ worker.old.search.problem }
     requires tells { TellsOrGivesNone (M.may_give mail.old) (M.told mail.old) }
     ensures number { OnOk result (worker.new.number ≡ worker.old.number) }
     ensures problem { OnOk result (M.problem mail.new ≡ worker.new.search.problem) }
     ensures mail_number { M.number mail.new ≡ M.number mail.old }
     ensures may_give { M.may_give mail.new ≡ M.may_give mail.old }
-    ensures worked { (problem : Problem) (drawn : List ℕ) → HasWorked problem queries.now budget drawn worker.old answers.old.items (M.told mail.old)
-        → OnOk result (HasWorked problem queries.now budget (drawn ++ ticket ∷ []) worker.new answers.new.items (M.told mail.new)) }
+    ensures worked { (problem : Problem) (drawn : List ℕ) → HasWorked problem load.now.queries.now load.now.budget drawn worker.old answers.old.items (M.told mail.old)
+        → OnOk result (HasWorked problem load.now.queries.now load.now.budget (drawn ++ ticket ∷ []) worker.new answers.new.items (M.told mail.new)) }
 {
     spent_stays();
     fit_stays();
-    gate.pass(worker.number, ticket);
-    let answer = worker.answer(ticket, &queries[ticket as usize], budget, mail)?;
+    load.gate.pass(worker.number, ticket);
+    let answer = worker.answer(ticket, &load.queries[ticket as usize], load.budget, mail)?;
     answers.push(Answered { ticket, answer })?;
     Ok(())
 }

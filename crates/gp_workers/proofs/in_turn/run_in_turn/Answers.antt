@@ -11,7 +11,7 @@ pub loop-job-preserved : goal.loop-job-preserved
 loop-job-preserved g c =
     let steps = c.in-Some.ensures.steps in
     let fewer = ap (λ (jobs : List Job). length jobs) steps.0 in
-    let more = one_more_done c.args.tickets.now c.args.problem.now c.args.queries.now c.args.budget c.loop-job.crew.items c.push_back.new.self.items c.in_ok-worked.worked
+    let more = one_more_done c.args.load.now.tickets.now c.args.load.now.problem.now c.args.load.now.queries.now c.args.load.now.budget c.loop-job.crew.items c.push_back.new.self.items c.in_ok-worked.worked
     (into_iter_items c.loop-job.job-iterator) c.in-Some.job (into_iter_items c.next.new.self) steps.0 c.in_ok-push_back.ensures.items c.loop-job.invariant.left c.loop-job.invariant.done c.in_ok-worked.ensures.done in
     record {
       counted = omega (arith, c.loop-job.invariant.counted, steps.1, fewer);

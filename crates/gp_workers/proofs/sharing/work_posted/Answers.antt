@@ -17,13 +17,13 @@ work-requires-clause-silent g c = silent_yet _ c.new-mail.result c.new-mail.ensu
 pub returns-clause-done : goal.returns-clause-done
 returns-clause-done g c =
     let number = c.args.sharing.job.number in
-    same_if_ok (λ (shared : Shared). SameButOffers c.in_ok-worked.worked shared.worked) (λ (shared : Shared). IsDone c.args.tickets.now c.args.problem.now c.args.queries.now c.args.budget number shared.worked) c.hand_back.result
-    (λ shared same. still_done c.args.tickets.now c.args.problem.now c.args.queries.now c.args.budget number c.in_ok-worked.worked shared.worked c.in_ok-worked.ensures.done same) c.hand_back.ensures.same
+    same_if_ok (λ (shared : Shared). SameButOffers c.in_ok-worked.worked shared.worked) (λ (shared : Shared). IsDone c.args.load.now.tickets.now c.args.load.now.problem.now c.args.load.now.queries.now c.args.load.now.budget number shared.worked) c.hand_back.result
+    (λ shared same. still_done c.args.load.now.tickets.now c.args.load.now.problem.now c.args.load.now.queries.now c.args.load.now.budget number c.in_ok-worked.worked shared.worked c.in_ok-worked.ensures.done same) c.hand_back.ensures.same
 
 pub returns-clause-shared : goal.returns-clause-shared
 returns-clause-shared g c =
     let begun : c.new-mail.result.place ≡ c.args.sharing.job.number - 1 = ap (λ (desk : Desk). desk.place) c.new-mail.ensures in
     let kept : c.into_desk.result.place ≡ c.work.new.mail.place = ap (λ (desk : Desk). desk.place) c.into_desk.ensures.same in
     let number = c.work.ensures.number in
-    shared_among c.hand_back.result c.into_desk.result.problem.now c.args.problem.now c.into_desk.result.inboxes.now c.args.inboxes.now c.into_desk.result.place (c.args.sharing.job.number - 1)
+    shared_among c.hand_back.result c.into_desk.result.problem.now c.args.load.now.problem.now c.into_desk.result.inboxes.now c.args.inboxes.now c.into_desk.result.place (c.args.sharing.job.number - 1)
     (ap (λ (desk : Desk). desk.problem.now) c.into_desk.ensures.same ∙ c.in_ok-worked.ensures.problem) (c.into_desk.ensures.post ∙ sym c.requires.post) (omega (arith, begun, kept, number)) c.hand_back.ensures.shared

@@ -11,15 +11,15 @@ use Rattle.gp_workers.proofs.working.answer_drawn.Goals as goal
 pub loop-ticket-init : goal.loop-ticket-init
 loop-ticket-init g c =
     let worker = c.args.worker.now in
-    let queries = c.args.queries.now in
+    let queries = c.args.load.now.queries.now in
     record {
       number = c.in_ok-answer_one.ensures.number;
       mail = c.in_ok-answer_one.ensures.problem;
       mail_number = c.in_ok-answer_one.ensures.mail_number;
       single = c.requires.drawer;
-      worked = subst (λ (ns : List ℕ). HasWorked worker.search.problem queries c.args.budget ns c.answer_one.new.worker c.answer_one.new.answers.items (g.M.Mail.told c.answer_one.new.mail)) (sym c.requires.first)
-          (c.in_ok-answer_one.ensures.worked worker.search.problem [] (subst (λ rs. HasWorked worker.search.problem queries c.args.budget [] worker rs (g.M.Mail.told c.args.mail.now)) (sym c.new-answers.ensures.items)
-          (nothing_yet queries c.args.budget worker (g.M.Mail.told c.args.mail.now) c.requires.fresh c.requires.silent)));
+      worked = subst (λ (ns : List ℕ). HasWorked worker.search.problem queries c.args.load.now.budget ns c.answer_one.new.worker c.answer_one.new.answers.items (g.M.Mail.told c.answer_one.new.mail)) (sym c.requires.first)
+          (c.in_ok-answer_one.ensures.worked worker.search.problem [] (subst (λ rs. HasWorked worker.search.problem queries c.args.load.now.budget [] worker rs (g.M.Mail.told c.args.mail.now)) (sym c.new-answers.ensures.items)
+          (nothing_yet queries c.args.load.now.budget worker (g.M.Mail.told c.args.mail.now) c.requires.fresh c.requires.silent)));
     }
 
 pub loop-ticket-preserved : goal.loop-ticket-preserved
@@ -33,7 +33,7 @@ loop-ticket-preserved g c =
       number = c.in_ok-answer_one-2.ensures.number ∙ c.loop-ticket.invariant.number;
       mail = c.in_ok-answer_one-2.ensures.problem;
       mail_number = c.in_ok-answer_one-2.ensures.mail_number ∙ c.loop-ticket.invariant.mail_number;
-      single = still_single c.args.tickets.now old new ticket c.loop-ticket.invariant.single c.in-Some.ensures.drawer is;
-      worked = subst (λ (ns : List ℕ). HasWorked problem c.args.queries.now c.args.budget ns c.answer_one-in-Some.new.worker c.answer_one-in-Some.new.answers.items (g.M.Mail.told c.answer_one-in-Some.new.mail)) (sym (ap (λ (h : Hand). h.drawn) is))
+      single = still_single c.args.load.now.tickets.now old new ticket c.loop-ticket.invariant.single c.in-Some.ensures.drawer is;
+      worked = subst (λ (ns : List ℕ). HasWorked problem c.args.load.now.queries.now c.args.load.now.budget ns c.answer_one-in-Some.new.worker c.answer_one-in-Some.new.answers.items (g.M.Mail.told c.answer_one-in-Some.new.mail)) (sym (ap (λ (h : Hand). h.drawn) is))
           (c.in_ok-answer_one-2.ensures.worked problem (hand_of old).drawn c.loop-ticket.invariant.worked);
     }

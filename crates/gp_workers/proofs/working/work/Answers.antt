@@ -13,15 +13,15 @@ returns-clause-done g c =
     let worker = c.answer_drawn.new.worker in
     let drawer = c.answer_drawn.new.drawer in
     let told = g.M.Mail.told c.answer_drawn.new.mail in
-    let worked : HasWorked c.args.problem.now c.args.queries.now c.args.budget (hand_of drawer).drawn worker c.in_ok-answers.answers.items told =
-    subst (λ (p : Problem). HasWorked p c.args.queries.now c.args.budget (hand_of drawer).drawn worker c.in_ok-answers.answers.items told) c.in_ok-worker.ensures.problem c.in_ok-answers.ensures.worked in
-    is_done c.certificate_follows.ensures c.args.tickets.now c.args.problem.now c.args.queries.now c.args.budget c.args.job.number worker _ told c.requires.asked.valid c.in_ok-answers.ensures.drawer worked (c.in_ok-answers.ensures.number ∙ c.in_ok-worker.ensures.number) c.into_record-record.ensures
+    let worked : HasWorked c.args.load.now.problem.now c.args.load.now.queries.now c.args.load.now.budget (hand_of drawer).drawn worker c.in_ok-answers.answers.items told =
+    subst (λ (p : Problem). HasWorked p c.args.load.now.queries.now c.args.load.now.budget (hand_of drawer).drawn worker c.in_ok-answers.answers.items told) c.in_ok-worker.ensures.problem c.in_ok-answers.ensures.worked in
+    is_done c.certificate_follows.ensures c.args.load.now.tickets.now c.args.load.now.problem.now c.args.load.now.queries.now c.args.load.now.budget c.args.job.number worker _ told c.requires.asked.valid c.in_ok-answers.ensures.drawer worked (c.in_ok-answers.ensures.number ∙ c.in_ok-worker.ensures.number) c.into_record-record.ensures
 
 pub returns-clause-shares : goal.returns-clause-shares
 returns-clause-shares g c =
     let worker = c.answer_drawn.new.worker in
     let drawer = c.answer_drawn.new.drawer in
     let told = g.M.Mail.told c.answer_drawn.new.mail in
-    let worked : HasWorked c.args.problem.now c.args.queries.now c.args.budget (hand_of drawer).drawn worker c.in_ok-answers.answers.items told =
-    subst (λ (p : Problem). HasWorked p c.args.queries.now c.args.budget (hand_of drawer).drawn worker c.in_ok-answers.answers.items told) c.in_ok-worker.ensures.problem c.in_ok-answers.ensures.worked in
-    subst (λ (own : WorkerRecord). SharesSoFar c.args.problem.now own.log told) (sym c.into_record-record.ensures) worked.shares
+    let worked : HasWorked c.args.load.now.problem.now c.args.load.now.queries.now c.args.load.now.budget (hand_of drawer).drawn worker c.in_ok-answers.answers.items told =
+    subst (λ (p : Problem). HasWorked p c.args.load.now.queries.now c.args.load.now.budget (hand_of drawer).drawn worker c.in_ok-answers.answers.items told) c.in_ok-worker.ensures.problem c.in_ok-answers.ensures.worked in
+    subst (λ (own : WorkerRecord). SharesSoFar c.args.load.now.problem.now own.log told) (sym c.into_record-record.ensures) worked.shares

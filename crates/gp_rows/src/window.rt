@@ -54,15 +54,33 @@ fn is_third(window: &Window) -> bool {
         && window.exited() == [3u32, 4].as_slice()
 }
 
+/// Whether a recording has that first window.
+fn has_first(alloc: Global, recording: &Recording) -> Result<bool, AllocError> {
+    Ok(match window_numbered(alloc, recording, 1)? {
+        Some(window) => is_first(&window),
+        None => false,
+    })
+}
+
+/// Whether a recording has that third window.
+fn has_third(alloc: Global, recording: &Recording) -> Result<bool, AllocError> {
+    Ok(match window_numbered(alloc, recording, 3)? {
+        Some(window) => is_third(&window),
+        None => false,
+    })
+}
+
+/// Whether a recording has these two windows, and no fourth.
+fn has_windows(alloc: Global, recording: &Recording) -> Result<bool, AllocError> {
+    let has_first = has_first(alloc, recording)?;
+    let has_third = has_third(alloc, recording)?;
+    let fourth = window_numbered(alloc, recording, 4)?;
+    Ok(has_first && has_third && fourth.is_none())
+}
+
 fn windows_hold<R: AllocGlobal + Threads + Sync>(rt: &R) -> Result<bool, Fail> {
     let recording = recording_of(rt, &FOUR)?;
-    let first = window_numbered(rt.alloc(), &recording, 1)?;
-    let third = window_numbered(rt.alloc(), &recording, 3)?;
-    let fourth = window_numbered(rt.alloc(), &recording, 4)?;
-    Ok(match (&first, &third) {
-        (Some(first), Some(third)) => is_first(first) && is_third(third) && fourth.is_none(),
-        _ => false,
-    })
+    Ok(has_windows(rt.alloc(), &recording)?)
 }
 
 #[test]

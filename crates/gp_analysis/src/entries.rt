@@ -6,11 +6,11 @@ ghost use Rattle.gp_instance.specs.Instance.{is_instance};
 ghost use Rattle.gp_analysis.specs.Telling.{CanTell, CanTellEach, IsSound, TellsAnswer, TellsEach, TellsFound};
 
 use crate::untold::Untold;
+use gp_base::Row;
 use gp_constraint::Encoded;
 use gp_instance::Instance;
 use gp_property::Property;
 use gp_report::{Answer, Entry, PropertyBody, PropertyRecord};
-use gp_text::Row;
 use gp_window::Window;
 use gp_witness::schedule_of;
 use gp_workers::WorkAnswer;

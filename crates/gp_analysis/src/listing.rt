@@ -5,11 +5,11 @@ ghost use Rattle.gp_instance.specs.Instances.{due_instances};
 ghost use Rattle.gp_property.specs.Property.{IsProperty};
 ghost use Rattle.gp_analysis.specs.Queries.{found_from, found_of, queries_from, queries_of};
 
+use gp_base::Row;
 use gp_clause::Query;
 use gp_constraint::{Encoded, query};
 use gp_instance::{Instance, InstancesFault, instances};
 use gp_property::Property;
-use gp_text::Row;
 use gp_window::Window;
 use std::alloc::{AllocError, Global};
 

@@ -1,6 +1,6 @@
 ghost use Rattle.std.specs.Prelude.{◌≡◌, ◌≤◌, ◌∷◌, length};
 
-use gp_clause::Row;
+use gp_base::Row;
 use gp_workers::WorkAnswer;
 use std::marker::Model;
 use std::vec::IntoIter;

@@ -14,13 +14,13 @@ use crate::entries::property_record;
 use crate::listing::{Listing, listing_of};
 use crate::task::{Order, Task};
 use crate::untold::Untold;
+use gp_base::Row;
 use gp_clause::{Problem, Query};
 use gp_constraint::{BaseFault, Encoded, base, problems_are_valid};
 use gp_derivation::{refuted_means, shares_nothing};
 use gp_outside::Gate;
 use gp_property::atoms_kept;
 use gp_report::{WindowBody, WindowRecord};
-use gp_text::Row;
 use gp_window::Window;
 use gp_witness::schedules_are_complete;
 use gp_workers::{WindowWork, work_all, work_in_turn};
@@ -121,7 +121,7 @@ fn worked_record<R: Threads + Wait + Sync, G: Gate + Sync>(
         number,
         shared: Row::new(alloc),
         body: WindowBody::Answers(told),
-        records: Row::from_vec(records.into_vec()),
+        records,
     })
 }
 

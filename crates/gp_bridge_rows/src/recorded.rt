@@ -4,10 +4,10 @@ ghost use Rattle.gp_constraint.specs.Encoded.{encoded_of};
 ghost use Rattle.gp_constraint.specs.Points.{points_of};
 
 use crate::rows::Case;
+use gp_base::Row;
 use gp_constraint::{BaseFault, Encoded, base};
 use gp_outside::MemoryFolder;
 use gp_property::{Property, read_properties};
-use gp_text::Row;
 use gp_window::{Window, cut, read_recording};
 use std::alloc::{AllocError, Global};
 use std::test::Fail;

@@ -8,7 +8,7 @@ use Rattle.gp_clause.specs.declared.problem.Query.{Query}
 use Rattle.gp_clause.specs.Lit.{opposite}
 use Rattle.gp_derivation.specs.declared.step.Step.{Step}
 use Rattle.gp_derivation.specs.Certificate.{IsLast}
-use Rattle.gp_derivation.specs.ListLaws.{slice_get_back}
+use Rattle.gp_base.specs.ListLaws.{slice_get_back}
 use Rattle.gp_checker.specs.Accepted.{RefutesAtLast}
 
 last_is : (steps : List Step) (step : Step) → slice_get steps (length steps - 1) ≡ Some step → IsLast steps step

@@ -12,7 +12,6 @@ mod follows;
 mod kind;
 mod lit;
 mod problem;
-mod row;
 mod valuation;
 mod walk;
 
@@ -23,6 +22,5 @@ pub use follows::{follows_from_more, follows_through, locals_change_nothing, mem
 pub use kind::Kind;
 pub use lit::{Lit, opposite_means};
 pub use problem::{Problem, Query};
-pub use row::Row;
 pub use valuation::{Valuation, bounds_mean, valuations_extend, valuations_meet};
 pub use walk::keeping_leaves_no_cycle;

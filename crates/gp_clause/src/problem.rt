@@ -2,7 +2,7 @@ use crate::clause::Clause;
 use crate::edge::Edge;
 use crate::kind::Kind;
 use crate::lit::Lit;
-use crate::row::Row;
+use gp_base::Row;
 
 /// Points are the numbers below `points`, and variables are the places of `kinds`.
 #[derive(Debug, Drop)]

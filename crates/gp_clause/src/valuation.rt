@@ -1,6 +1,6 @@
 ghost use Rattle.gp_clause.specs.Valuation.{ValuationsExtend, BoundsMean, ValuationsMeet};
 
-use crate::row::Row;
+use gp_base::Row;
 
 /// An answer: a truth value for each variable, and a place for each point. Places may tie where no variable tells two
 /// points apart.

@@ -6,7 +6,7 @@ use Rattle.gp_clause.specs.declared.kind.Kind.{Kind}
 use Rattle.gp_clause.specs.declared.lit.Lit.{Lit}
 use Rattle.gp_clause.specs.Clause.{NamesBelow}
 use Rattle.gp_derivation.specs.Step.{Passes}
-use Rattle.gp_derivation.specs.ListLaws.{slice_get_front}
+use Rattle.gp_base.specs.ListLaws.{slice_get_front}
 use Rattle.gp_derivation.specs.PassingLaws.{passes_alike}
 
 -- locals may be left out

@@ -11,7 +11,7 @@ use Rattle.gp_clause.specs.declared.kind.Kind.{Kind}
 use Rattle.gp_clause.specs.declared.lit.Lit.{Lit}
 use Rattle.gp_derivation.specs.declared.step.Step.{Step}
 use Rattle.gp_derivation.specs.Certificate.{StepChecks, StepsCheck, clauses_of}
-use Rattle.gp_derivation.specs.ListLaws.{slice_get_back, slice_get_front}
+use Rattle.gp_base.specs.ListLaws.{slice_get_back, slice_get_front}
 use Rattle.gp_derivation.specs.Shared.{OwnStepsPass, StepPasses}
 use Rattle.gp_compact.specs.declared.moving.Sizes.{Sizes}
 use Rattle.gp_compact.specs.Moving.{are_movable, first_own, front_of, moved_step, moves, place_at, place_of, rests_on_earlier, step_eq, with_certificate, with_moved, with_step, with_steps}

@@ -10,7 +10,8 @@ use Rattle.gp_clause.specs.declared.lit.Lit.{Lit}
 use Rattle.gp_clause.specs.Clause.{NamesBelow}
 use Rattle.gp_derivation.specs.declared.step.Step.{Step}
 use Rattle.gp_derivation.specs.Certificate.{StepChecks, StepsCheck, clauses_of}
-use Rattle.gp_derivation.specs.ListLaws.{contains_got, named_all}
+use Rattle.gp_base.specs.ListLaws.{contains_got}
+use Rattle.gp_derivation.specs.NamedLaws.{named_all}
 use Rattle.gp_derivation.specs.Shared.{StepPasses}
 use Rattle.gp_derivation.specs.Step.{Passes, named}
 use Rattle.gp_compact.specs.declared.moving.Sizes.{Sizes}

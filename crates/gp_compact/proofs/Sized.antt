@@ -8,7 +8,7 @@ use Rattle.gp_clause.specs.declared.lit.Lit.{Lit}
 use Rattle.gp_clause.specs.Clause.{NamesBelow}
 use Rattle.gp_derivation.specs.declared.step.Step.{Step}
 use Rattle.gp_derivation.specs.Certificate.{clauses_of}
-use Rattle.gp_derivation.specs.ListLaws.{slice_get_back, slice_get_front}
+use Rattle.gp_base.specs.ListLaws.{slice_get_back, slice_get_front}
 use Rattle.gp_compact.specs.declared.moving.Sizes.{Sizes}
 use Rattle.gp_compact.specs.Moving.{first_own}
 

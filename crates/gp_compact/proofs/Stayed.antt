@@ -11,7 +11,7 @@ use Rattle.gp_clause.specs.declared.kind.Kind.{Kind}
 use Rattle.gp_clause.specs.declared.lit.Lit.{Lit}
 use Rattle.gp_derivation.specs.declared.step.Step.{Step}
 use Rattle.gp_derivation.specs.Certificate.{StepChecks, StepsCheck, clauses_of}
-use Rattle.gp_derivation.specs.ListLaws.{slice_get_front}
+use Rattle.gp_base.specs.ListLaws.{slice_get_front}
 use Rattle.gp_compact.specs.declared.moving.Sizes.{Sizes}
 use Rattle.gp_compact.specs.Moving.{first_own, front_of, new_number, own_number, place_of, places_after, places_of}
 use Rattle.gp_compact.proofs.Gathered.{last_clause}

@@ -12,7 +12,7 @@ use Rattle.gp_clause.specs.declared.lit.Lit.{Lit}
 use Rattle.gp_clause.specs.Clause.{NamesBelow}
 use Rattle.gp_derivation.specs.declared.step.Step.{Step}
 use Rattle.gp_derivation.specs.Certificate.{StepChecks, StepsCheck, clauses_of}
-use Rattle.gp_derivation.specs.ListLaws.{slice_get_front}
+use Rattle.gp_base.specs.ListLaws.{slice_get_front}
 use Rattle.gp_derivation.specs.Numbering.{with_hints}
 use Rattle.gp_derivation.specs.Shared.{OwnStepsPass, StepPasses}
 use Rattle.gp_derivation.specs.Step.{Passes, named}

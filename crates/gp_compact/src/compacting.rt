@@ -10,10 +10,10 @@ use crate::copying::{copy_steps, copy_workers};
 use crate::moving::Sizes;
 use crate::rewriting::{Rewriting, rewrite_body};
 use crate::sharing::share;
+use gp_base::Row;
 use gp_constraint::{BaseFault, Encoded, base, problems_are_valid};
 use gp_derivation::Step;
 use gp_report::{Answer, Entry, Report, WindowBody, WindowRecord};
-use gp_text::Row;
 use gp_window::{Recording, Window, WindowWalk};
 use std::alloc::{AllocError, Global};
 

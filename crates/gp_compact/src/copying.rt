@@ -2,9 +2,8 @@ ghost use Rattle.std.specs.Prelude.{◌≡◌, IfOk};
 ghost use Rattle.std.specs.List.{AllZip};
 ghost use Rattle.gp_compact.specs.SameRecords.{IsSameEntry, IsSameOrigin, IsSameWorker};
 
-use gp_clause::Row as SolverRow;
+use gp_base::Row;
 use gp_derivation::{LogEntry, Offered, Origin, Step, WorkerRecord};
-use gp_text::Row;
 use gp_window::EventId;
 use std::alloc::{AllocError, Global};
 
@@ -19,7 +18,7 @@ pub(crate) fn copy_step(alloc: Global, step: &Step) -> Result<Step, AllocError>
 {
     Ok(Step {
         clause: step.clause.clone()?,
-        hints: SolverRow::from_vec(Vec::from_slice(alloc, step.hints.as_slice())?),
+        hints: Row::from_vec(Vec::from_slice(alloc, step.hints.as_slice())?),
     })
 }
 
@@ -50,7 +49,7 @@ fn copy_worker(alloc: Global, worker: &WorkerRecord) -> Result<WorkerRecord, All
     ensures { IfOk result (λ copy. IsSameWorker worker.now copy) }
 {
     let log = copy_log(alloc, worker.log.as_slice())?;
-    let turns = SolverRow::from_vec(Vec::from_slice(alloc, worker.turns.as_slice())?);
+    let turns = Row::from_vec(Vec::from_slice(alloc, worker.turns.as_slice())?);
     let offered = copy_offers(alloc, worker.offered.as_slice())?;
     Ok(WorkerRecord {
         log,
@@ -59,14 +58,14 @@ fn copy_worker(alloc: Global, worker: &WorkerRecord) -> Result<WorkerRecord, All
     })
 }
 
-fn copy_log(alloc: Global, log: &[LogEntry]) -> Result<SolverRow<LogEntry>, AllocError>
+fn copy_log(alloc: Global, log: &[LogEntry]) -> Result<Row<LogEntry>, AllocError>
     ensures { IfOk result (λ copies. AllZip IsSameEntry log.now copies) }
 {
     let mut copies = Vec::new(alloc);
     for entry in log {
         copies.push(copy_entry(alloc, entry)?)?;
     }
-    Ok(SolverRow::from_vec(copies))
+    Ok(Row::from_vec(copies))
 }
 
 fn copy_entry(alloc: Global, entry: &LogEntry) -> Result<LogEntry, AllocError>
@@ -93,14 +92,14 @@ fn copy_origin(origin: &Origin) -> Result<Origin, AllocError>
     }
 }
 
-fn copy_offers(alloc: Global, offers: &[Offered]) -> Result<SolverRow<Offered>, AllocError>
+fn copy_offers(alloc: Global, offers: &[Offered]) -> Result<Row<Offered>, AllocError>
     ensures { IfOk result (λ copies. copies ≡ offers.now) }
 {
     let mut copies = Vec::new(alloc);
     for offer in offers {
         copies.push(copy_offer(alloc, offer)?)?;
     }
-    Ok(SolverRow::from_vec(copies))
+    Ok(Row::from_vec(copies))
 }
 
 fn copy_offer(alloc: Global, offer: &Offered) -> Result<Offered, AllocError>
@@ -108,6 +107,6 @@ fn copy_offer(alloc: Global, offer: &Offered) -> Result<Offered, AllocError>
 {
     Ok(Offered {
         entry: offer.entry,
-        sent: SolverRow::from_vec(Vec::from_slice(alloc, offer.sent.as_slice())?),
+        sent: Row::from_vec(Vec::from_slice(alloc, offer.sent.as_slice())?),
     })
 }

@@ -2,7 +2,8 @@ ghost use Rattle.std.specs.Prelude.{◌≡◌, ◌<◌, ◌^◌, IfOk, nat_lt};
 ghost use Rattle.std.specs.List.{list_all};
 ghost use Rattle.gp_compact.specs.Moving.{PlacesFit, are_movable, first_own, moved_step, moves, names_shared, place_at, rests_on_earlier, shared_number};
 
-use gp_clause::{Lit, Row};
+use gp_base::Row;
+use gp_clause::Lit;
 use gp_derivation::Step;
 use std::alloc::{AllocError, Global};
 

@@ -6,7 +6,7 @@ ghost use Rattle.gp_compact.specs.Moving.{PlacesFit, are_movable, by_numbers, co
 use crate::moving::{Sizes, are_movable, moved_step, moves, place_at};
 use crate::shared_list::SharedList;
 use crate::sharing::front_of;
-use gp_clause::Row;
+use gp_base::Row;
 use gp_derivation::Step;
 use std::alloc::{AllocError, Global};
 

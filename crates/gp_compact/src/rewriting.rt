@@ -7,10 +7,9 @@ use crate::copying::{copy_events, copy_steps};
 use crate::moving::Sizes;
 use crate::renumbering::compact_steps;
 use crate::shared_list::SharedList;
-use gp_clause::Row as SolverRow;
+use gp_base::Row;
 use gp_derivation::{Certificate, Step};
 use gp_report::{Answer, Entry, PropertyBody, PropertyRecord, WindowBody};
-use gp_text::Row;
 use gp_window::Schedule;
 use std::alloc::{AllocError, Global};
 
@@ -142,12 +141,12 @@ fn rewrite_steps(
     alloc: Global,
     rewriting: &Rewriting,
     steps: &[Step],
-) -> Result<SolverRow<Step>, AllocError>
+) -> Result<Row<Step>, AllocError>
     requires { RoomFor rewriting.now (length steps.now) }
     ensures { IfOk result (λ made. made ≡ steps_by rewriting.now steps.now) }
 {
     match rewriting {
         Rewriting::Over { sizes, list } => compact_steps(alloc, *sizes, list, steps),
-        Rewriting::Kept => Ok(SolverRow::from_vec(copy_steps(alloc, steps)?)),
+        Rewriting::Kept => Ok(Row::from_vec(copy_steps(alloc, steps)?)),
     }
 }

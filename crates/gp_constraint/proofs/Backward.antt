@@ -6,8 +6,8 @@ use Rattle.std.specs.Cmp.Lexicographic.{slice_cmp}
 use Rattle.std.specs.Ordering.{nat_cmp}
 use Rattle.std.proofs.lemmas.Cmp.{nat_list_cmp_total}
 use Rattle.std.proofs.lemmas.List.{drop_more}
-use Rattle.gp_text.specs.Table.{value_at, with_entry}
-use Rattle.gp_text.specs.TableLaws.{value_after_put}
+use Rattle.gp_base.specs.Table.{value_at, with_entry}
+use Rattle.gp_base.specs.TableLaws.{value_after_put}
 use Rattle.gp_constraint.specs.StartTables.{FindsSame}
 
 -- the entry before those that are in the table

@@ -1,6 +1,6 @@
 -- Entries put into a table in two parts.
 use Rattle.std.proofs.Common.{◌≡◌, refl, List, [], ◌∷◌, ◌++◌}
-use Rattle.gp_text.specs.Table.{with_entries, with_entry}
+use Rattle.gp_base.specs.Table.{with_entries, with_entry}
 use Rattle.gp_window.specs.Holders.{Holding, Holdings, holder_cmp}
 
 pub entries_append : (held : Holdings) (first second : List Holding)

@@ -20,7 +20,7 @@ use Rattle.gp_constraint.specs.declared.symbol.SymbolicLit.{SymbolicLit}
 use Rattle.gp_constraint.specs.declared.term.Term.{Term}
 use Rattle.gp_constraint.specs.declared.term.Term.TheVariants.{Always, Never, Literal}
 use Rattle.gp_constraint.specs.Base.{clauses_of}
-use Rattle.gp_constraint.specs.HasLaws.{find_has, Has, rec_append, rec_flat}
+use Rattle.gp_base.specs.HasLaws.{find_has, Has, rec_append, rec_flat}
 use Rattle.gp_constraint.specs.HeldLocks.{held_apart, holds_at_start}
 use Rattle.gp_constraint.specs.Joins.{ended, is_last_of, join_of, joined_by, joins}
 use Rattle.gp_constraint.specs.PointLaws.{one_point, point_within}

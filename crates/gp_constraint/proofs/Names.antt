@@ -8,7 +8,7 @@ use Rattle.gp_clause.specs.Lit.{lit_eq}
 use Rattle.gp_constraint.specs.declared.symbol.Symbol.{Symbol}
 use Rattle.gp_constraint.specs.declared.symbol.Symbol.TheVariants.{Executed, Order, Choice, StartChoice, First, Span}
 use Rattle.gp_constraint.specs.declared.symbol.SymbolicLit.{SymbolicLit}
-use Rattle.gp_constraint.specs.HasLaws.{Has, has_left, has_right, parts_back}
+use Rattle.gp_base.specs.HasLaws.{Has, has_left, has_right, parts_back}
 use Rattle.gp_constraint.specs.Numbering.{lits_onto, names_after, names_of, number_of, numbered_lit, point_names, with_lit, with_mention, with_mentions}
 use Rattle.gp_constraint.specs.Symbols.{kind_of, symbol_eq}
 

@@ -17,7 +17,7 @@ use Rattle.gp_window.specs.declared.schedule.EventId.{EventId}
 use Rattle.gp_constraint.specs.declared.symbol.Symbol.{Symbol}
 use Rattle.gp_constraint.specs.declared.symbol.Symbol.TheVariants.{Executed, Order, Span}
 use Rattle.gp_constraint.specs.declared.symbol.SymbolicLit.{SymbolicLit}
-use Rattle.gp_constraint.specs.HasLaws.{AreDifferent, different_dropped, different_taken, flat_back, flat_pairs, append_pairs, map_pairs, pairs_unless, Pairwise, split_apart, Has, has_cut, has_dropped, has_left, has_map, has_right, has_taken, map_back, parts_back, rec_all, rec_at, rec_map, unless_back}
+use Rattle.gp_base.specs.HasLaws.{AreDifferent, different_dropped, different_taken, flat_back, flat_pairs, append_pairs, map_pairs, pairs_unless, Pairwise, split_apart, Has, has_cut, has_dropped, has_left, has_map, has_right, has_taken, map_back, parts_back, rec_all, rec_at, rec_map, unless_back}
 use Rattle.gp_constraint.specs.Base.{base_of, clauses_of, names_in}
 use Rattle.gp_constraint.specs.Numbering.{number_of, numbered_lit, point_names}
 use Rattle.gp_constraint.specs.PointLaws.{event_below, IsEventOf, same_event}

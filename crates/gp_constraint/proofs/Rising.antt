@@ -9,7 +9,7 @@ use Rattle.gp_clause.specs.Lit.{lit_eq}
 use Rattle.gp_clause.specs.LitLaws.{lit_eq_decides}
 use Rattle.gp_constraint.specs.declared.symbol.Symbol.{Symbol}
 use Rattle.gp_constraint.specs.declared.symbol.SymbolicLit.{SymbolicLit}
-use Rattle.gp_constraint.specs.HasLaws.{Has, Pairwise, rec_all, rec_at, rec_from}
+use Rattle.gp_base.specs.HasLaws.{Has, Pairwise, rec_all, rec_at, rec_from}
 use Rattle.gp_constraint.specs.Numbering.{lits_onto, number_of, numbered_lit, with_lit, with_mention}
 use Rattle.gp_constraint.specs.Signed.{Agree, AreSigned}
 use Rattle.gp_constraint.specs.Symbols.{symbol_eq}

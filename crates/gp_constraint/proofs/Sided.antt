@@ -6,7 +6,7 @@ use Rattle.gp_window.specs.WindowForm.{WindowForm}
 use Rattle.gp_constraint.specs.declared.point.Point.{Point}
 use Rattle.gp_constraint.specs.declared.symbol.Symbol.{Symbol}
 use Rattle.gp_constraint.specs.declared.symbol.Symbol.TheVariants.{Order}
-use Rattle.gp_constraint.specs.HasLaws.{Has}
+use Rattle.gp_base.specs.HasLaws.{Has}
 use Rattle.gp_constraint.specs.PointLaws.{points_named}
 use Rattle.gp_constraint.specs.Points.{number_in, points_of}
 use Rattle.gp_constraint.specs.Query.{holds, ordered, side}

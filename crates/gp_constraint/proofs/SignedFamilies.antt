@@ -23,7 +23,7 @@ use Rattle.gp_constraint.specs.declared.term.Term.{Term}
 use Rattle.gp_constraint.specs.declared.term.Term.TheVariants.{Always, Never, Literal}
 use Rattle.gp_constraint.specs.Action.{action_of}
 use Rattle.gp_constraint.specs.Base.{clauses_of}
-use Rattle.gp_constraint.specs.HasLaws.{find_has, Has, Pairwise, rec_append, rec_at, rec_flat, rec_from}
+use Rattle.gp_base.specs.HasLaws.{find_has, Has, Pairwise, rec_append, rec_at, rec_flat, rec_from}
 use Rattle.gp_constraint.specs.HeldLocks.{held_apart, holds_at_start}
 use Rattle.gp_constraint.specs.Joins.{ended, is_last_of, join_of, joined_by}
 use Rattle.gp_constraint.specs.PointLaws.{one_point, points_named}

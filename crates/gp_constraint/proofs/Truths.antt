@@ -14,7 +14,7 @@ use Rattle.gp_constraint.specs.declared.symbol.Symbol.{Symbol}
 use Rattle.gp_constraint.specs.declared.symbol.Symbol.TheVariants.{Executed}
 use Rattle.gp_constraint.specs.declared.symbol.SymbolicLit.{SymbolicLit}
 use Rattle.gp_constraint.specs.Base.{clauses_of, first_names, names_in}
-use Rattle.gp_constraint.specs.HasLaws.{Has, has_left, has_map, parts_back, map_back, rec_all, rec_at, rec_map}
+use Rattle.gp_base.specs.HasLaws.{Has, has_left, has_map, parts_back, map_back, rec_all, rec_at, rec_map}
 use Rattle.gp_constraint.specs.Numbering.{lits_onto, names_after, names_of, number_of, numbered, numbered_lit, with_lit, with_mention}
 use Rattle.gp_constraint.specs.PointLaws.{event_below, IsEventOf}
 use Rattle.gp_constraint.specs.Points.{number_in, points_of}

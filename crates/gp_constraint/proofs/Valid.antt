@@ -14,7 +14,7 @@ use Rattle.gp_constraint.specs.declared.point.Point.{Point}
 use Rattle.gp_constraint.specs.declared.symbol.Symbol.{Symbol}
 use Rattle.gp_constraint.specs.declared.symbol.Symbol.TheVariants.{Executed}
 use Rattle.gp_constraint.specs.declared.symbol.SymbolicLit.{SymbolicLit}
-use Rattle.gp_constraint.specs.HasLaws.{rec_all, rec_append, rec_at, rec_flat, rec_from, rec_map}
+use Rattle.gp_base.specs.HasLaws.{rec_all, rec_append, rec_at, rec_flat, rec_from, rec_map}
 use Rattle.gp_constraint.specs.Base.{base_of, clauses_of, names_in}
 use Rattle.gp_constraint.specs.Numbering.{lits_onto, names_after, names_of, numbered, point_names, with_mention, with_mentions}
 use Rattle.gp_constraint.specs.PointLaws.{next_number, point_within, points_named}

@@ -14,7 +14,7 @@ use Rattle.gp_constraint.specs.declared.point.Point.{Point}
 use Rattle.gp_constraint.specs.declared.symbol.Symbol.{Symbol}
 use Rattle.gp_constraint.specs.declared.symbol.Symbol.TheVariants.{Order, Span}
 use Rattle.gp_constraint.specs.declared.symbol.SymbolicLit.{SymbolicLit}
-use Rattle.gp_constraint.specs.HasLaws.{flat_back, Has, has_cut, has_dropped, has_left, has_right, has_taken, parts_back, rec_append, rec_from, rec_map, unless_back}
+use Rattle.gp_base.specs.HasLaws.{flat_back, Has, has_cut, has_dropped, has_left, has_right, has_taken, parts_back, rec_append, rec_from, rec_map, unless_back}
 use Rattle.gp_constraint.specs.PointLaws.{event_below, IsEventOf, points_named, same_event}
 use Rattle.gp_constraint.specs.Points.{number_in, points_of}
 use Rattle.gp_constraint.specs.Query.{holds, mentioned, order_lit, ordered, orders_from, side, sides_of, span_lit, spans_in}

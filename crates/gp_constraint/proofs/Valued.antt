@@ -26,7 +26,7 @@ use Rattle.gp_constraint.specs.declared.symbol.Symbol.TheVariants.{Executed, Ord
 use Rattle.gp_constraint.specs.declared.symbol.SymbolicLit.{SymbolicLit}
 use Rattle.gp_constraint.specs.Action.{action_of}
 use Rattle.gp_constraint.specs.Base.{base_of, clauses_of, first_names, names_in}
-use Rattle.gp_constraint.specs.HasLaws.{all_rec, Has, has_at, has_left, has_map, has_right, rec_at, rec_flat_at}
+use Rattle.gp_base.specs.HasLaws.{all_rec, Has, has_at, has_left, has_map, has_right, rec_at, rec_flat_at}
 use Rattle.gp_constraint.specs.Laws.{BaseMeans, QueryMeans}
 use Rattle.gp_constraint.specs.Numbering.{lits_onto, names_after, names_of, number_of, numbered, numbered_lit}
 use Rattle.gp_constraint.specs.PointLaws.{event_id, points_named}

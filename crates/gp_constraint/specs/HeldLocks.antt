@@ -1,6 +1,6 @@
 -- Locks held when the window begins: who holds one gives it back before another thread takes it against that.
 use Rattle.std.specs.Prelude.{ℕ, not, ◌==◌, ◌&&◌, List, [], ◌++◌, if◌then◌else◌, flat_map, find, map}
-use Rattle.gp_text.specs.Table.{with_entries}
+use Rattle.gp_base.specs.Table.{with_entries}
 use Rattle.gp_trace.specs.declared.lock_use.LockMode.{LockMode}
 use Rattle.gp_trace.specs.declared.lock_use.LockMode.TheVariants.{Exclusive, Shared}
 use Rattle.gp_window.specs.Holders.{Holding, Holdings, holder_cmp}

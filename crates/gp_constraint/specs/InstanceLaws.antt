@@ -19,7 +19,7 @@ use Rattle.gp_window.specs.declared.schedule.EventId.{EventId}
 use Rattle.gp_instance.specs.Instance.{agree, are_apart, bindings, Choice, choice_of, choices_of, fits_shape, is_instance, is_like_atom, is_same, keep_regions, keep_threads, keeps_conditions, rise}
 use Rattle.gp_instance.specs.Matches.{groups_of}
 use Rattle.gp_instance.specs.Pairs.{all_pairs}
-use Rattle.gp_constraint.specs.HasLaws.{AreDifferent, Has, has_taken, rec_append, rec_flat}
+use Rattle.gp_base.specs.HasLaws.{AreDifferent, Has, has_taken, rec_append, rec_flat}
 use Rattle.gp_constraint.specs.PointLaws.{IsEventOf}
 
 -- events of one thread rise from each step to the next; these, of the step before, come before the first

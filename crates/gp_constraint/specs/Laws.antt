@@ -14,7 +14,7 @@ use Rattle.gp_constraint.specs.declared.symbol.Symbol.{Symbol}
 use Rattle.gp_constraint.specs.declared.symbol.Symbol.TheVariants.{Executed}
 use Rattle.gp_constraint.specs.declared.symbol.SymbolicLit.{SymbolicLit}
 use Rattle.gp_constraint.specs.Base.{base_of, clauses_of, names_in}
-use Rattle.gp_constraint.specs.HasLaws.{Has}
+use Rattle.gp_base.specs.HasLaws.{Has}
 use Rattle.gp_constraint.specs.Points.{number_in, points_of}
 use Rattle.gp_constraint.specs.Query.{mentioned, pattern_lits, query_names, query_of}
 use Rattle.gp_constraint.specs.SymbolTruth.{Bound, HoldAll, IsTrueLit, KeepsEdges, read_by, SymbolTruth}

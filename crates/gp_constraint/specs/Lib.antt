@@ -12,7 +12,6 @@ pub mod Numbering
 pub mod Base
 pub mod Query
 pub mod Truths
-pub mod HasLaws
 pub mod PointLaws
 pub mod InstanceLaws
 pub mod SymbolTruth

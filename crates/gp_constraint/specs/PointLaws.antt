@@ -6,7 +6,7 @@ use Rattle.gp_window.specs.Events.{event_at}
 use Rattle.gp_window.specs.WindowForm.{WindowForm}
 use Rattle.gp_window.specs.declared.schedule.EventId.{EventId}
 use Rattle.gp_constraint.specs.Action.{action_of}
-use Rattle.gp_constraint.specs.HasLaws.{append_pairs, Has, has_left, has_right, Pairwise, parts_back, rec_from}
+use Rattle.gp_base.specs.HasLaws.{append_pairs, Has, has_left, has_right, Pairwise, parts_back, rec_from}
 use Rattle.gp_constraint.specs.Points.{first_of, number_at, number_in, points_from, points_in, points_of, sizes_of}
 use Rattle.gp_constraint.specs.declared.point.Point.{Point}
 

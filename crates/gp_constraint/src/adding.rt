@@ -6,7 +6,7 @@ use crate::fault::{Full, MOST_CLAUSES};
 use crate::point::Point;
 use crate::symbol::SymbolicLit;
 use crate::term::{Term, before, executed, has_always, is_always, lits_of, push_lit};
-use gp_clause::Row;
+use gp_base::Row;
 use std::alloc::Global;
 
 /// Clauses over symbols.

@@ -5,7 +5,8 @@ use crate::fault::MOST_POINTS;
 use crate::naming::Names;
 use crate::numbers::point_in;
 use crate::symbol::Symbol;
-use gp_clause::{Lit, Problem, Row};
+use gp_base::Row;
+use gp_clause::{Lit, Problem};
 use gp_window::EventId;
 use std::marker::Model;
 

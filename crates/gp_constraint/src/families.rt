@@ -12,7 +12,7 @@ use crate::reads::{choices, reads, start_choices};
 use crate::sections::sections;
 use crate::start_values::StartValues;
 use crate::starts::starts;
-use gp_clause::Row;
+use gp_base::Row;
 use gp_window::Window;
 use std::alloc::Global;
 

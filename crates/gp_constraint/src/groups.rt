@@ -3,10 +3,10 @@ ghost use Rattle.std.specs.BTreeMap.{is_at};
 ghost use Rattle.std.specs.Cmp.Lexicographic.{slice_cmp};
 ghost use Rattle.std.specs.Ordering.{nat_cmp};
 ghost use Rattle.std.specs.Str.{bytes_eq};
-ghost use Rattle.gp_text.specs.Table.{value_at};
+ghost use Rattle.gp_base.specs.Table.{value_at};
 ghost use Rattle.gp_constraint.specs.Tables.{entry_at};
 
-use gp_clause::Row;
+use gp_base::Row;
 use gp_text::Name;
 use std::alloc::{AllocError, Global};
 use std::collections::BTreeMap;

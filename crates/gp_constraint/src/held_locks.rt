@@ -1,5 +1,5 @@
 ghost use Rattle.std.specs.Prelude.{◌≡◌, ◌≤◌, ◌==◌, ◌&&◌, not, ◌++◌, [], IfOk, OnOk, Option, find, flat_map, length};
-ghost use Rattle.gp_text.specs.Table.{with_entries};
+ghost use Rattle.gp_base.specs.Table.{with_entries};
 ghost use Rattle.gp_window.specs.Holders.{holder_cmp};
 ghost use Rattle.gp_constraint.specs.Adding.{Adds};
 ghost use Rattle.gp_constraint.specs.HeldLocks.{held_apart, held_as, held_locks, holds_at_start};
@@ -12,7 +12,8 @@ use crate::fault::{Full, MOST_CLAUSES};
 use crate::point::Point;
 use crate::points::Points;
 use crate::sections::{exclude, first_end};
-use gp_text::{Name, Row, Table};
+use gp_base::{Row, Table};
+use gp_text::Name;
 use gp_trace::{LockMode, LockUse};
 use gp_window::Window;
 use std::alloc::{AllocError, Global};

@@ -9,7 +9,7 @@ use crate::fault::{Full, MOST_CLAUSES};
 use crate::point::Point;
 use crate::points::Points;
 use crate::term::executed;
-use gp_clause::Row;
+use gp_base::Row;
 use gp_window::{Window, is_among};
 use std::alloc::{AllocError, Global};
 

@@ -3,7 +3,8 @@ ghost use Rattle.gp_constraint.specs.Numbering.{number_of, point_names, with_men
 ghost use Rattle.gp_constraint.specs.Symbols.{kind_of, symbol_eq};
 
 use crate::symbol::Symbol;
-use gp_clause::{Kind, Row};
+use gp_base::Row;
+use gp_clause::Kind;
 use indexmap::IndexSet;
 use std::alloc::{AllocError, Global};
 use std::marker::Model;

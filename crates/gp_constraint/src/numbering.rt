@@ -5,7 +5,8 @@ ghost use Rattle.gp_constraint.specs.Signed.{AreSigned};
 
 use crate::naming::Names;
 use crate::symbol::SymbolicLit;
-use gp_clause::{Clause, Lit, Row};
+use gp_base::Row;
+use gp_clause::{Clause, Lit};
 use std::alloc::{AllocError, Global};
 use std::marker::Model;
 

@@ -2,13 +2,13 @@ ghost use Rattle.std.specs.Prelude.{◌≡◌, ◌≤◌, ◌^◌, IfOk, IfSome,
 ghost use Rattle.gp_constraint.specs.Encoded.{IsSmall, point_in, size_at};
 ghost use Rattle.gp_constraint.specs.Points.{first_of, number_at, number_in};
 
-use gp_clause::Row;
+use gp_base::Row;
 use gp_trace::Event;
 use gp_window::{EventId, Window};
 use std::alloc::{AllocError, Global};
 
 /// How many events each thread has. More than can be counted want more memory than there is.
-pub fn sizes_of(alloc: Global, segments: &[gp_text::Row<Event>]) -> Result<Row<u32>, AllocError>
+pub fn sizes_of(alloc: Global, segments: &[gp_base::Row<Event>]) -> Result<Row<u32>, AllocError>
     ensures { IfOk result (λ sizes. sizes ≡ map (λ segment. length segment) segments.now) }
 {
     let mut sizes = Row::new(alloc);
@@ -63,7 +63,7 @@ fn number_at(sizes: &[u32], id: EventId) -> Result<u32, AllocError>
 }
 
 /// How many events so many first threads have together, where the number fits.
-fn first_in(segments: &[gp_text::Row<Event>], threads: usize) -> Option<u64>
+fn first_in(segments: &[gp_base::Row<Event>], threads: usize) -> Option<u64>
     ensures { IfSome result (λ sum. sum ≡ first_of (map (λ segment. length segment) segments.now) threads) }
 {
     let mut sum = 0u64;

@@ -7,7 +7,7 @@ use crate::action::Action;
 use crate::fault::MOST_POINTS;
 use crate::groups::Groups;
 use crate::point::Point;
-use gp_clause::Row;
+use gp_base::Row;
 use gp_text::Name;
 use gp_trace::{Event, LockUse};
 use gp_window::{EventId, Window};

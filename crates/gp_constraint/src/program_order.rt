@@ -7,7 +7,8 @@ use crate::fault::{Full, MOST_CLAUSES};
 use crate::point::Point;
 use crate::symbol::Symbol;
 use crate::term::{executed, literal};
-use gp_clause::{Edge, Row};
+use gp_base::Row;
+use gp_clause::Edge;
 use std::alloc::{AllocError, Global};
 
 /// An event is executed only where the one before it in its thread is.

@@ -11,7 +11,7 @@ use crate::point::Point;
 use crate::points::Points;
 use crate::start_values::StartValues;
 use crate::term::{Term, before, chosen, executed, start_chosen};
-use gp_clause::Row;
+use gp_base::Row;
 use std::alloc::{AllocError, Global};
 
 fn is_read(action: &Action) -> bool

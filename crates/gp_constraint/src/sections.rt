@@ -13,7 +13,7 @@ use crate::point::Point;
 use crate::points::Points;
 use crate::section::Section;
 use crate::term::{executed, first};
-use gp_clause::Row;
+use gp_base::Row;
 use gp_text::Name;
 use gp_trace::{LockMode, LockUse};
 use std::alloc::{AllocError, Global};

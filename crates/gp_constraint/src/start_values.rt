@@ -1,11 +1,12 @@
 ghost use Rattle.std.specs.Prelude.{◌≡◌, IfOk, OnOk};
 ghost use Rattle.std.specs.Cmp.Lexicographic.{slice_cmp};
 ghost use Rattle.std.specs.Ordering.{nat_cmp};
-ghost use Rattle.gp_text.specs.Table.{with_entry};
+ghost use Rattle.gp_base.specs.Table.{with_entry};
 ghost use Rattle.gp_constraint.specs.Reads.{start_value};
 ghost use Rattle.gp_constraint.specs.StartTables.{FindsSame};
 
-use gp_text::{Name, Table};
+use gp_base::Table;
+use gp_text::Name;
 use gp_window::Window;
 use std::alloc::{AllocError, Global};
 use std::marker::Model;

@@ -4,7 +4,7 @@ ghost use Rattle.gp_constraint.specs.Terms.{before, chosen, constant, executed, 
 
 use crate::point::Point;
 use crate::symbol::{Symbol, SymbolicLit};
-use gp_clause::Row;
+use gp_base::Row;
 use std::alloc::{AllocError, Global};
 
 /// A literal of a clause, before constants are taken out.

@@ -12,7 +12,8 @@ use crate::numbers::sizes_of;
 use crate::points::Points;
 use crate::program_order::edges;
 use crate::symbol::SymbolicLit;
-use gp_clause::{Problem, Row};
+use gp_base::Row;
+use gp_clause::Problem;
 use gp_window::Window;
 use std::alloc::{AllocError, Global};
 

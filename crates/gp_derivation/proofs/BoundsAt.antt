@@ -15,7 +15,7 @@ use Rattle.gp_difference.specs.declared.bound.Bound.{Bound}
 use Rattle.gp_difference.specs.Bounds.{edges_of, untagged}
 use Rattle.gp_difference.specs.Places.{IsEdgeOf}
 use Rattle.gp_derivation.specs.Places.{bound_at, bounds_at}
-use Rattle.gp_derivation.specs.ListLaws.{here, there}
+use Rattle.gp_base.specs.ListLaws.{here, there}
 
 among_more : (edges more : List Edge) → All (Contains more) edges → (walk : List Edge) → IsAmong edges walk → IsAmong more walk
 among_more edges more all [] among = among

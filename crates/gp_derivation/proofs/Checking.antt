@@ -16,7 +16,8 @@ use Rattle.gp_clause.specs.Valuation.{truth_of, place_of}
 use Rattle.gp_derivation.specs.declared.step.Step.{Step}
 use Rattle.gp_derivation.specs.declared.certificate.Certificate.{Certificate}
 use Rattle.gp_derivation.specs.Certificate.{hinted, StepsCheck, Checks, IsLast, Proves, Refutes, CertificateFollows, RefutedMeans}
-use Rattle.gp_derivation.specs.ListLaws.{named_all, contains_got}
+use Rattle.gp_base.specs.ListLaws.{contains_got}
+use Rattle.gp_derivation.specs.NamedLaws.{named_all}
 use Rattle.gp_derivation.proofs.Passing.{Laws, IsModel, model_from_valuation, passing_true}
 
 -- what a step may use comes before it

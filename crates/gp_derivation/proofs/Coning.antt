@@ -24,7 +24,7 @@ use Rattle.gp_derivation.specs.Reach.IsReached.{direct, through}
 use Rattle.gp_derivation.specs.Log.{IsTaken, logged, IsPure, IsUsable, LearnedPasses, OriginPasses, LogPasses}
 use Rattle.gp_derivation.specs.Log.IsPure.{taken, learned}
 use Rattle.gp_derivation.specs.Step.{Passes, named}
-use Rattle.gp_derivation.specs.ListLaws.{got_front, joined_cases}
+use Rattle.gp_base.specs.ListLaws.{got_front, joined_cases}
 use Rattle.gp_derivation.proofs.Drafts.{length_cone}
 use Rattle.gp_derivation.proofs.Purity.{some_pass, pure_below, named_logged, passes_bare}
 use Rattle.gp_derivation.proofs.Rehinting.{NamesAlike, named_checks, check_append, check_wide, check_moved}

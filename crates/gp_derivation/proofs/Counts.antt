@@ -12,7 +12,7 @@ use Rattle.gp_clause.specs.OccurrenceLaws.{twice_from_places}
 use Rattle.gp_derivation.specs.declared.assignment.Assignment.{Assignment}
 use Rattle.gp_derivation.specs.Assignment.{value_of, IsOpen, HasTwo, IsKept}
 use Rattle.gp_derivation.specs.Counting.{fell, spared, standing, IsCounted}
-use Rattle.gp_derivation.specs.ListLaws.{here, there}
+use Rattle.gp_base.specs.ListLaws.{here, there}
 use Rattle.gp_derivation.proofs.Standing.{same_or_not, some_clash, open_by_true, opposite_twice}
 
 -- what fell before fell, and so did the new one

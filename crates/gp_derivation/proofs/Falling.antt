@@ -11,7 +11,7 @@ use Rattle.gp_clause.specs.Lit.{opposite}
 use Rattle.gp_derivation.specs.declared.assignment.Assignment.{Assignment}
 use Rattle.gp_derivation.specs.Assignment.{IsOpen, IsKept}
 use Rattle.gp_derivation.specs.Counting.{standing, IsCounted, AreCounted, AreListed, row_of, Extends, StaysClosing, Recounts}
-use Rattle.gp_derivation.specs.ListLaws.{got_all, all_from_got}
+use Rattle.gp_base.specs.ListLaws.{got_all, all_from_got}
 use Rattle.gp_derivation.proofs.Counts.{all_stand, lowered_once, lowered_not, open_counted}
 
 -- the literal at a place of a trail

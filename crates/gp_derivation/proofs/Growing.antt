@@ -15,7 +15,8 @@ use Rattle.gp_derivation.specs.declared.log.Origin.TheVariants.{Learned, Taken}
 use Rattle.gp_derivation.specs.Log.{logged, IsPure, IsUsable, OriginPasses, EntryPasses, LogPasses, LogGrows}
 use Rattle.gp_derivation.specs.Log.IsPure.{taken, learned}
 use Rattle.gp_derivation.specs.Step.{named}
-use Rattle.gp_derivation.specs.ListLaws.{got_front, slice_get_front, slice_get_back, named_all, named_contains}
+use Rattle.gp_base.specs.ListLaws.{got_front, slice_get_front, slice_get_back}
+use Rattle.gp_derivation.specs.NamedLaws.{named_all, named_contains}
 use Rattle.gp_derivation.proofs.Passing.{more_pass}
 use Rattle.gp_derivation.proofs.Purity.{some_pass}
 

@@ -15,7 +15,7 @@ use Rattle.gp_clause.specs.Lit.{lit_eq}
 use Rattle.gp_clause.specs.LitLaws.{lit_eq_decides}
 use Rattle.gp_derivation.specs.Step.{Passes}
 use Rattle.gp_derivation.specs.Tight.{IsTight, left_out}
-use Rattle.gp_derivation.specs.ListLaws.{there}
+use Rattle.gp_base.specs.ListLaws.{there}
 use Rattle.gp_derivation.proofs.Passing.{more_pass}
 use Rattle.gp_derivation.proofs.Standing.{all_from_contains}
 

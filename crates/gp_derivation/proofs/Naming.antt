@@ -5,7 +5,7 @@ use Rattle.std.proofs.lemmas.List.{take_more, append-nil}
 use Rattle.std.proofs.lemmas.List.Elements.{filter_map-append, All-contains, Contains-get_or}
 use Rattle.gp_clause.specs.declared.lit.Lit.{Lit}
 use Rattle.gp_derivation.specs.Bench.{BenchForm}
-use Rattle.gp_derivation.specs.ListLaws.{named_contains}
+use Rattle.gp_derivation.specs.NamedLaws.{named_contains}
 use Rattle.gp_derivation.specs.Step.{named}
 
 named_next : (clauses : List (List Lit)) (hints : List ℕ) (i d : ℕ) → i < length hints → named clauses (take (i + 1) hints) ≡ named clauses (take i hints) ++ named clauses (get_or hints i d ∷ [])

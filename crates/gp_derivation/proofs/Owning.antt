@@ -15,7 +15,7 @@ use Rattle.gp_derivation.specs.Certificate.{clauses_of}
 use Rattle.gp_derivation.specs.Shared.{StepPasses, OwnStepsPass, SharedPasses, FirstFails, FirstOwnFails, usable}
 use Rattle.gp_derivation.specs.Bench.{BenchForm, HasLoaded, HasTested}
 use Rattle.gp_derivation.specs.Step.{Passes, named}
-use Rattle.gp_derivation.specs.ListLaws.{slice_get_back}
+use Rattle.gp_base.specs.ListLaws.{slice_get_back}
 use Rattle.gp_derivation.proofs.Sharing.{checks_alone}
 
 -- own steps, one part after the other

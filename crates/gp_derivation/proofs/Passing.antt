@@ -15,7 +15,7 @@ use Rattle.gp_clause.specs.Problem.{IsValidKind}
 use Rattle.gp_clause.specs.Valuation.{IsValuation, BoundsMean}
 use Rattle.gp_clause.specs.Walk.{KeepingLeavesNoCycle}
 use Rattle.gp_derivation.specs.Step.{negations, IsDerivedBound, IsRefuted, Passes, PassingFollows, MorePasses}
-use Rattle.gp_derivation.specs.ListLaws.{contains_map, got_all}
+use Rattle.gp_base.specs.ListLaws.{contains_map, got_all}
 
 -- what is known of clauses, bounds and walks
 pub record Laws : Type 0 where

@@ -20,7 +20,8 @@ use Rattle.gp_derivation.specs.Certificate.{StepsCheck, Proves}
 use Rattle.gp_derivation.specs.Log.{IsTaken, logged, IsPure, OriginPasses, EntryPasses, LogPasses, PureFollows}
 use Rattle.gp_derivation.specs.Log.IsPure.{taken, learned}
 use Rattle.gp_derivation.specs.Step.{Passes, named}
-use Rattle.gp_derivation.specs.ListLaws.{got_all, slice_get_front, joined_cases, named_all}
+use Rattle.gp_base.specs.ListLaws.{got_all, slice_get_front, joined_cases}
+use Rattle.gp_derivation.specs.NamedLaws.{named_all}
 use Rattle.gp_derivation.specs.PassingLaws.{passes_alike}
 use Rattle.gp_derivation.proofs.Passing.{Laws, IsModel, model_from_valuation, passing_true}
 use Rattle.gp_derivation.proofs.Checking.{last_contained, proved_true}

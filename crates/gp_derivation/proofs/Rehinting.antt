@@ -14,7 +14,8 @@ use Rattle.gp_derivation.specs.declared.step.Step.{Step}
 use Rattle.gp_derivation.specs.Certificate.{clauses_of, hinted, StepChecks, StepsCheck}
 use Rattle.gp_derivation.specs.Numbering.{moved, with_hints}
 use Rattle.gp_derivation.specs.Step.{Passes, named}
-use Rattle.gp_derivation.specs.ListLaws.{contains_map, named_all, named_contains, got_front, slice_get_front, slice_get_back}
+use Rattle.gp_base.specs.ListLaws.{contains_map, got_front, slice_get_front, slice_get_back}
+use Rattle.gp_derivation.specs.NamedLaws.{named_all, named_contains}
 use Rattle.gp_derivation.proofs.Passing.{more_pass}
 use Rattle.gp_derivation.proofs.Checking.{hinted_among}
 use Rattle.gp_derivation.proofs.Purity.{passes_bare}

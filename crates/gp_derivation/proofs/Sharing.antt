@@ -14,7 +14,8 @@ use Rattle.gp_clause.specs.Valuation.{truth_of, place_of}
 use Rattle.gp_derivation.specs.declared.step.Step.{Step}
 use Rattle.gp_derivation.specs.declared.certificate.Certificate.{Certificate}
 use Rattle.gp_derivation.specs.Certificate.{clauses_of, hinted, StepChecks, StepsCheck}
-use Rattle.gp_derivation.specs.ListLaws.{named_all, contains_got, got_front}
+use Rattle.gp_base.specs.ListLaws.{contains_got, got_front}
+use Rattle.gp_derivation.specs.NamedLaws.{named_all}
 use Rattle.gp_derivation.specs.Shared.{usable, StepPasses, OwnStepsPass, ChecksOver, RefutesOver, SharesNothing, SharedFollows, RefutedOverMeans}
 use Rattle.gp_derivation.specs.Step.{Passes}
 use Rattle.gp_derivation.proofs.Checking.{steps_true, last_contained, negations_false}

@@ -12,7 +12,7 @@ use Rattle.gp_clause.specs.Lit.{lit_eq, opposite}
 use Rattle.gp_clause.specs.LitLaws.{lit_eq_decides}
 use Rattle.gp_derivation.specs.declared.assignment.Assignment.{Assignment}
 use Rattle.gp_derivation.specs.Assignment.{value_of, IsDue, IsOpen, spare, unassigned, IsKept, IsClosing}
-use Rattle.gp_derivation.specs.ListLaws.{all_from_got, contains_got}
+use Rattle.gp_base.specs.ListLaws.{all_from_got, contains_got}
 
 pub all_from_contains : {X : Type 0} (P : X → Type 0) (xs : List X) → ((x : X) → Contains xs x → P x) → All P xs
 all_from_contains P xs each = all_from_got P xs (λ k x got. each x (contains_got xs k x got))

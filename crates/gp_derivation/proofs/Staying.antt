@@ -24,7 +24,7 @@ use Rattle.gp_derivation.specs.Reach.IsReached.{direct, through}
 use Rattle.gp_derivation.specs.Cones.{ConeIsUnique, ConeStays, IsCone, kept_steps, cone_steps}
 use Rattle.gp_derivation.specs.Fit.{IsConeBy}
 use Rattle.gp_derivation.specs.FitStaying.{FitStays}
-use Rattle.gp_derivation.specs.ListLaws.{slice_get_front, got_front}
+use Rattle.gp_base.specs.ListLaws.{slice_get_front, got_front}
 use Rattle.gp_derivation.proofs.Growing.{origin_longer}
 use Rattle.gp_derivation.proofs.Descending.{rests_earlier}
 

@@ -10,7 +10,6 @@ pub mod Spent
 pub mod Reach
 pub mod Numbering
 pub mod Cones
-pub mod ListLaws
 pub mod Bench
 pub mod Tester
 pub mod Judge
@@ -21,3 +20,4 @@ pub mod Exchange
 pub mod FitStaying
 pub mod EarlierLaws
 pub mod PassingLaws
+pub mod NamedLaws

@@ -1,9 +1,8 @@
 ghost use Rattle.gp_derivation.specs.Certificate.{CertificateFollows, RefutedMeans, ChecksWithoutLocals};
 
 use crate::step::Step;
-use gp_clause::{
-    Row, bounds_mean, derived_means, keeping_leaves_no_cycle, locals_change_nothing, true_or_false,
-};
+use gp_base::Row;
+use gp_clause::{bounds_mean, derived_means, keeping_leaves_no_cycle, locals_change_nothing, true_or_false};
 
 /// Steps, each of which may use the base clauses and the steps before it.
 #[derive(Debug, Drop)]

@@ -9,7 +9,7 @@ use crate::log::{LogEntry, Origin};
 use crate::numbering::{last_number, moved_step, renumber};
 use crate::reach::reached;
 use crate::step::Step;
-use gp_clause::Row;
+use gp_base::Row;
 use std::alloc::{AllocError, Global};
 
 /// The steps on which `last` rests, each once and in the order of the log, and `last` itself at the end. The steps of a

@@ -12,7 +12,8 @@ use crate::log::{LogEntry, Origin};
 use crate::reach::small_reach;
 use crate::room::Room;
 use crate::step::Step;
-use gp_clause::{Problem, Row};
+use gp_base::Row;
+use gp_clause::Problem;
 use std::alloc::{AllocError, Global};
 
 // How many literals a clause may have that is fit to share.

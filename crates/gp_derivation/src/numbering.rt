@@ -6,7 +6,7 @@ ghost use Rattle.gp_derivation.specs.declared.step.Step.{Step};
 
 use crate::log::{LogEntry, Origin};
 use crate::step::Step;
-use gp_clause::Row;
+use gp_base::Row;
 use std::alloc::{AllocError, Global};
 
 /// Whether `cone` may be called: each hint names a base clause or what comes before, each taken certificate has a step,

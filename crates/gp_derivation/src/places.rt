@@ -5,7 +5,8 @@ ghost use Rattle.gp_clause.specs.Walk.{HasNegativeCycle};
 ghost use Rattle.gp_difference.specs.Bounds.{edges_of};
 ghost use Rattle.gp_derivation.specs.Places.{AreBare, bounds_at};
 
-use gp_clause::{Edge, Kind, Lit, Row};
+use gp_base::Row;
+use gp_clause::{Edge, Kind, Lit};
 use gp_difference::{Asserted, Graph, GraphFault};
 use std::alloc::{AllocError, Global};
 

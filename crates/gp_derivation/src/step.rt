@@ -1,6 +1,7 @@
 ghost use Rattle.gp_derivation.specs.Step.{PassingFollows, MorePasses};
 
-use gp_clause::{Clause, Row, bounds_mean, derived_means, keeping_leaves_no_cycle, true_or_false};
+use gp_base::Row;
+use gp_clause::{Clause, bounds_mean, derived_means, keeping_leaves_no_cycle, true_or_false};
 
 /// A clause, and the numbers of the clauses that it was derived from: a number below that of the base clauses names a
 /// base clause, and a greater one an earlier step, or in a log an earlier entry. In a certificate a step without hints

@@ -6,7 +6,8 @@ ghost use Rattle.gp_inbox.specs.Views.{joined, MayPush, pushed_one, sender_view,
 ghost use Rattle.std.specs.Prelude.{◌≡◌, ◌<◌, ◌≤◌, ◌+◌, true, Some, [], ◌∷◌, Contains, IfOk, IfSome, IsTrue, length};
 
 use crate::inbox::{Inbox, Pass};
-use gp_clause::{Clause, Kind, Lit, Problem, Row};
+use gp_base::Row;
+use gp_clause::{Clause, Kind, Lit, Problem};
 use gp_derivation::{Certificate, SharedClause, Step};
 use std::alloc::Global;
 use std::sync::{Arc, Wait};

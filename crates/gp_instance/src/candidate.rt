@@ -9,8 +9,9 @@ ghost use Rattle.gp_instance.specs.Search.{candidates_of, is_candidate, unless_d
 
 use crate::segments::Segments;
 use crate::shape::{bindings_of, has_shape};
+use gp_base::Row;
 use gp_property::{PatternAtom, Shape};
-use gp_text::{Name, Row};
+use gp_text::Name;
 use gp_trace::Event;
 use gp_window::EventId;
 use std::alloc::{AllocError, Global};

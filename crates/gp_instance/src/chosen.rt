@@ -3,8 +3,9 @@ ghost use Rattle.gp_instance.specs.Search.{chosen_of, end_if_opened};
 
 use crate::candidate::bindings_with;
 use crate::segments::Segments;
+use gp_base::Row;
 use gp_property::PatternAtom;
-use gp_text::{Name, Row};
+use gp_text::Name;
 use gp_window::EventId;
 use std::alloc::AllocError;
 

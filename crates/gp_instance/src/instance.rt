@@ -4,8 +4,8 @@ ghost use Rattle.gp_instance.specs.Search.{candidates_of, first_instances, searc
 
 use crate::search::{first_domains, search};
 use crate::segments::Segments;
+use gp_base::Row;
 use gp_property::{PatternAtom, Property, atoms_of};
-use gp_text::Row;
 use gp_window::{EventId, Window};
 use std::alloc::{AllocError, Global};
 use thiserror::Error;

@@ -5,7 +5,8 @@ ghost use Rattle.gp_instance.specs.Partners.{index_part, key_of, name_part, name
 use crate::link::{Link, Side, opener, place_on};
 use crate::segments::Segments;
 use crate::shape::names_of;
-use gp_text::{Name, Row};
+use gp_base::Row;
+use gp_text::Name;
 use gp_window::EventId;
 use std::alloc::AllocError;
 use std::cmp::Ordering;

@@ -4,8 +4,8 @@ ghost use Rattle.gp_instance.specs.Partners.{IsLink, across, are_one_parameter, 
 
 use crate::beside::is_same_mark;
 use crate::shape::terms_of;
+use gp_base::Row;
 use gp_property::{PatternAtom, Term};
-use gp_text::Row;
 use std::alloc::{AllocError, Global};
 
 /// Which of two atoms, the first of which comes earlier in the pattern.

@@ -1,7 +1,7 @@
 ghost use Rattle.std.specs.Prelude.{◌≡◌, IfOk, OnOk};
 ghost use Rattle.gp_instance.specs.Region.{end_at, ends_of, waiting_at};
 
-use gp_text::Row;
+use gp_base::Row;
 use gp_trace::Event;
 use std::alloc::{AllocError, Global};
 use std::collections::VecDeque;

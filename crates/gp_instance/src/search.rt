@@ -10,8 +10,8 @@ use crate::instance::{Instance, MOST_INSTANCES};
 use crate::segments::Segments;
 use crate::thinning::thinned;
 use crate::threads::unless_crowded;
+use gp_base::Row;
 use gp_property::PatternAtom;
-use gp_text::Row;
 use gp_window::EventId;
 use std::alloc::{AllocError, Global};
 

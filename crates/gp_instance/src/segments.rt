@@ -5,7 +5,7 @@ ghost use Rattle.gp_instance.specs.Region.{end_of, ends_in, ends_of};
 ghost use Rattle.gp_instance.specs.Search.{AreSmall};
 
 use crate::region::ends_of;
-use gp_text::Row;
+use gp_base::Row;
 use gp_trace::Event;
 use gp_window::{EventId, Window};
 use std::alloc::{AllocError, Global};

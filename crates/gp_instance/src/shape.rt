@@ -2,8 +2,9 @@ ghost use Rattle.std.specs.Prelude.{◌≡◌, ◌++◌, IfOk, OnOk, zip};
 ghost use Rattle.std.specs.List.{list_all};
 ghost use Rattle.gp_instance.specs.Shape.{allow_all, allows, allows_thread, allows_value, binding_of, bindings_in, bindings_of, has_shape, is_kind, names_of, terms_of};
 
+use gp_base::Row;
 use gp_property::{Shape, Term, ThreadTerm, ValueTerm};
-use gp_text::{Name, Row};
+use gp_text::Name;
 use gp_trace::Event;
 use std::alloc::{AllocError, Global};
 use std::slice;

@@ -5,8 +5,8 @@ ghost use Rattle.gp_instance.specs.Search.{FindsSame};
 use crate::link::{Link, Side, across, link_of};
 use crate::partners::{pairable, partners_of};
 use crate::segments::Segments;
+use gp_base::Row;
 use gp_property::PatternAtom;
-use gp_text::Row;
 use gp_window::EventId;
 use std::alloc::AllocError;
 

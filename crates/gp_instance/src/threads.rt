@@ -1,8 +1,9 @@
 ghost use Rattle.std.specs.Prelude.{◌≡◌, ◌++◌, ◌+◌, ◌<◌, ◌^◌, [], IfOk, OnOk, length};
 ghost use Rattle.gp_instance.specs.Threads.{few_threads, has_thread, is_crowded, is_given, set_part, thread_sets, threads_for, unless_crowded, with_thread, with_threads};
 
+use gp_base::Row;
 use gp_property::PatternAtom;
-use gp_text::{Name, Row};
+use gp_text::Name;
 use gp_window::EventId;
 use std::alloc::{AllocError, Global};
 

@@ -7,7 +7,7 @@ ghost use Rattle.gp_make.specs.Traces.{TracesGrow, lines_of, traces_with, with_l
 
 use crate::action::{Action, Event};
 use crate::lines::put_action;
-use gp_text::Row;
+use gp_base::Row;
 use gp_window::FileName;
 use std::alloc::{AllocError, Global};
 use std::marker::Model;

@@ -9,7 +9,7 @@ use crate::files::{MadeFile, empty_traces, in_order, put_event, put_marks};
 use crate::manifest::{manifest_head, put_changes};
 use crate::program::Program;
 use crate::recipe::{Recipe, WINDOW};
-use gp_text::Row;
+use gp_base::Row;
 use std::alloc::{AllocError, Global};
 
 /// The files of the recording, in the order in which they are written: the manifest, the traces by

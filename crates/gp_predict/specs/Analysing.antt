@@ -6,7 +6,7 @@ use Rattle.gp_analysis.specs.Tickets.{asked_total, too_much}
 use Rattle.gp_report.specs.declared.record.Entry.{Entry}
 use Rattle.gp_report.specs.Entries.{entries_of, is_found}
 use Rattle.gp_report.specs.ReportForm.{ReportForm}
-use Rattle.gp_text.specs.Results.{and_then}
+use Rattle.gp_base.specs.Results.{and_then}
 use Rattle.gp_predict.specs.declared.answer.Answer.{Answer}
 use Rattle.gp_predict.specs.declared.due.Asked.{Asked}
 use Rattle.gp_predict.specs.declared.listing.Listing.{Listing}

@@ -1,7 +1,7 @@
 -- What is due to the words and to the files: a function of these alone.
 use Rattle.std.specs.Prelude.{ℕ, Bool, true, false, List, Option, Some, None, Result, Ok, Err, codes}
 use Rattle.gp_outside.specs.Folders.{File}
-use Rattle.gp_text.specs.Results.{and_then}
+use Rattle.gp_base.specs.Results.{and_then}
 use Rattle.gp_predict.specs.declared.answer.Answer.{Answer}
 use Rattle.gp_predict.specs.declared.submission.Submission.{Submission}
 use Rattle.gp_predict.specs.Analysing.{analysing_at}

@@ -1,7 +1,7 @@
 -- What the folder holds: the bytes of an input file, and the recording.
 use Rattle.std.specs.Prelude.{ℕ, List, Result}
 use Rattle.gp_outside.specs.Folders.{File}
-use Rattle.gp_text.specs.Results.{or_refused}
+use Rattle.gp_base.specs.Results.{or_refused}
 use Rattle.gp_window.specs.Contents.{content_of}
 use Rattle.gp_window.specs.Recording.{recording_of}
 use Rattle.gp_window.specs.RecordingForm.{RecordingForm}

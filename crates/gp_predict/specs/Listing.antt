@@ -16,7 +16,7 @@ use Rattle.gp_predict.specs.declared.listing.Listing.{Listing}
 use Rattle.gp_predict.specs.Content.{content_at, recording_at}
 use Rattle.gp_predict.specs.Lines.{instance_line, property_line, total_line, window_line}
 use Rattle.gp_predict.specs.Refusal.{properties_refusal}
-use Rattle.gp_text.specs.Results.{and_then, or_refused}
+use Rattle.gp_base.specs.Results.{and_then, or_refused}
 
 -- the properties in the folder
 abbrev pub properties_at : List File → List ℕ → Result (List PropertyForm) Answer

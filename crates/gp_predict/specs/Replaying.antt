@@ -15,7 +15,7 @@ use Rattle.gp_replay.specs.declared.state.State.{State}
 use Rattle.gp_predict.specs.declared.answer.Answer.{Answer}
 use Rattle.gp_predict.specs.Content.{content_at, recording_at}
 use Rattle.gp_predict.specs.Refusal.{never_due, one_line, schedule_refusal}
-use Rattle.gp_text.specs.Results.{and_then, or_refused}
+use Rattle.gp_base.specs.Results.{and_then, or_refused}
 
 -- the schedule in the folder, for a recording of so many epochs
 abbrev pub schedule_at : List File → List ℕ → ℕ → Result WindowSchedule Answer

@@ -5,7 +5,7 @@ use Rattle.gp_outside.specs.Folders.{File}
 use Rattle.gp_property.specs.Property.{IsProperty}
 use Rattle.gp_report.specs.Reading.{report_of}
 use Rattle.gp_report.specs.ReportForm.{ReportForm}
-use Rattle.gp_text.specs.Results.{and_then, or_refused}
+use Rattle.gp_base.specs.Results.{and_then, or_refused}
 use Rattle.gp_window.specs.declared.file_name.FileName.TheVariants.{Report}
 use Rattle.gp_predict.specs.declared.answer.Answer.{Answer}
 use Rattle.gp_predict.specs.declared.submission.Submission.{Submission}

@@ -3,8 +3,8 @@ ghost use Rattle.gp_predict.specs.Analysing.{limit_refused};
 ghost use Rattle.gp_predict.specs.Answer.{words_refused};
 ghost use Rattle.gp_predict.specs.Replaying.{feasible, stuck};
 
+use gp_base::Row;
 use gp_replay::Rule;
-use gp_text::Row;
 use std::alloc::{AllocError, Global};
 
 /// A status, and the text that goes with it: its lines, each with its newline.

@@ -8,8 +8,8 @@ ghost use Rattle.gp_window.specs.Gives.{Gives};
 
 use crate::refusal::{content_refusal, recording_refusal};
 use crate::stop::Stop;
+use gp_base::Row;
 use gp_outside::Folder;
-use gp_text::Row;
 use gp_window::{ContentFault, FileName, Recording, RecordingFault, content_of, read_recording};
 use std::alloc::Global;
 use std::thread::Threads;

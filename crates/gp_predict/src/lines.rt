@@ -1,8 +1,9 @@
 ghost use Rattle.std.specs.Prelude.{◌≡◌, ◌++◌, IfOk, OnOk, flat_map};
 ghost use Rattle.gp_predict.specs.Lines.{event_text, instance_line, property_line, total_line, window_line};
 
+use gp_base::Row;
 use gp_instance::Instance;
-use gp_text::{Name, Row, print_u64};
+use gp_text::{Name, print_u64};
 use gp_window::{EventId, put_event_id};
 use std::alloc::{AllocError, Global};
 

@@ -4,7 +4,7 @@ ghost use Rattle.gp_outside.specs.Folders.{File};
 ghost use Rattle.gp_predict.specs.Replaying.{replay_answer, replay_at, schedule_at};
 ghost use Rattle.gp_replay.specs.Schedule.{schedule_of_text};
 ghost use Rattle.gp_predict.specs.Refusal.{schedule_refusal};
-ghost use Rattle.gp_text.specs.Results.{or_refused};
+ghost use Rattle.gp_base.specs.Results.{or_refused};
 ghost use Rattle.gp_predict.specs.Stage.{IsRefusal, refusal_of};
 ghost use Rattle.gp_window.specs.Gives.{Gives};
 

@@ -5,7 +5,7 @@ ghost use Rattle.gp_predict.specs.Refusal.{report_refusal};
 ghost use Rattle.gp_predict.specs.Stage.{IsRefusal, refusal_of};
 ghost use Rattle.gp_predict.specs.Submission.{CanBeChecked, report_at, submission_at};
 ghost use Rattle.gp_report.specs.Reading.{report_of};
-ghost use Rattle.gp_text.specs.Results.{or_refused};
+ghost use Rattle.gp_base.specs.Results.{or_refused};
 ghost use Rattle.gp_window.specs.Gives.{Gives};
 
 use crate::content::content_at;

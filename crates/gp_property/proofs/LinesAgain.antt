@@ -6,7 +6,7 @@ use Rattle.std.proofs.lemmas.Bool.{lt-leb}
 use Rattle.gp_text.specs.declared.line.Line.{Line}
 use Rattle.gp_text.specs.Numbers.{OneSpelling}
 use Rattle.gp_text.specs.Name.{is_name}
-use Rattle.gp_text.specs.Results.{and_then}
+use Rattle.gp_base.specs.Results.{and_then}
 use Rattle.gp_property.specs.declared.property.Atom.{Atom}
 use Rattle.gp_property.specs.declared.property.EventDef.{EventDef}
 use Rattle.gp_property.specs.declared.property.PatternStep.{PatternStep}

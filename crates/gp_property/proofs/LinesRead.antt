@@ -6,7 +6,7 @@ use Rattle.std.specs.Str.{bytes_eq}
 use Rattle.std.proofs.lemmas.Bool.{leb-false}
 use Rattle.gp_text.specs.declared.line.Line.{Line}
 use Rattle.gp_text.specs.Numbers.{OneSpelling}
-use Rattle.gp_text.specs.Results.{and_then}
+use Rattle.gp_base.specs.Results.{and_then}
 use Rattle.gp_property.specs.declared.fault.PropertyFault.{PropertyFault}
 use Rattle.gp_property.specs.declared.fault.PropertyFault.TheVariants.{BadWord, RepeatedName}
 use Rattle.gp_property.specs.declared.property.EventDef.{EventDef}

@@ -5,7 +5,7 @@ use Rattle.std.specs.Str.{bytes_eq}
 use Rattle.gp_text.specs.declared.line.Line.{Line}
 use Rattle.gp_text.specs.declared.lines.TextFault.{TextFault}
 use Rattle.gp_text.specs.Lines.{end_line_of, lines_of}
-use Rattle.gp_text.specs.Results.{and_then}
+use Rattle.gp_base.specs.Results.{and_then}
 use Rattle.gp_text.specs.Name.{name_of}
 use Rattle.gp_property.specs.declared.fault.PropertyFault.{PropertyFault}
 use Rattle.gp_property.specs.declared.fault.PropertyFault.TheVariants.{Text, Empty, BadWord, RepeatedName}

@@ -2,7 +2,8 @@ ghost use Rattle.std.specs.Prelude.{◌≡◌, ◌++◌, IfOk, OnOk, flat_map, o
 ghost use Rattle.gp_property.specs.Atoms.{atoms_from, atoms_of, placed, placed_with, shape_named};
 
 use crate::property::{Atom, EventDef, PatternStep, Property, Shape};
-use gp_text::{Name, Row};
+use gp_base::Row;
+use gp_text::Name;
 use std::alloc::{AllocError, Global};
 
 /// An atom of a pattern with its place there, and with what its event has to be like.

@@ -3,7 +3,8 @@ ghost use Rattle.gp_property.specs.Pattern.{finished, next_word, no_pattern, pat
 
 use crate::atom::atom_of;
 use crate::property::{Atom, PatternStep};
-use gp_text::{Row, Word};
+use gp_base::Row;
+use gp_text::Word;
 use std::alloc::{AllocError, Global};
 
 /// A pattern of which some words are read.

@@ -5,7 +5,8 @@ ghost use Rattle.gp_property.specs.Words.{after_words, atom_word, atoms_words, e
 
 use crate::laws::property_again;
 use crate::property::{Atom, EventDef, PatternStep, Property, Shape, Term, ThreadTerm, ValueTerm};
-use gp_text::{Name, Row, print_i64, print_u64};
+use gp_base::Row;
+use gp_text::{Name, print_i64, print_u64};
 use std::alloc::{AllocError, Global};
 
 /// Prints the lines of a property, with one space between words and a newline after each line. The

@@ -1,7 +1,8 @@
 ghost use Rattle.std.specs.Prelude.{◌≡◌};
 ghost use Rattle.gp_property.specs.Property.{IsProperty};
 
-use gp_text::{Name, Row};
+use gp_base::Row;
+use gp_text::Name;
 use std::alloc::AllocError;
 use std::marker::Model;
 

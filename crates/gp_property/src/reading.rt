@@ -11,7 +11,8 @@ use crate::laws::reads_exactly;
 use crate::pattern::pattern_of;
 use crate::property::{EventDef, MOST_EVENTS, MOST_PROPERTIES, Property};
 use crate::shape::definition_of;
-use gp_text::{Line, Name, Row, Word, end_line, one_spelling, read_lines};
+use gp_base::Row;
+use gp_text::{Line, Name, Word, end_line, one_spelling, read_lines};
 use std::alloc::Global;
 use std::marker::Model;
 

@@ -3,7 +3,8 @@ ghost use Rattle.gp_property.specs.Shape.{access_of, definition_of, named_shape_
 
 use crate::property::{EventDef, Shape, Term, ThreadTerm, ValueTerm};
 use crate::term::{term_of, terms_of, thread_of, value_of};
-use gp_text::{Name, Row, Word};
+use gp_base::Row;
+use gp_text::{Name, Word};
 use std::alloc::{AllocError, Global};
 
 /// The most objects of an operation.

@@ -2,7 +2,8 @@ ghost use Rattle.std.specs.Prelude.{◌≡◌, IfOk};
 ghost use Rattle.gp_property.specs.Term.{term_of, terms_of, thread_of, value_of};
 
 use crate::property::{Term, ThreadTerm, ValueTerm};
-use gp_text::{Name, Row, Word, read_i64, read_u32};
+use gp_base::Row;
+use gp_text::{Name, Word, read_i64, read_u32};
 use std::alloc::{AllocError, Global};
 
 /// The term that a word spells: `*`, `$name` or a name.

@@ -3,7 +3,7 @@ use Rattle.std.proofs.Common.{ℕ, ◌≡◌, ◌<◌, ◌≤◌, ◌^◌, ap, s
 use Rattle.std.specs.Prelude.{Option, Some, None, Result, Ok, Err, IfOk, codes}
 use Rattle.std.specs.List.{AllByRecursion}
 use Rattle.gp_text.specs.Numbers.{OneSpelling, between, number_after}
-use Rattle.gp_text.specs.Results.{or_refusal, then_rest, with_prefix}
+use Rattle.gp_base.specs.Results.{or_refusal, then_rest, with_prefix}
 use Rattle.gp_text.specs.declared.line.Line.{Line}
 use Rattle.gp_window.specs.NumberLaws.{is_between, keyword_and_number, number_is_after, was_between}
 use Rattle.gp_window.specs.EventIds.{EventIdsReadExactly, event_id_of, event_id_text}

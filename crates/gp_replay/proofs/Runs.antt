@@ -7,7 +7,7 @@ use Rattle.gp_replay.specs.declared.state.State.{State}
 use Rattle.gp_replay.specs.declared.rule.Rule.{Rule}
 use Rattle.gp_replay.specs.declared.running.ReplayFault.{ReplayFault}
 use Rattle.gp_replay.specs.declared.running.ReplayFault.TheVariants.{Stuck}
-use Rattle.gp_text.specs.Results.{and_then}
+use Rattle.gp_base.specs.Results.{and_then}
 use Rattle.gp_replay.specs.Step.{next}
 use Rattle.gp_replay.specs.Feasible.{Runs, StuckAt, told_at, end_from}
 

@@ -24,7 +24,7 @@ use Rattle.gp_window.specs.WindowForm.{WindowForm}
 use Rattle.gp_replay.specs.Readers.{is_reader, with_readers}
 use Rattle.gp_replay.specs.Step.{holder_of, start_state}
 use Rattle.gp_replay.specs.ExclusionLaws.{HoldersAreAlone}
-use Rattle.gp_text.specs.Table.{value_at, with_entries}
+use Rattle.gp_base.specs.Table.{value_at, with_entries}
 
 -- an entry above all others goes to their end
 put_last : {K V : Type 0} {R : K → K → Ordering} (o : IsTotalOrder R) (prefix : List (K × V)) (k : K) (v : V)

@@ -3,8 +3,8 @@ use Rattle.std.proofs.Common.{ℕ, ◌≡◌, ◌⊎◌, ap, sym, ◌∙◌, ref
 use Rattle.std.specs.Prelude.{Some, None, Option, Ok, ◌||◌, is_some}
 use Rattle.std.specs.Cmp.Lexicographic.{slice_cmp}
 use Rattle.std.specs.Ordering.{nat_cmp}
-use Rattle.gp_text.specs.Table.{value_at}
-use Rattle.gp_text.specs.TableLaws.{dropped_apart, dropped_here, put_apart, put_here, same_or_apart}
+use Rattle.gp_base.specs.Table.{value_at}
+use Rattle.gp_base.specs.TableLaws.{dropped_apart, dropped_here, put_apart, put_here, same_or_apart}
 use Rattle.gp_trace.specs.declared.lock_use.LockMode.TheVariants.{Exclusive, Shared}
 use Rattle.gp_trace.specs.declared.lock_use.LockUse.{LockUse}
 use Rattle.gp_trace.specs.declared.lock_use.LockUse.TheVariants.{Take, GiveBack}

@@ -10,7 +10,7 @@ use Rattle.gp_replay.specs.declared.schedule.ScheduleFault.{ScheduleFault}
 use Rattle.gp_replay.specs.declared.schedule.ScheduleFault.TheVariants.{BadLine}
 use Rattle.gp_replay.specs.Faults.{schedule_from_text}
 use Rattle.gp_text.specs.Numbers.{between, number_after}
-use Rattle.gp_text.specs.Results.{then_rest, or_refusal, with_prefix}
+use Rattle.gp_base.specs.Results.{then_rest, or_refusal, with_prefix}
 
 -- the events that the words of the line of this number name, or that the line is bad
 abbrev pub event_ids_of : ℕ → List (List ℕ) → Result (List EventId) ScheduleFault

@@ -2,7 +2,7 @@
 use Rattle.std.proofs.Common.{ℕ, ◌≡◌, ◌⊎◌, ap, sym, ◌∙◌, refl, subst, inl, inr, Bool, true, false, List, [], ◌∷◌}
 use Rattle.std.specs.Prelude.{Some, None, Option, Ok}
 use Rattle.std.proofs.lemmas.Bool.{cases_eq, true≢false}
-use Rattle.gp_text.specs.TableLaws.{same_or_apart}
+use Rattle.gp_base.specs.TableLaws.{same_or_apart}
 use Rattle.gp_trace.specs.declared.lock_use.LockMode.TheVariants.{Exclusive, Shared}
 use Rattle.gp_trace.specs.declared.lock_use.LockUse.{LockUse}
 use Rattle.gp_trace.specs.declared.lock_use.LockUse.TheVariants.{Take, GiveBack}

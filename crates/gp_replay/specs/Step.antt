@@ -7,8 +7,8 @@
 use Rattle.std.specs.Prelude.{ℕ, ℤ, zero, suc, pos, Bool, ◌&&◌, ◌||◌, ◌+◌, ◌++◌, ◌==◌, List, [], ◌∷◌, Option, Some, None, Result, Ok, Err, is_some, if◌then◌else◌, slice_index, slice_set, length, replicate, unwrap_or}
 use Rattle.std.specs.Ordering.{nat_cmp, int_eq}
 use Rattle.std.specs.Cmp.Lexicographic.{slice_cmp}
-use Rattle.gp_text.specs.Results.{and_then}
-use Rattle.gp_text.specs.Table.{value_at, with_entry, without_entry, with_entries}
+use Rattle.gp_base.specs.Results.{and_then}
+use Rattle.gp_base.specs.Table.{value_at, with_entry, without_entry, with_entries}
 use Rattle.gp_trace.specs.LockUse.{lock_use_of}
 use Rattle.gp_trace.specs.declared.event.Event.{Event}
 use Rattle.gp_trace.specs.declared.event.Event.TheVariants.{Read, Write, Start, Join}

@@ -6,7 +6,7 @@ use Rattle.gp_window.specs.declared.schedule.EventId.{EventId}
 use Rattle.gp_window.specs.WindowForm.{WindowForm}
 use Rattle.gp_replay.specs.declared.state.State.{State}
 use Rattle.gp_replay.specs.declared.rule.Rule.{Rule}
-use Rattle.gp_text.specs.Results.{and_then}
+use Rattle.gp_base.specs.Results.{and_then}
 use Rattle.gp_window.specs.Events.{event_at}
 use Rattle.gp_window.specs.Starts.{is_among}
 use Rattle.gp_replay.specs.Step.{after, allowed_in, count_of, next, next_with, rules_of, turn_of}

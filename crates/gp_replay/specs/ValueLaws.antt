@@ -16,7 +16,7 @@ use Rattle.gp_replay.specs.Feasible.{Runs}
 use Rattle.gp_replay.specs.Value.{IsLastValue, Reads, Writes}
 use Rattle.gp_replay.specs.RunLaws.{runs_split}
 use Rattle.gp_replay.specs.StepLaws.{stepped}
-use Rattle.gp_text.specs.TableLaws.{put_apart, put_here, same_or_apart}
+use Rattle.gp_base.specs.TableLaws.{put_apart, put_here, same_or_apart}
 
 -- an event writes the variable, which then has the value; or it does not, and the value stays
 abbrev pub Changes : Event → List ℕ → ℤ → ℤ → Type 0

@@ -1,7 +1,8 @@
 ghost use Rattle.std.specs.Prelude.{◌≡◌, [], IfOk, OnOk, OnErr};
 ghost use Rattle.gp_replay.specs.Readers.{has_reader, is_reader, with_reader, with_readers, without_reader};
 
-use gp_text::{Name, Row};
+use gp_base::Row;
+use gp_text::Name;
 use std::alloc::{AllocError, Global};
 use std::collections::BTreeSet;
 use std::marker::Model;

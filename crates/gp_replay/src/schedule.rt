@@ -1,8 +1,9 @@
 ghost use Rattle.std.specs.Prelude.{◌≡◌, ◌≢◌, ◌<◌, ◌≤◌, ◌-◌, ◌^◌, length, Ok, Err, IfErr, IfOk, OnOk};
-ghost use Rattle.gp_text.specs.Results.{with_prefix};
+ghost use Rattle.gp_base.specs.Results.{with_prefix};
 ghost use Rattle.gp_replay.specs.Schedule.{event_ids_of, events_of, schedule_of, schedule_of_text};
 
-use gp_text::{Line, Row, TextFault, Word, between, end_line, number_after, read_lines};
+use gp_base::Row;
+use gp_text::{Line, TextFault, Word, between, end_line, number_after, read_lines};
 use gp_window::{EventId, Schedule, event_id_of};
 use std::alloc::{AllocError, Global};
 use thiserror::Error;

@@ -5,7 +5,8 @@ ghost use Rattle.gp_replay.specs.StepFault.{BreaksRule};
 
 use crate::readers::Readers;
 use crate::rule::{Rule, StepFault};
-use gp_text::{Name, Row, Table};
+use gp_base::{Row, Table};
+use gp_text::Name;
 use gp_trace::{Event, LockMode, LockUse};
 use gp_window::{EventId, Window, is_among};
 use std::alloc::{AllocError, Global};

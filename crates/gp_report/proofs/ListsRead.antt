@@ -5,7 +5,7 @@ use Rattle.std.specs.List.{AllByRecursion}
 use Rattle.std.proofs.lemmas.Bool.{eq-eqb, eqb-true}
 use Rattle.std.proofs.lemmas.List.{length-map, map-append, take-append-drop}
 use Rattle.gp_text.specs.declared.line.Line.{Line}
-use Rattle.gp_text.specs.Results.{or_refusal, then_rest}
+use Rattle.gp_base.specs.Results.{or_refusal, then_rest}
 use Rattle.gp_report.specs.declared.fault.ReportFault.{ReportFault}
 use Rattle.gp_report.specs.declared.fault.ReportFault.TheVariants.{Rule}
 use Rattle.gp_report.specs.declared.fault.ReportRule.TheVariants.{Form, Length}

@@ -3,7 +3,7 @@ use Rattle.std.proofs.Common.{◌≡◌, refl, sym, ap, ◌∙◌, ℕ, suc, ◌
 use Rattle.std.specs.Prelude.{Option, Some, None}
 use Rattle.std.proofs.lemmas.List.{length-append, length-map}
 use Rattle.gp_text.specs.declared.line.Line.{Line}
-use Rattle.gp_text.specs.Results.{or_refusal}
+use Rattle.gp_base.specs.Results.{or_refusal}
 use Rattle.gp_report.specs.declared.fault.ReportFault.{ReportFault}
 use Rattle.gp_report.specs.declared.fault.ReportRule.{ReportRule}
 use Rattle.gp_report.specs.Reading.{Reads, ◌>>=◌, kept_if, next_line}

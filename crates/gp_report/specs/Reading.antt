@@ -8,7 +8,7 @@ use Rattle.gp_text.specs.declared.lines.TextFault.{TextFault}
 use Rattle.gp_text.specs.Lines.{end_line_of, lines_of}
 use Rattle.gp_text.specs.Name.{name_of}
 use Rattle.gp_text.specs.Numbers.{if_below, number_of, small_number_of}
-use Rattle.gp_text.specs.Results.{and_then, or_refusal, then_rest}
+use Rattle.gp_base.specs.Results.{and_then, or_refusal, then_rest}
 use Rattle.gp_window.specs.declared.schedule.EventId.{EventId}
 use Rattle.gp_window.specs.EventIds.{event_id_of}
 use Rattle.gp_report.specs.declared.fault.ReportFault.{ReportFault}

@@ -8,9 +8,9 @@ use crate::lines::{put_line, put_list, put_word, put_words};
 use crate::record::{Answer, Entry, PropertyBody, PropertyRecord, WindowBody, WindowRecord};
 use crate::report::Report;
 use crate::tally::tally_of;
+use gp_base::Row;
 use gp_clause::Lit;
 use gp_derivation::Step;
-use gp_text::Row;
 use gp_window::EventId;
 use std::alloc::{AllocError, Global};
 

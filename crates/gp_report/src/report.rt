@@ -3,7 +3,7 @@ ghost use Rattle.gp_report.specs.Report.{IsReport};
 
 use crate::checks::is_report;
 use crate::record::WindowRecord;
-use gp_text::Row;
+use gp_base::Row;
 use std::marker::Model;
 
 /// What an analysis answers for each window, in a form that a text can tell.

@@ -1,9 +1,9 @@
 // Which instances a property has in a window, and which schedules match one.
 use crate::numbered::window_numbered;
 use crate::recorded::pair_of;
+use gp_base::Row;
 use gp_instance::{Instance, InstancesFault, instances, is_one_for_each, matches};
 use gp_property::{Property, read_properties};
-use gp_text::Row;
 use gp_window::{EventId, Schedule, put_event_id};
 use std::alloc::{AllocError, Global};
 use std::test::Fail;

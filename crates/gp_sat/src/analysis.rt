@@ -11,7 +11,8 @@ ghost use Rattle.gp_sat.specs.Walking.{IsWalked, IsSearched, IsWalkedDown};
 
 use crate::kernel::{Kernel, value_of};
 use crate::marking::Marking;
-use gp_clause::{Clause, Lit, Row};
+use gp_base::Row;
+use gp_clause::{Clause, Lit};
 use std::alloc::AllocError;
 
 /// A clause that follows from a conflict and the clauses whose numbers are its hints, and the level to jump back to.

@@ -13,7 +13,7 @@ use Rattle.gp_clause.specs.declared.problem.Problem.{Problem}
 use Rattle.gp_clause.specs.declared.problem.Query.{Query}
 use Rattle.gp_clause.specs.Kind.{bound_of}
 use Rattle.gp_clause.specs.Problem.{IsValidKind}
-use Rattle.gp_derivation.specs.ListLaws.{got_all, contains_map}
+use Rattle.gp_base.specs.ListLaws.{got_all, contains_map}
 use Rattle.gp_difference.specs.declared.bound.Bound.{Bound}
 use Rattle.gp_difference.specs.Bounds.{tagged, untagged, Explains}
 use Rattle.gp_difference.specs.Graph.{GraphForm, bounds_of, IsKept, IsRefused}

@@ -13,7 +13,7 @@ use Rattle.gp_clause.specs.Kind.{bound_of}
 use Rattle.gp_clause.specs.Lit.{opposite}
 use Rattle.gp_clause.specs.Walk.{IsWalk, IsAmong, weight}
 use Rattle.gp_derivation.specs.Step.{negations, IsDerivedBound, Passes}
-use Rattle.gp_derivation.specs.ListLaws.{contains_map}
+use Rattle.gp_base.specs.ListLaws.{contains_map}
 use Rattle.gp_difference.specs.declared.bound.Bound.{Bound}
 use Rattle.gp_difference.specs.Bounds.{edges_of, tags_of, untagged, tagged, AreAmong, Explains}
 use Rattle.gp_sat.specs.declared.assigned.Assigned.{Assigned}

@@ -19,7 +19,7 @@ use Rattle.gp_derivation.specs.declared.log.Origin.{Origin}
 use Rattle.gp_derivation.specs.declared.log.Origin.TheVariants.{Learned, Taken}
 use Rattle.gp_derivation.specs.declared.record.Turn.{Turn}
 use Rattle.gp_derivation.specs.declared.step.Step.{Step}
-use Rattle.gp_derivation.specs.ListLaws.{contains_map}
+use Rattle.gp_base.specs.ListLaws.{contains_map}
 use Rattle.gp_derivation.specs.Log.{IsLearned, OriginPasses}
 use Rattle.gp_derivation.specs.Spent.{IsNewBy, turned}
 use Rattle.gp_derivation.specs.Step.{negations}

@@ -14,7 +14,8 @@ use Rattle.gp_clause.specs.Lit.{opposite}
 use Rattle.gp_derivation.specs.declared.log.LogEntry.{LogEntry}
 use Rattle.gp_derivation.specs.Log.{logged, LearnedPasses, IsUsable}
 use Rattle.gp_derivation.specs.Step.{negations, named, IsRefuted}
-use Rattle.gp_derivation.specs.ListLaws.{contains_map, named_contains}
+use Rattle.gp_base.specs.ListLaws.{contains_map}
+use Rattle.gp_derivation.specs.NamedLaws.{named_contains}
 use Rattle.gp_clause.specs.ClosureLaws.{derived_more}
 use Rattle.gp_sat.specs.Stored.{Stored}
 use Rattle.gp_sat.specs.State.{SolverForm, assigned, clause_at, no_clause, IsAttached}

@@ -18,7 +18,7 @@ use Rattle.gp_derivation.specs.Certificate.{clauses_of}
 use Rattle.gp_derivation.specs.Exchange.{IsGood}
 use Rattle.gp_derivation.specs.Log.{IsLearned, IsPure, LogGrows, LearnedPasses}
 use Rattle.gp_derivation.specs.Log.IsPure.{taken, learned}
-use Rattle.gp_derivation.specs.ListLaws.{contains_map, got_front}
+use Rattle.gp_base.specs.ListLaws.{contains_map, got_front}
 use Rattle.gp_derivation.specs.Numbering.{size_of}
 use Rattle.gp_derivation.specs.Tester.{TesterForm}
 use Rattle.gp_difference.specs.Graph.{GraphForm}

@@ -17,7 +17,7 @@ use Rattle.gp_clause.specs.Lit.{HoldsLit, opposite}
 use Rattle.gp_clause.specs.Valuation.{Meets, truth_of, place_of}
 use Rattle.gp_derivation.specs.declared.log.LogEntry.{LogEntry}
 use Rattle.gp_derivation.specs.Log.{logged}
-use Rattle.gp_derivation.specs.ListLaws.{contains_map, slice_get_front}
+use Rattle.gp_base.specs.ListLaws.{contains_map, slice_get_front}
 use Rattle.gp_difference.specs.declared.bound.Bound.{Bound}
 use Rattle.gp_difference.specs.Bounds.{untagged, tagged}
 use Rattle.gp_difference.specs.Graph.{GraphForm, IsFeasible, bounds_of, all_edges}

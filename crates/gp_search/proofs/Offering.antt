@@ -15,7 +15,7 @@ use Rattle.gp_derivation.specs.declared.log.LogEntry.{LogEntry}
 use Rattle.gp_derivation.specs.Exchange.{FitIsGood, IsGood, IsGoodBy}
 use Rattle.gp_derivation.specs.Fit.{IsFit, IsFitBy, IsSmallCone}
 use Rattle.gp_derivation.specs.FitStaying.{FitStays}
-use Rattle.gp_derivation.specs.ListLaws.{slice_get_back}
+use Rattle.gp_base.specs.ListLaws.{slice_get_back}
 use Rattle.gp_derivation.specs.Numbering.{AllNameEarlier, CanBeNumbered}
 use Rattle.gp_search.specs.declared.engine.Engine.{Engine}
 use Rattle.gp_search.specs.Mail.{MailForm, Offers, WasOffered}

@@ -12,7 +12,7 @@ use Rattle.gp_derivation.specs.declared.log.LogEntry.{LogEntry}
 use Rattle.gp_derivation.specs.Fit.{IsFit}
 use Rattle.gp_derivation.specs.Log.{IsLearned, IsTaken, EntryPasses, LogPasses}
 use Rattle.gp_derivation.specs.Spent.{IsNewBy, turned}
-use Rattle.gp_derivation.specs.ListLaws.{all_from_got, slice_get_back}
+use Rattle.gp_base.specs.ListLaws.{all_from_got, slice_get_back}
 use Rattle.gp_search.specs.declared.engine.Engine.{Engine}
 use Rattle.gp_search.specs.Inside.{IsWhole, IsTurning, turn_from}
 use Rattle.gp_search.specs.Mail.{MailForm, Offers, SharesWith, taken_entry}

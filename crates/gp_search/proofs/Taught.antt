@@ -15,7 +15,7 @@ use Rattle.gp_derivation.specs.declared.log.Origin.{Origin}
 use Rattle.gp_derivation.specs.declared.log.Origin.TheVariants.{Learned, Taken}
 use Rattle.gp_derivation.specs.declared.step.Step.{Step}
 use Rattle.gp_derivation.specs.Log.{IsLearned, OriginPasses, logged}
-use Rattle.gp_derivation.specs.ListLaws.{slice_get_front, slice_get_back}
+use Rattle.gp_base.specs.ListLaws.{slice_get_front, slice_get_back}
 use Rattle.gp_derivation.specs.Spent.{IsNewBy, turned}
 use Rattle.gp_derivation.specs.Step.{named}
 use Rattle.gp_derivation.specs.Tight.{IsTight}

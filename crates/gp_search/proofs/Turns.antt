@@ -14,7 +14,7 @@ use Rattle.gp_clause.specs.Clause.{NamesBelow}
 use Rattle.gp_clause.specs.Problem.{IsValidProblem, IsValidQuery}
 use Rattle.gp_derivation.specs.declared.log.LogEntry.{LogEntry}
 use Rattle.gp_derivation.specs.Log.{LogGrows, logged}
-use Rattle.gp_derivation.specs.ListLaws.{slice_get_front, slice_get_back}
+use Rattle.gp_base.specs.ListLaws.{slice_get_front, slice_get_back}
 use Rattle.gp_derivation.specs.Numbering.{size_of}
 use Rattle.gp_difference.specs.Graph.{GraphForm}
 use Rattle.gp_sat.specs.declared.assigned.Assigned.{Assigned}

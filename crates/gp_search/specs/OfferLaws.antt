@@ -7,7 +7,7 @@ use Rattle.gp_clause.specs.declared.problem.Problem.{Problem}
 use Rattle.gp_derivation.specs.declared.log.LogEntry.{LogEntry}
 use Rattle.gp_derivation.specs.Fit.{IsFit}
 use Rattle.gp_derivation.specs.FitStaying.{FitStays}
-use Rattle.gp_derivation.specs.ListLaws.{all_from_got}
+use Rattle.gp_base.specs.ListLaws.{all_from_got}
 use Rattle.gp_derivation.specs.Numbering.{AllNameEarlier}
 use Rattle.gp_search.specs.Mail.{Offers}
 

@@ -11,7 +11,8 @@ ghost use Rattle.gp_search.specs.Moves.{IsAllAssigned, IsAllTrue, IsTruthOf};
 
 use crate::engine::{Conflict, Engine};
 use crate::lesson::add_number;
-use gp_clause::{Clause, Lit, Problem, Query, Row, Valuation, true_or_false};
+use gp_base::Row;
+use gp_clause::{Clause, Lit, Problem, Query, Valuation, true_or_false};
 use gp_derivation::{Certificate, Step, cone, cone_checks};
 use gp_sat::Learned;
 use std::alloc::AllocError;

@@ -7,7 +7,8 @@ ghost use Rattle.gp_search.specs.Inside.{IsTurning, IsConflict};
 ghost use Rattle.gp_search.specs.Moves.{IsStudied, IsTightened, IsHigher, IsLearnedStep, with_number};
 
 use crate::engine::{Conflict, Engine};
-use gp_clause::{Lit, Problem, Query, Row, closure_is_least};
+use gp_base::Row;
+use gp_clause::{Lit, Problem, Query, closure_is_least};
 use gp_derivation::Step;
 use gp_sat::Learned;
 use std::alloc::AllocError;

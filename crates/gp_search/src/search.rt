@@ -5,7 +5,8 @@ ghost use Rattle.gp_search.specs.Verdict.{IsSolvable, HasRoom, Learns, LearnsAnd
 use crate::engine::Engine;
 use crate::mail::Mail;
 use crate::verdict::Verdict;
-use gp_clause::{Problem, Query, Row};
+use gp_base::Row;
+use gp_clause::{Problem, Query};
 use gp_derivation::LogEntry;
 use std::alloc::{AllocError, Global};
 use std::marker::Model;

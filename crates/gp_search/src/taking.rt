@@ -6,7 +6,8 @@ ghost use Rattle.gp_search.specs.Moves.{FindsNone, KeepsLog, TakesAll, TakesOne,
 
 use crate::engine::Engine;
 use crate::mail::Mail;
-use gp_clause::{Problem, Query, Row};
+use gp_base::Row;
+use gp_clause::{Problem, Query};
 use gp_derivation::{LogEntry, Origin, SharedClause, Step, log_grows};
 use std::alloc::AllocError;
 

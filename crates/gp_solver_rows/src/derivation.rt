@@ -6,7 +6,8 @@ ghost use Rattle.gp_derivation.specs.Certificate.{clauses_of};
 use crate::fixture::{
     Rows, are_lits, are_named, is_asked, is_valid, lits_of, problem_of, query_of,
 };
-use gp_clause::{Clause, Edge, Kind, Problem, Query, Row};
+use gp_base::Row;
+use gp_clause::{Clause, Edge, Kind, Problem, Query};
 use gp_derivation::{
     Certificate, LogEntry, Origin, Step, can_be_numbered, check_certificate, check_shared, cone,
     tight,

@@ -5,7 +5,8 @@ ghost use Rattle.gp_clause.specs.Problem.{IsValidKind, IsValidEdge, IsValidProbl
 ghost use Rattle.gp_difference.specs.Places.{place_at};
 ghost use Rattle.gp_search.specs.Verdict.{IsSolvable};
 
-use gp_clause::{Clause, Edge, Kind, Lit, Problem, Query, Row};
+use gp_base::Row;
+use gp_clause::{Clause, Edge, Kind, Lit, Problem, Query};
 use gp_difference::keeps;
 use std::alloc::{AllocError, Global};
 use std::test::Fail;

@@ -12,7 +12,8 @@ use crate::fixture::{
 use crate::memory_mail::{Letters, MemoryMail, Offer};
 use crate::search::{Due, is_due};
 use crate::small_cones::is_fit;
-use gp_clause::{Clause, Kind, Problem, Query, Row};
+use gp_base::Row;
+use gp_clause::{Clause, Kind, Problem, Query};
 use gp_derivation::{
     Certificate, LogEntry, Origin, SharedClause, Step, check_certificate, shares_nothing,
 };

@@ -2,7 +2,8 @@ ghost use Rattle.std.specs.Prelude.{◌<◌, length};
 
 use crate::derivation::{Entry, Line, are_steps, log_of, step};
 use crate::fixture::{Rows, problem_of};
-use gp_clause::{Clause, Kind, Lit, Problem, Row};
+use gp_base::Row;
+use gp_clause::{Clause, Kind, Lit, Problem};
 use gp_derivation::{Certificate, LogEntry, Origin, Step, can_be_numbered, small_cone};
 use std::alloc::Global;
 use std::process::Abort;

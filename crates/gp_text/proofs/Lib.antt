@@ -1,9 +1,7 @@
 pub mod Checks
 pub mod Cuts
 pub mod Digits
-pub mod Fillings
 pub mod OneSpelling
 pub mod Padded
 pub mod PlainWords
 pub mod ReadsAgain
-pub mod Removals

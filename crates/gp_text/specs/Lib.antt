@@ -3,9 +3,5 @@ pub mod Lines
 pub mod Name
 pub mod Numbers
 pub mod Padding
-pub mod Results
 pub mod Spelling
-pub mod Table
 pub mod LineLaws
-pub mod ResultLaws
-pub mod TableLaws

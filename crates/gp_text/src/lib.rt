@@ -13,9 +13,7 @@ mod lines;
 mod name;
 mod numbers;
 mod parts;
-mod row;
 mod spelling;
-mod table;
 
 pub use cursor::{Lines, TextLine, Words};
 pub use line::{Line, Word};
@@ -25,6 +23,4 @@ pub use numbers::{
     between, number_after, one_spelling, print_i64, print_u64, read_i64, read_u32, read_u64,
 };
 pub use parts::cut;
-pub use row::Row;
 pub use spelling::{plain_words, reads_again};
-pub use table::Table;

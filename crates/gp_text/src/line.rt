@@ -1,7 +1,7 @@
 ghost use Rattle.std.specs.Prelude.{◌≡◌, [], ◌∷◌, ◌++◌, filter, length, IfOk, OnOk};
 
 use crate::cursor::Words;
-use crate::row::Row;
+use gp_base::Row;
 use std::alloc::{AllocError, Global};
 use std::marker::Model;
 

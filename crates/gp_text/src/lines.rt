@@ -5,7 +5,7 @@ ghost use Rattle.gp_text.specs.Lines.{check_of, check_of_text, end_line_of, is_s
 use crate::cursor::Lines;
 use crate::line::{Line, collect_words};
 use crate::parts::cut;
-use crate::row::Row;
+use gp_base::Row;
 use std::alloc::{AllocError, Global};
 use thiserror::Error;
 

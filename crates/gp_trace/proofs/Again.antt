@@ -19,7 +19,7 @@ use Rattle.gp_trace.specs.Rules.{after, after_all, AreWellFormed, at_first, faul
 use Rattle.gp_trace.specs.LockUse.{AreOfFormat, has_shared_event, lock_use_of, uses_shared}
 use Rattle.gp_trace.proofs.Spelled.{Belongs, IsEventOf}
 use Rattle.gp_trace.specs.Trace.{in_order, IsEvent, IsExit, IsLocalTrace, LocalTraceForm}
-use Rattle.gp_text.specs.Results.{and_then}
+use Rattle.gp_base.specs.Results.{and_then}
 use Rattle.gp_trace.specs.Walk.{after_lines, at_end, at_start, before_exit, next, trace_in, with_event}
 
 -- names are read again

@@ -13,7 +13,7 @@ use Rattle.gp_trace.specs.Event.{entry_of}
 use Rattle.gp_trace.specs.Rules.{after, after_all, AreWellFormed, at_first, check, fault_of, in_line}
 use Rattle.gp_trace.specs.LockUse.{AreOfFormat, has_shared_event, lock_use_of, uses_shared}
 use Rattle.gp_trace.specs.Trace.{in_order, IsEvent, IsExit, IsLocalTrace}
-use Rattle.gp_text.specs.Results.{and_then}
+use Rattle.gp_base.specs.Results.{and_then}
 use Rattle.gp_trace.specs.Walk.{after_exit, after_lines, at_exit, at_start, before_exit, next, with_event}
 use Rattle.gp_trace.proofs.Spelled.{an_entry, InSome, IsEntry, IsEventOf}
 

@@ -1,6 +1,6 @@
 -- What is read of lines without a fault does not hang on their numbers.
 use Rattle.std.proofs.Common.{◌≡◌, refl, sym, ap, ◌∙◌, subst, ℕ, ◌+◌, Bool, true, false, ◌==◌, if◌then◌else◌, List, [], ◌∷◌, length, map, Option, Some, None, Result, Ok, Err, is_some}
-use Rattle.gp_text.specs.Results.{and_then}
+use Rattle.gp_base.specs.Results.{and_then}
 use Rattle.gp_text.specs.Spelling.{numbered}
 use Rattle.gp_text.specs.declared.line.Line.{Line}
 use Rattle.gp_trace.specs.declared.event.Event.{Event}

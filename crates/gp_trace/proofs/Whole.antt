@@ -3,7 +3,7 @@ use Rattle.std.proofs.Common.{◌≡◌, refl, subst, ℕ, ◌-◌, ◌<◌, ◌
 use Rattle.gp_text.specs.declared.line.Line.{Line}
 use Rattle.gp_text.specs.declared.lines.TextFault.{TextFault}
 use Rattle.gp_text.specs.Lines.{check_of_text, end_line_of, kept_lines_of}
-use Rattle.gp_text.specs.Results.{and_then}
+use Rattle.gp_base.specs.Results.{and_then}
 use Rattle.gp_trace.specs.declared.fault.TraceFault.{TraceFault}
 use Rattle.gp_trace.specs.declared.walk.Walk.{Walk}
 use Rattle.gp_trace.specs.Trace.{LocalTraceForm}

@@ -9,7 +9,7 @@ use Rattle.gp_trace.specs.declared.lock_use.LockMode.{LockMode}
 use Rattle.gp_trace.specs.declared.lock_use.LockMode.TheVariants.{Exclusive, Shared}
 use Rattle.gp_trace.specs.declared.lock_use.LockUse.{LockUse}
 use Rattle.gp_trace.specs.declared.lock_use.LockUse.TheVariants.{Take, GiveBack}
-use Rattle.gp_text.specs.Table.{value_at, with_entry, without_entry}
+use Rattle.gp_base.specs.Table.{value_at, with_entry, without_entry}
 
 -- how an event uses a lock, where it uses one
 abbrev pub lock_use_of : Event → Option LockUse

@@ -3,7 +3,7 @@ use Rattle.std.specs.Prelude.{◌≡◌, ℕ, ◌+◌, ◌-◌, ◌^◌, ◌<◌
 use Rattle.gp_text.specs.declared.line.Line.{Line}
 use Rattle.gp_text.specs.declared.lines.TextFault.{TextFault}
 use Rattle.gp_text.specs.Lines.{end_line_of, lines_of}
-use Rattle.gp_text.specs.Results.{and_then}
+use Rattle.gp_base.specs.Results.{and_then}
 use Rattle.gp_trace.specs.declared.event.Event.{Event}
 use Rattle.gp_trace.specs.declared.fault.TraceFault.{TraceFault}
 use Rattle.gp_trace.specs.declared.fault.TraceFault.TheVariants.{Text, AfterExit, BadWord, MarkCount}

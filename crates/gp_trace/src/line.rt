@@ -3,7 +3,8 @@ ghost use Rattle.gp_trace.specs.Event.{alone, at_most_four, did, entry_of, event
 
 use crate::event::Event;
 use crate::operation::Operation;
-use gp_text::{Name, Row, Words, read_i64, read_u32};
+use gp_base::Row;
+use gp_text::{Name, Words, read_i64, read_u32};
 use std::alloc::{AllocError, Global};
 
 /// The most objects that an operation has.

@@ -1,6 +1,7 @@
 ghost use Rattle.std.specs.Prelude.{◌≡◌, [], IfOk};
 
-use gp_text::{Name, Row};
+use gp_base::Row;
+use gp_text::Name;
 use std::alloc::{AllocError, Global};
 use std::marker::Model;
 

@@ -9,7 +9,8 @@ ghost use Rattle.gp_trace.specs.Walk.{trace_of};
 
 use crate::event::Event;
 use crate::trace::LocalTrace;
-use gp_text::{Name, Row, one_spelling, plain_words, print_i64, print_u64, reads_again};
+use gp_base::Row;
+use gp_text::{Name, one_spelling, plain_words, print_i64, print_u64, reads_again};
 use std::alloc::{AllocError, Global};
 
 /// The canonical text of the trace: one space between words, and a newline after each line.

@@ -5,7 +5,8 @@ ghost use Rattle.gp_trace.specs.Rules.{after, check, in_line, is_held_as, is_inn
 use crate::event::Event;
 use crate::fault::TraceFault;
 use crate::lock_use::{LockMode, LockUse};
-use gp_text::{Name, Row, Table};
+use gp_base::{Row, Table};
+use gp_text::Name;
 use std::alloc::AllocError;
 
 /// The locks that a thread holds, and the regions that it has begun and not ended, innermost last.

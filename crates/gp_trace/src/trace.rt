@@ -5,7 +5,8 @@ ghost use Rattle.gp_trace.specs.Walk.{after_lines, at_end, at_start, TracesFit, 
 use crate::event::Event;
 use crate::fault::TraceFault;
 use crate::walk::{Walk, shrunk, walk_lines};
-use gp_text::{Lines, Row, check_text, end_line};
+use gp_base::Row;
+use gp_text::{Lines, check_text, end_line};
 use std::alloc::Global;
 use std::marker::Model;
 

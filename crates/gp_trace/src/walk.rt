@@ -6,7 +6,8 @@ use crate::event::Event;
 use crate::fault::TraceFault;
 use crate::line::{Entry, entry_of};
 use crate::rules::{Standing, after, check};
-use gp_text::{Lines, Row, Table, TextLine};
+use gp_base::{Row, Table};
+use gp_text::{Lines, TextLine};
 use std::alloc::Global;
 
 /// What was read of a trace: where the thread stands, the segments that have ended, the segment that

@@ -14,7 +14,7 @@ use Rattle.gp_window.specs.declared.manifest.StartValue.{StartValue}
 use Rattle.gp_window.specs.Holders.{Holdings, held_after_window}
 use Rattle.gp_window.specs.ManifestForm.{IsInside, IsManifest, ManifestForm, place_cmp, place_of}
 use Rattle.gp_window.specs.RecordingForm.{IsRecording, RecordingForm}
-use Rattle.gp_text.specs.Table.{with_entry}
+use Rattle.gp_base.specs.Table.{with_entry}
 use Rattle.gp_window.specs.Walk.{IsCarried, after_given, later_values, past_given}
 use Rattle.gp_window.specs.WindowForm.{given_all, started_in, values_at}
 

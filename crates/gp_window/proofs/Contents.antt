@@ -2,12 +2,12 @@
 use Rattle.std.proofs.Common.{◌≡◌, refl, ℕ, ◌+◌, ◌-◌, ◌<◌, List, [], ◌∷◌, ◌++◌, ap, ◌∙◌, sym, add-one, arith}
 use Rattle.std.specs.Prelude.{Option, Some, None, Result, Ok, Err}
 use Rattle.gp_outside.specs.Folders.{File}
-use Rattle.gp_text.specs.Results.{then_rest, with_prefix}
+use Rattle.gp_base.specs.Results.{then_rest, with_prefix}
 use Rattle.gp_window.specs.declared.content.ContentFault.{ContentFault}
 use Rattle.gp_window.specs.declared.file_name.FileName.TheVariants as file
 use Rattle.gp_window.specs.Contents.{content_of, contents_from}
 use Rattle.gp_window.specs.Gives.{StopsAs}
-use Rattle.gp_text.specs.ResultLaws.{prefix_then}
+use Rattle.gp_base.specs.ResultLaws.{prefix_then}
 
 -- where a thread is left, its text comes before those of the threads after it
 unfolds : (files : List File) (folder : List ℕ) (thread more rest : ℕ) → more ≡ rest + 1

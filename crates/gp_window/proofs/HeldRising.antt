@@ -7,8 +7,8 @@ use Rattle.std.specs.List.{AllByRecursion, list_any}
 use Rattle.std.specs.List.Sorted.{IsStrictlySortedBy}
 use Rattle.std.specs.Map.{keys_of, lookup}
 use Rattle.std.specs.Ordering.{is_eq}
-use Rattle.gp_text.specs.Table.{value_at, with_entry, without_entry}
-use Rattle.gp_text.specs.TableLaws.{value_after_put}
+use Rattle.gp_base.specs.Table.{value_at, with_entry, without_entry}
+use Rattle.gp_base.specs.TableLaws.{value_after_put}
 use Rattle.gp_trace.specs.declared.event.Event.{Event}
 use Rattle.gp_trace.specs.declared.lock_use.LockMode.{LockMode}
 use Rattle.gp_trace.specs.declared.lock_use.LockMode.TheVariants.{Exclusive, Shared}

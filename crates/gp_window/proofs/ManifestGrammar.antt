@@ -7,7 +7,7 @@ use Rattle.std.proofs.lemmas.List.Elements.{All-from_recursion, All-nil, recursi
 use Rattle.std.proofs.lemmas.List.Sorted.{All-permutation, IsPermutation-map, IsPermutation-sym, IsPermutation-trans}
 use Rattle.gp_text.specs.declared.line.Line.{Line}
 use Rattle.gp_text.specs.Numbers.{OneSpelling, between, number_after}
-use Rattle.gp_text.specs.Results.{and_then, or_refusal}
+use Rattle.gp_base.specs.Results.{and_then, or_refusal}
 use Rattle.gp_window.specs.declared.manifest.ManifestFault.{ManifestFault}
 use Rattle.gp_window.specs.declared.manifest.ManifestFault.TheVariants as bad
 use Rattle.gp_window.specs.declared.manifest.StartValue.{StartValue}

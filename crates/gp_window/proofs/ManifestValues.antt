@@ -15,9 +15,9 @@ use Rattle.std.proofs.lemmas.List.Sorted.{Contains-permutation, IsPermutation-ap
 use Rattle.std.proofs.lemmas.Map.Keys.{IsDistinct-from_sorted, IsDistinct-IsPermutation}
 use Rattle.gp_text.specs.declared.line.Line.{Line}
 use Rattle.gp_text.specs.Numbers.{OneSpelling}
-use Rattle.gp_text.specs.Results.{and_then, or_refusal}
-use Rattle.gp_text.specs.Table.{value_at, with_entries, with_entry}
-use Rattle.gp_text.specs.TableLaws.{value_after_put}
+use Rattle.gp_base.specs.Results.{and_then, or_refusal}
+use Rattle.gp_base.specs.Table.{value_at, with_entries, with_entry}
+use Rattle.gp_base.specs.TableLaws.{value_after_put}
 use Rattle.gp_window.specs.declared.manifest.ManifestFault.TheVariants as bad
 use Rattle.gp_window.specs.declared.manifest.StartValue.{StartValue}
 use Rattle.gp_window.specs.Grammar.{IsStartValue, value_words}

@@ -10,7 +10,7 @@ use Rattle.gp_window.specs.declared.fault.RecordingFault.{RecordingFault}
 use Rattle.gp_window.specs.declared.fault.RecordingFault.TheVariants as fault
 use Rattle.gp_window.specs.Parsed.{AreTraces, IsRead, gathered}
 use Rattle.gp_window.specs.Recording.{trace_or_fault, traces_from}
-use Rattle.gp_text.specs.Results.{then_rest}
+use Rattle.gp_base.specs.Results.{then_rest}
 
 -- a trace that was read, and the rest
 ok_step : (trace : LocalTraceForm) (rest due : Result (List LocalTraceForm) RecordingFault) → (rest ≢ Err fault.Memory → rest ≡ due)

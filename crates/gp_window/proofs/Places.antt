@@ -13,8 +13,8 @@ use Rattle.gp_window.specs.declared.manifest.ManifestFault.TheVariants as bad
 use Rattle.gp_window.specs.Manifest.{Values, start_value, value_of, value_with, values_after, values_from, with_value}
 use Rattle.gp_window.specs.ManifestForm.{IsInside, place_cmp, place_of}
 use Rattle.gp_text.specs.Numbers.{between}
-use Rattle.gp_text.specs.Results.{and_then, or_refusal}
-use Rattle.gp_text.specs.Table.{value_at, with_entry}
+use Rattle.gp_base.specs.Results.{and_then, or_refusal}
+use Rattle.gp_base.specs.Table.{value_at, with_entry}
 
 -- the values made of the entries have the entries' keys as their places
 pub places_kept : (entries : Values) → map place_of (map start_value entries) ≡ map (λ entry. entry.0) entries

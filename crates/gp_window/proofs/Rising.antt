@@ -11,7 +11,7 @@ use Rattle.std.specs.List.Sorted.{IsStrictlySortedBy}
 use Rattle.std.specs.Map.{keys_of}
 use Rattle.std.specs.Ordering.{match_ordering, nat_cmp, ordering_reverse}
 use Rattle.std.proofs.lemmas.Cmp.{nat_list_cmp_total}
-use Rattle.gp_text.specs.Table.{with_entry}
+use Rattle.gp_base.specs.Table.{with_entry}
 use Rattle.gp_window.specs.declared.manifest.StartValue.{StartValue}
 use Rattle.gp_window.specs.Formed.{HasRisingNames}
 use Rattle.gp_window.specs.WindowForm.{given_all, is_kept, start_values_of, values_at}

@@ -8,8 +8,8 @@ use Rattle.std.specs.Str.{bytes_eq}
 use Rattle.std.proofs.lemmas.Bool.{and_cases, false≢true, false_from_ne_true}
 use Rattle.std.proofs.lemmas.Bool.Decides.{Decides-eqb, nat_tests}
 use Rattle.std.proofs.lemmas.Slice.Eq.{bytes_eq-Decides}
-use Rattle.gp_text.specs.Table.{value_at, with_entry, without_entry}
-use Rattle.gp_text.specs.TableLaws.{dropped_apart, dropped_here, put_apart, put_here, same_or_apart}
+use Rattle.gp_base.specs.Table.{value_at, with_entry, without_entry}
+use Rattle.gp_base.specs.TableLaws.{dropped_apart, dropped_here, put_apart, put_here, same_or_apart}
 use Rattle.gp_trace.specs.declared.lock_use.LockMode.{LockMode}
 use Rattle.gp_trace.specs.declared.lock_use.LockMode.TheVariants.{Exclusive, Shared}
 use Rattle.gp_window.specs.Contested.{first_contested, is_contested, is_held_beside}

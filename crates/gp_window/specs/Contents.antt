@@ -1,7 +1,7 @@
 -- The bytes of the input files of a folder: a function of the files alone.
 use Rattle.std.specs.Prelude.{ℕ, zero, suc, ◌+◌, List, [], length, Option, Some, None, Result, Ok, Err, if◌then◌else◌, nat_lt}
 use Rattle.gp_outside.specs.Folders.{File, file_named}
-use Rattle.gp_text.specs.Results.{then_rest}
+use Rattle.gp_base.specs.Results.{then_rest}
 use Rattle.gp_window.specs.declared.content.ContentFault.{ContentFault}
 use Rattle.gp_window.specs.declared.content.ContentFault.TheVariants.{Absent, TooLong, ReadFailed, Memory}
 use Rattle.gp_window.specs.declared.file_name.FileName.{FileName}

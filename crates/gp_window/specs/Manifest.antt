@@ -13,8 +13,8 @@ use Rattle.gp_window.specs.declared.manifest.ManifestFault.TheVariants as bad
 use Rattle.gp_text.specs.Numbers.{between, number_after}
 use Rattle.gp_window.specs.Number.{numbers_of, is_rising}
 use Rattle.gp_window.specs.ManifestForm.{ManifestForm, place_cmp}
-use Rattle.gp_text.specs.Results.{and_then, or_refusal}
-use Rattle.gp_text.specs.Table.{value_at, with_entry}
+use Rattle.gp_base.specs.Results.{and_then, or_refusal}
+use Rattle.gp_base.specs.Table.{value_at, with_entry}
 
 -- what a line spells; else it is a bad line, and where there is no line the end is
 abbrev pub field_of : {A : Type 0} → ℕ → (List (List ℕ) → Option A) → Option Line → Result A ManifestFault

@@ -7,7 +7,7 @@ use Rattle.gp_trace.specs.Walk.{trace_of}
 use Rattle.gp_window.specs.declared.fault.RecordingFault.{RecordingFault}
 use Rattle.gp_window.specs.Recording.{trace_or_fault}
 use Rattle.gp_window.specs.RecordingForm.{AreNumbered}
-use Rattle.gp_text.specs.Results.{then_rest}
+use Rattle.gp_base.specs.Results.{then_rest}
 
 -- what reading a thread's trace gave: what the text spells, or want of memory
 abbrev pub IsRead : ℕ → ℕ → ℕ → List ℕ → Result LocalTraceForm TraceFault → Type 0

@@ -17,7 +17,7 @@ use Rattle.gp_window.specs.Marks.{after_marks}
 use Rattle.gp_window.specs.Manifest.{manifest_of_text}
 use Rattle.gp_window.specs.ManifestForm.{ManifestForm}
 use Rattle.gp_window.specs.RecordingForm.{RecordingForm}
-use Rattle.gp_text.specs.Results.{and_then, or_refused, then_rest}
+use Rattle.gp_base.specs.Results.{and_then, or_refused, then_rest}
 use Rattle.gp_window.specs.Starts.{after_traces}
 
 -- the recording of a manifest and traces, or the first check that fails: first the walk over starts

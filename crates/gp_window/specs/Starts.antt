@@ -6,7 +6,7 @@ use Rattle.gp_trace.specs.declared.event.Event.TheVariants.{Start, Join}
 use Rattle.gp_trace.specs.Trace.{LocalTraceForm}
 use Rattle.gp_window.specs.declared.fault.RecordingFault.{RecordingFault}
 use Rattle.gp_window.specs.declared.fault.RecordingFault.TheVariants.{UnknownThread, StartsRoot, TwoStarts}
-use Rattle.gp_text.specs.Results.{and_then}
+use Rattle.gp_base.specs.Results.{and_then}
 
 -- whether a thread is one of these
 abbrev pub is_among : List ℕ → ℕ → Bool

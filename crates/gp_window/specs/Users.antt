@@ -4,7 +4,7 @@ use Rattle.std.specs.List.{count_by}
 use Rattle.std.specs.Cmp.Lexicographic.{slice_cmp}
 use Rattle.std.specs.Ordering.{nat_cmp}
 use Rattle.std.specs.Str.{bytes_eq}
-use Rattle.gp_text.specs.Table.{value_at}
+use Rattle.gp_base.specs.Table.{value_at}
 use Rattle.gp_trace.specs.declared.lock_use.LockMode.{LockMode}
 use Rattle.gp_trace.specs.declared.lock_use.LockMode.TheVariants.{Exclusive, Shared}
 use Rattle.gp_window.specs.Holders.{Holdings, is_exclusive}

@@ -5,7 +5,7 @@ use Rattle.std.specs.Ordering.{nat_cmp}
 use Rattle.gp_window.specs.declared.manifest.StartValue.{StartValue}
 use Rattle.gp_window.specs.Holders.{Holdings, held_over}
 use Rattle.gp_window.specs.RecordingForm.{RecordingForm, IsRecording}
-use Rattle.gp_text.specs.Table.{with_entry}
+use Rattle.gp_base.specs.Table.{with_entry}
 use Rattle.gp_window.specs.WindowForm.{started_before, values_at}
 
 -- where a walk stands: at the window of this number of this recording

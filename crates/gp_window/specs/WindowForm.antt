@@ -9,7 +9,7 @@ use Rattle.gp_window.specs.declared.manifest.StartValue.{StartValue}
 use Rattle.gp_window.specs.Holders.{held_over, holders_among, readers_among, segment_after}
 use Rattle.gp_window.specs.RecordingForm.{RecordingForm, IsRecording}
 use Rattle.gp_window.specs.Starts.{is_among}
-use Rattle.gp_text.specs.Table.{with_entry}
+use Rattle.gp_base.specs.Table.{with_entry}
 
 -- a window: its number, the events of each thread in it, and what holds when it begins
 pub record WindowForm : Type 0 where

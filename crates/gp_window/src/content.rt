@@ -6,8 +6,8 @@ ghost use Rattle.gp_window.specs.FileNames.{limit_of};
 ghost use Rattle.gp_window.specs.Gives.{Gives};
 
 use crate::file_name::FileName;
+use gp_base::Row;
 use gp_outside::{Folder, ReadFault};
-use gp_text::Row;
 use std::alloc::{AllocError, Global};
 
 /// Why the bytes of a file are not told.

@@ -1,12 +1,13 @@
 ghost use Rattle.std.specs.Prelude.{◌≡◌, ◌∷◌, ◌++◌, [], if◌then◌else◌, IfOk, OnOk};
-ghost use Rattle.gp_text.specs.Table.{with_entry, without_entry};
+ghost use Rattle.gp_base.specs.Table.{with_entry, without_entry};
 ghost use Rattle.gp_trace.specs.LockUse.{lock_use_of};
 ghost use Rattle.gp_window.specs.Holders.{held_after, held_after_events, held_after_window, holder_cmp, holders_among, is_exclusive, readers_among, segment_after};
 ghost use Rattle.gp_window.specs.Contested.{first_contested, is_contested};
 
 use crate::contested::{is_contested, is_exclusive};
 use crate::users::{Users, suspect, users_at};
-use gp_text::{Name, Row, Table};
+use gp_base::{Row, Table};
+use gp_text::Name;
 use gp_trace::{Event, LocalTrace, LockMode, LockUse};
 use std::alloc::{AllocError, Global};
 use std::marker::Model;

@@ -1,7 +1,8 @@
 ghost use Rattle.std.specs.Prelude.{◌≡◌, IfOk};
 ghost use Rattle.gp_window.specs.Number.{numbers_of, is_rising};
 
-use gp_text::{Row, Word, read_u32};
+use gp_base::Row;
+use gp_text::{Word, read_u32};
 use std::alloc::{AllocError, Global};
 
 /// The words as numbers, where each of them is one.

@@ -7,7 +7,7 @@ use crate::fault::RecordingFault;
 use crate::manifest::Manifest;
 use crate::marks::check_marks;
 use crate::starts::walk_traces;
-use gp_text::Row;
+use gp_base::Row;
 use gp_trace::LocalTrace;
 use std::alloc::Global;
 use std::marker::Model;

@@ -1,4 +1,4 @@
-use gp_text::Row;
+use gp_base::Row;
 
 /// An event of a window: the number of its thread, and its place in the thread's segment, from 0.
 #[derive(Clone, Copy, Debug, PartialEq, Eq, PartialOrd, Ord)]

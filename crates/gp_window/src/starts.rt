@@ -3,7 +3,7 @@ ghost use Rattle.gp_window.specs.RecordingFaults.{IsDue};
 ghost use Rattle.gp_window.specs.Starts.{after_event, after_events, after_segments, after_start, after_traces, is_among, is_thread};
 
 use crate::fault::RecordingFault;
-use gp_text::Row;
+use gp_base::Row;
 use gp_trace::{Event, LocalTrace};
 
 /// Walks over the starts and joins of the traces, by thread and by event, and adds to `started` the

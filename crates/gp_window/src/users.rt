@@ -1,10 +1,11 @@
 ghost use Rattle.std.specs.Prelude.{◌≡◌, IfOk, OnOk, if◌then◌else◌};
 ghost use Rattle.std.specs.Cmp.Lexicographic.{slice_cmp};
 ghost use Rattle.std.specs.Ordering.{nat_cmp};
-ghost use Rattle.gp_text.specs.Table.{with_entry, without_entry};
+ghost use Rattle.gp_base.specs.Table.{with_entry, without_entry};
 ghost use Rattle.gp_window.specs.Users.{acquires_of, may_contest, one_fewer, one_more, users_at};
 
-use gp_text::{Name, Table};
+use gp_base::Table;
+use gp_text::Name;
 use gp_trace::LockMode;
 use std::alloc::AllocError;
 

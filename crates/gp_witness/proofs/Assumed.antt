@@ -13,7 +13,7 @@ use Rattle.gp_window.specs.WindowForm.{WindowForm}
 use Rattle.gp_constraint.specs.declared.symbol.Symbol.{Symbol}
 use Rattle.gp_constraint.specs.declared.symbol.Symbol.TheVariants.{Executed, Span}
 use Rattle.gp_constraint.specs.declared.symbol.SymbolicLit.{SymbolicLit}
-use Rattle.gp_constraint.specs.HasLaws.{Has, has_dropped, has_taken, rec_append, rec_flat, rec_map}
+use Rattle.gp_base.specs.HasLaws.{Has, has_dropped, has_taken, rec_append, rec_flat, rec_map}
 use Rattle.gp_constraint.specs.PointLaws.{IsEventOf, point_for}
 use Rattle.gp_constraint.specs.Points.{number_in, points_of}
 use Rattle.gp_constraint.specs.Query.{executed_lits, holds, order_lit, ordered, orders_from, pattern_lits, span_lit, spans_in}

@@ -19,7 +19,7 @@ use Rattle.std.proofs.lemmas.Cmp.{int_cmp_total, nat_cmp_total, on_total, then_t
 use Rattle.gp_clause.specs.declared.valuation.Valuation.{Valuation}
 use Rattle.gp_clause.specs.Valuation.{place_of, truth_of}
 use Rattle.gp_constraint.specs.declared.point.Point.{Point}
-use Rattle.gp_constraint.specs.HasLaws.{Has, Pairwise, contains_has, flat_pairs, has_contains, has_flat, has_map, rec_all, rec_flat, rec_from}
+use Rattle.gp_base.specs.HasLaws.{Has, Pairwise, contains_has, flat_pairs, has_contains, has_flat, has_map, rec_all, rec_flat, rec_from}
 use Rattle.gp_constraint.specs.PointLaws.{HasLesserNumber, event_id, point_for, points_named, points_rise}
 use Rattle.gp_constraint.specs.Points.{number_in, points_of}
 use Rattle.gp_window.specs.declared.schedule.EventId.{EventId}

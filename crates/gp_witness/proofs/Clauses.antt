@@ -14,7 +14,7 @@ use Rattle.gp_constraint.specs.declared.symbol.Symbol.TheVariants.{Executed, Ord
 use Rattle.gp_constraint.specs.declared.symbol.SymbolicLit.{SymbolicLit}
 use Rattle.gp_constraint.specs.declared.term.Term.{Term}
 use Rattle.gp_constraint.specs.declared.term.Term.TheVariants.{Always, Never, Literal}
-use Rattle.gp_constraint.specs.HasLaws.{find_has, Has}
+use Rattle.gp_base.specs.HasLaws.{find_has, Has}
 use Rattle.gp_constraint.specs.PointLaws.{event_id, IsEventOf, points_named}
 use Rattle.gp_constraint.specs.Points.{number_in, points_of}
 use Rattle.gp_constraint.specs.SymbolTruth.{HoldAll, HoldsSymbolic, IsTrueLit, KeepsEdges, SymbolTruth}

@@ -5,7 +5,7 @@ use Rattle.std.proofs.lemmas.Bool.{cases_Bool}
 use Rattle.gp_window.specs.declared.schedule.EventId.{EventId}
 use Rattle.gp_property.specs.PropertyForm.{PropertyForm}
 use Rattle.gp_instance.specs.Matches.{groups_of, is_among, matches_events}
-use Rattle.gp_constraint.specs.HasLaws.{Has, has_left, rec_parts}
+use Rattle.gp_base.specs.HasLaws.{Has, has_left, rec_parts}
 use Rattle.gp_witness.specs.Meaning.{Truth}
 use Rattle.gp_witness.specs.Witness.{up_to_last}
 use Rattle.gp_witness.proofs.Group.{IsGroup}

@@ -6,7 +6,7 @@ use Rattle.std.specs.Ordering.{int_eq, nat_cmp}
 use Rattle.std.proofs.lemmas.Bool.{and_from, cases_Bool, cases_eq, cases_order, eq-eqb, false≢true}
 use Rattle.std.proofs.lemmas.Bool.Decides.{Decides-int_eq}
 use Rattle.std.proofs.lemmas.Int.{ints}
-use Rattle.gp_text.specs.Table.{value_at}
+use Rattle.gp_base.specs.Table.{value_at}
 use Rattle.gp_trace.specs.declared.event.Event.{Event}
 use Rattle.gp_trace.specs.declared.event.Event.TheVariants.{Read, Write, Acquire, Release, RAcquire, RRelease, Start, Join, Op, Begin, End}
 use Rattle.gp_trace.specs.declared.lock_use.LockMode.{LockMode}
@@ -26,7 +26,7 @@ use Rattle.gp_replay.specs.Readers.{has_reader, is_reader}
 use Rattle.gp_replay.specs.Sharing.{ReadersAcquired}
 use Rattle.gp_replay.specs.Step.{after, allowed_in, count_of, has_ended, holder_of, start_state, value_of}
 use Rattle.gp_replay.specs.Value.{Reads, ValuesAreLastWrites, Writes}
-use Rattle.gp_constraint.specs.HasLaws.{Has, rec_at}
+use Rattle.gp_base.specs.HasLaws.{Has, rec_at}
 use Rattle.gp_constraint.specs.PointLaws.{event_id, IsEventOf}
 use Rattle.gp_constraint.specs.Reads.{start_value}
 use Rattle.gp_constraint.specs.Sections.{exclude}

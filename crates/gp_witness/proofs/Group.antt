@@ -7,7 +7,7 @@ use Rattle.std.proofs.lemmas.Bool.{cases_Bool, ne_eqb}
 use Rattle.std.proofs.lemmas.Int.{ints}
 use Rattle.std.proofs.lemmas.Map.Steps.{length-le_from_distinct_below}
 use Rattle.gp_window.specs.declared.schedule.EventId.{EventId}
-use Rattle.gp_constraint.specs.HasLaws.{AreDifferent, Has, rec_at, rec_from}
+use Rattle.gp_base.specs.HasLaws.{AreDifferent, Has, rec_at, rec_from}
 use Rattle.gp_witness.specs.Meaning.{Truth}
 use Rattle.gp_witness.proofs.Sorted.{Before, Does}
 

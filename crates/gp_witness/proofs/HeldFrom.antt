@@ -7,14 +7,14 @@ use Rattle.std.specs.Ordering.{is_eq, match_ordering}
 use Rattle.std.specs.declared.cmp.Ordering.{Ordering}
 use Rattle.std.specs.declared.cmp.Ordering.TheVariants.{Less, Equal, Greater}
 use Rattle.std.proofs.lemmas.Bool.{cases_Bool, false_from_ne_true}
-use Rattle.gp_text.specs.Table.{with_entries, with_entry}
+use Rattle.gp_base.specs.Table.{with_entries, with_entry}
 use Rattle.gp_trace.specs.declared.lock_use.LockMode.{LockMode}
 use Rattle.gp_trace.specs.declared.lock_use.LockMode.TheVariants.{Exclusive, Shared}
 use Rattle.gp_window.specs.Formed.{IsFormed, mode_at_start, stands_at}
 use Rattle.gp_window.specs.Holders.{Holding, Holdings, holder_cmp}
 use Rattle.gp_window.specs.HoldersLaws.{found_itself, found_pair, stands_to}
 use Rattle.gp_window.specs.WindowForm.{WindowForm}
-use Rattle.gp_constraint.specs.HasLaws.{Has, rec_append, rec_at, rec_map}
+use Rattle.gp_base.specs.HasLaws.{Has, rec_append, rec_at, rec_map}
 use Rattle.gp_constraint.specs.HeldLocks.{held_as, holds_at_start}
 
 -- the window tells the hold

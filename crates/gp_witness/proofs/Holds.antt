@@ -13,8 +13,8 @@ use Rattle.std.proofs.lemmas.Bool.{cases_Bool, cases_eq}
 use Rattle.std.proofs.lemmas.Cmp.{nat_cmp_total, nat_list_cmp_total, on_total, ranked, then_total, tied_itself}
 use Rattle.std.proofs.lemmas.Slice.Eq.{bytes_eq-Decides}
 use Rattle.std.proofs.lemmas.Map.Lookups.{exact_bytes, exact_pairs}
-use Rattle.gp_text.specs.Table.{with_entries, with_entry}
-use Rattle.gp_text.specs.TableLaws.{dropped_apart, put_apart, put_here, same_or_apart}
+use Rattle.gp_base.specs.Table.{with_entries, with_entry}
+use Rattle.gp_base.specs.TableLaws.{dropped_apart, put_apart, put_here, same_or_apart}
 use Rattle.gp_trace.specs.declared.event.Event.{Event}
 use Rattle.gp_trace.specs.declared.lock_use.LockMode.{LockMode}
 use Rattle.gp_trace.specs.declared.lock_use.LockMode.TheVariants.{Exclusive, Shared}
@@ -27,7 +27,7 @@ use Rattle.gp_window.specs.WindowForm.{WindowForm}
 use Rattle.gp_replay.specs.LockUses.{use_of}
 use Rattle.gp_replay.specs.Readers.{has_reader, is_reader}
 use Rattle.gp_replay.specs.Step.{holder_of, start_state}
-use Rattle.gp_constraint.specs.HasLaws.{Has, has_contains, has_left, has_map, has_right, map_back, parts_back}
+use Rattle.gp_base.specs.HasLaws.{Has, has_contains, has_left, has_map, has_right, map_back, parts_back}
 use Rattle.gp_constraint.specs.HeldLocks.{held_as, holds_at_start}
 
 -- a lock that is held is given back in that way, or still held so

@@ -9,7 +9,7 @@ use Rattle.gp_constraint.specs.declared.symbol.SymbolicLit.{SymbolicLit}
 use Rattle.gp_constraint.specs.declared.term.Term.{Term}
 use Rattle.gp_constraint.specs.declared.term.Term.TheVariants.{Always, Never, Literal}
 use Rattle.gp_trace.specs.declared.event.Event.{Event}
-use Rattle.gp_constraint.specs.HasLaws.{Has}
+use Rattle.gp_base.specs.HasLaws.{Has}
 use Rattle.gp_constraint.specs.Points.{points_from, points_in}
 use Rattle.gp_constraint.specs.Terms.{is_always, lit_of, simplified}
 use Rattle.gp_constraint.specs.Truths.{AreTrue, lit_true}

@@ -11,7 +11,7 @@ use Rattle.gp_window.specs.WindowForm.{WindowForm}
 use Rattle.gp_constraint.specs.declared.point.Point.{Point}
 use Rattle.gp_constraint.specs.declared.symbol.Symbol.{Symbol}
 use Rattle.gp_constraint.specs.declared.term.Term.{Term}
-use Rattle.gp_constraint.specs.HasLaws.{find_has, Has}
+use Rattle.gp_base.specs.HasLaws.{find_has, Has}
 use Rattle.gp_constraint.specs.PointLaws.{IsEventOf, next_number, point_for, point_there, points_named}
 use Rattle.gp_constraint.specs.Points.{number_at, number_in, points_of, sizes_of}
 use Rattle.gp_constraint.specs.Terms.{before, constant, executed, first, needs, preceded, simplified}

@@ -9,8 +9,8 @@ use Rattle.std.proofs.lemmas.Map.Keys.{IsDistinct-from_sorted}
 use Rattle.std.specs.Cmp.Lexicographic.{slice_cmp}
 use Rattle.std.specs.Map.{keys_of}
 use Rattle.std.specs.Ordering.{nat_cmp}
-use Rattle.gp_text.specs.Table.{value_at}
-use Rattle.gp_text.specs.TableLaws.{dropped_apart, dropped_here, put_apart, put_here, same_or_apart}
+use Rattle.gp_base.specs.Table.{value_at}
+use Rattle.gp_base.specs.TableLaws.{dropped_apart, dropped_here, put_apart, put_here, same_or_apart}
 use Rattle.gp_trace.specs.declared.event.Event.{Event}
 use Rattle.gp_trace.specs.declared.lock_use.LockMode.{LockMode}
 use Rattle.gp_trace.specs.declared.lock_use.LockMode.TheVariants.{Exclusive, Shared}

@@ -8,7 +8,7 @@ use Rattle.gp_property.specs.declared.property.PatternStep.{PatternStep}
 use Rattle.gp_property.specs.PropertyForm.{PropertyForm}
 use Rattle.gp_instance.specs.Instance.{is_same}
 use Rattle.gp_instance.specs.Matches.{all_before, begins_with_group, follow, groups_of, is_among, is_before, is_before_all, matches_events, place_of, stands_together}
-use Rattle.gp_constraint.specs.HasLaws.{Has, has_dropped, has_taken, rec_at}
+use Rattle.gp_base.specs.HasLaws.{Has, has_dropped, has_taken, rec_at}
 use Rattle.gp_witness.specs.Meaning.{Truth}
 use Rattle.gp_witness.proofs.Group.{IsGroup}
 use Rattle.gp_witness.proofs.Sorted.{Before, Does, IsScheduleOf, IsSorted, MayPrecede, not_itself}

@@ -13,7 +13,7 @@ use Rattle.gp_constraint.specs.declared.action.Action.{Action}
 use Rattle.gp_constraint.specs.declared.action.Action.TheVariants.{Join}
 use Rattle.gp_constraint.specs.declared.point.Point.{Point}
 use Rattle.gp_constraint.specs.declared.symbol.Symbol.TheVariants.{Executed}
-use Rattle.gp_constraint.specs.HasLaws.{Has}
+use Rattle.gp_base.specs.HasLaws.{Has}
 use Rattle.gp_constraint.specs.Joins.{ended, is_last_of, join_of, joined, joined_by}
 use Rattle.gp_constraint.specs.Points.{points_of}
 use Rattle.gp_constraint.specs.ProgramOrder.{linked}

@@ -14,7 +14,7 @@ use Rattle.gp_window.specs.WindowForm.{WindowForm}
 use Rattle.gp_constraint.specs.declared.symbol.Symbol.{Symbol}
 use Rattle.gp_constraint.specs.declared.symbol.Symbol.TheVariants.{Order, Span}
 use Rattle.gp_constraint.specs.declared.symbol.SymbolicLit.{SymbolicLit}
-use Rattle.gp_constraint.specs.HasLaws.{AreDifferent, contains_has, different_dropped, different_taken, Has, has_contains, has_dropped, has_flat, has_left, has_right, has_taken, has_unless}
+use Rattle.gp_base.specs.HasLaws.{AreDifferent, contains_has, different_dropped, different_taken, Has, has_contains, has_dropped, has_flat, has_left, has_right, has_taken, has_unless}
 use Rattle.gp_constraint.specs.InstanceLaws.{InstanceMeans, RiseAlong}
 use Rattle.gp_constraint.specs.Laws.{QueryMeans}
 use Rattle.gp_constraint.specs.PointLaws.{IsEventOf, point_for}

@@ -14,7 +14,7 @@ use Rattle.gp_replay.specs.LockUses.{GivesBack}
 use Rattle.gp_constraint.specs.declared.action.Action.{Action}
 use Rattle.gp_constraint.specs.declared.action.Action.TheVariants.{Lock}
 use Rattle.gp_constraint.specs.declared.point.Point.{Point}
-use Rattle.gp_constraint.specs.HasLaws.{find_has, Has}
+use Rattle.gp_base.specs.HasLaws.{find_has, Has}
 use Rattle.gp_constraint.specs.HeldLocks.{held_apart}
 use Rattle.gp_constraint.specs.PointLaws.{point_for}
 use Rattle.gp_constraint.specs.Points.{number_at, points_of, sizes_of}

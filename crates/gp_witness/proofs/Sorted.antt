@@ -5,7 +5,7 @@ use Rattle.std.proofs.lemmas.Bool.{cases_Bool, cases_eq, eq-eqb}
 use Rattle.std.proofs.lemmas.Int.{ints}
 use Rattle.gp_window.specs.declared.schedule.EventId.{EventId}
 use Rattle.gp_replay.specs.Part.{events_from, part_of}
-use Rattle.gp_constraint.specs.HasLaws.{Has, has_left, Pairwise, rec_at, rec_parts}
+use Rattle.gp_base.specs.HasLaws.{Has, has_left, Pairwise, rec_at, rec_parts}
 use Rattle.gp_constraint.specs.PointLaws.{event_id}
 use Rattle.gp_witness.specs.Meaning.{Truth}
 

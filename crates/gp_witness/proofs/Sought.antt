@@ -18,7 +18,7 @@ use Rattle.gp_constraint.specs.declared.point.Point.{Point}
 use Rattle.gp_constraint.specs.declared.symbol.Symbol.{Symbol}
 use Rattle.gp_constraint.specs.declared.symbol.SymbolicLit.{SymbolicLit}
 use Rattle.gp_constraint.specs.Base.{clauses_of}
-use Rattle.gp_constraint.specs.HasLaws.{Has}
+use Rattle.gp_base.specs.HasLaws.{Has}
 use Rattle.gp_constraint.specs.HeldLocks.{held_apart, holds_at_start}
 use Rattle.gp_constraint.specs.Joins.{join_of}
 use Rattle.gp_constraint.specs.PointLaws.{point_for}

@@ -13,7 +13,7 @@ use Rattle.gp_replay.specs.Step.{after, allowed_in, count_of, counted, effect, n
 use Rattle.gp_replay.specs.StepLaws.{stepped}
 use Rattle.gp_replay.specs.Feasible.{IsFeasible, Runs}
 use Rattle.gp_replay.specs.Order.{Starts}
-use Rattle.gp_constraint.specs.HasLaws.{Has}
+use Rattle.gp_base.specs.HasLaws.{Has}
 
 -- an event in its turn, which is allowed, happens
 pub happens : (window : WindowForm) (state : State) (id : EventId) (event : Event)

@@ -7,7 +7,7 @@ use Rattle.std.proofs.lemmas.List.{append-nil, length-take-le}
 use Rattle.gp_window.specs.declared.schedule.EventId.{EventId}
 use Rattle.gp_instance.specs.Instance.{is_same}
 use Rattle.gp_instance.specs.Matches.{begins_with_group, is_among, stands_together}
-use Rattle.gp_constraint.specs.HasLaws.{AreDifferent, Has, has_left, has_right, rec_at}
+use Rattle.gp_base.specs.HasLaws.{AreDifferent, Has, has_left, has_right, rec_at}
 use Rattle.gp_constraint.specs.PointLaws.{event_id}
 use Rattle.gp_witness.specs.Meaning.{Truth}
 use Rattle.gp_witness.proofs.Group.{group_holds, IsGroup}

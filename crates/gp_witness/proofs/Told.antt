@@ -25,7 +25,7 @@ use Rattle.gp_constraint.specs.declared.symbol.SymbolicLit.{SymbolicLit}
 use Rattle.gp_constraint.specs.declared.term.Term.{Term}
 use Rattle.gp_constraint.specs.Action.{action_of}
 use Rattle.gp_constraint.specs.Base.{clauses_of}
-use Rattle.gp_constraint.specs.HasLaws.{find_first, Has}
+use Rattle.gp_base.specs.HasLaws.{find_first, Has}
 use Rattle.gp_constraint.specs.HeldLocks.{held_apart, held_locks, holds_at_start}
 use Rattle.gp_constraint.specs.Joins.{ended, is_last_of, join_of, joined, joins}
 use Rattle.gp_constraint.specs.PointLaws.{event_id, HasLesserNumber, IsEventOf, points_named, points_rise}

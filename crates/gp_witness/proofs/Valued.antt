@@ -14,7 +14,7 @@ use Rattle.gp_replay.specs.Feasible.{IsFeasible}
 use Rattle.gp_constraint.specs.declared.point.Point.{Point}
 use Rattle.gp_constraint.specs.declared.symbol.Symbol.{Symbol}
 use Rattle.gp_constraint.specs.declared.symbol.Symbol.TheVariants.{Executed, Order, Choice, StartChoice, First, Span}
-use Rattle.gp_constraint.specs.HasLaws.{Has, rec_all, rec_flat}
+use Rattle.gp_base.specs.HasLaws.{Has, rec_all, rec_flat}
 use Rattle.gp_constraint.specs.PointLaws.{IsEventOf}
 use Rattle.gp_constraint.specs.Points.{number_in, points_of}
 use Rattle.gp_constraint.specs.ProgramOrder.{edge_to}

@@ -24,7 +24,7 @@ use Rattle.gp_replay.specs.Value.{ValuesAreLastWrites}
 use Rattle.gp_constraint.specs.declared.symbol.Symbol.{Symbol}
 use Rattle.gp_constraint.specs.declared.symbol.Symbol.TheVariants.{Executed}
 use Rattle.gp_constraint.specs.Base.{base_of, names_in}
-use Rattle.gp_constraint.specs.HasLaws.{contains_has, has_contains, Pairwise, pairs_from}
+use Rattle.gp_base.specs.HasLaws.{contains_has, has_contains, Pairwise, pairs_from}
 use Rattle.gp_constraint.specs.InstanceLaws.{instance_means}
 use Rattle.gp_constraint.specs.Laws.{AnswersMean, BaseMeans}
 use Rattle.gp_constraint.specs.PointLaws.{event_below, IsEventOf}

@@ -2,7 +2,7 @@ ghost use Rattle.std.specs.Prelude.{◌≡◌};
 ghost use Rattle.gp_instance.specs.Matches.{is_among};
 ghost use Rattle.gp_witness.specs.Witness.{up_to_last};
 
-use gp_text::Row;
+use gp_base::Row;
 use gp_window::EventId;
 
 /// A schedule up to the last of these events; nothing where it has none of them. Takes no memory.

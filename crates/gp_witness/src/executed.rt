@@ -4,8 +4,8 @@ ghost use Rattle.gp_constraint.specs.Points.{points_in, points_of};
 ghost use Rattle.gp_witness.specs.Placed.{placed_at, placed_of};
 ghost use Rattle.gp_witness.specs.Witness.{IsByPlace};
 
+use gp_base::Row;
 use gp_clause::Valuation;
-use gp_text::Row;
 use gp_trace::Event;
 use gp_window::{EventId, Schedule, Window, windows_are_formed};
 use std::alloc::{AllocError, Global};

@@ -10,7 +10,7 @@ ghost use Rattle.gp_workers.specs.Work.{IsWork};
 use crate::crew::{Answered, Gathered, Worked};
 use crate::drawers::Tickets;
 use crate::work::{WindowWork, WorkAnswer};
-use gp_clause::Row;
+use gp_base::Row;
 use gp_inbox::Pass;
 use std::alloc::{AllocError, Global};
 

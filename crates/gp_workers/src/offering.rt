@@ -4,7 +4,8 @@ ghost use Rattle.gp_workers.specs.Desk.{IsDesk, IsLastOffer, PushesBelow, taken_
 ghost use Rattle.gp_workers.specs.Offering.{IsCopyOf, IsOutgoing, KeepsRest, Notes, OffersOne, SameWorker};
 
 use crate::desk::{Desk, Outgoing};
-use gp_clause::{Clause, Row};
+use gp_base::Row;
+use gp_clause::Clause;
 use gp_derivation::{Offered, Sent, SharedClause};
 use std::alloc::{AllocError, Global};
 use std::sync::{Arc, Wait};

@@ -9,7 +9,7 @@ use crate::crew::{Shared, SharingJob, Worked, Workload};
 use crate::desk::{Desk, Outgoing};
 use crate::mail::{Post, WorkerMail};
 use crate::working::work;
-use gp_clause::Row;
+use gp_base::Row;
 use gp_derivation::{Offered, WorkerRecord};
 use gp_inbox::Inbox;
 use gp_outside::Gate;

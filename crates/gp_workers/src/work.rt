@@ -1,4 +1,5 @@
-use gp_clause::{Row, Valuation};
+use gp_base::Row;
+use gp_clause::Valuation;
 use gp_derivation::{Certificate, WorkerRecord};
 use gp_inbox::Pass;
 

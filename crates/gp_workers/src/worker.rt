@@ -4,7 +4,8 @@ ghost use Rattle.gp_search.specs.Verdict.{IsSolvable, HasRoom};
 ghost use Rattle.gp_workers.specs.Inside.{answer_by, record_of, IsAnswerBy, IsFresh, TakesTurn};
 
 use crate::work::WorkAnswer;
-use gp_clause::{Problem, Query, Row};
+use gp_base::Row;
+use gp_clause::{Problem, Query};
 use gp_derivation::{Turn, WorkerRecord};
 use gp_search::{Mail, Search, Verdict};
 use std::alloc::{AllocError, Global};

@@ -11,7 +11,7 @@ use crate::bounded::BoundedMail;
 use crate::crew::{Answered, Job, Worked, Workload};
 use crate::drawers::Drawer;
 use crate::worker::Worker;
-use gp_clause::Row;
+use gp_base::Row;
 use gp_derivation::{WorkerRecord, certificate_follows, fit_stays, spent_stays};
 use gp_outside::Gate;
 use gp_search::Mail;

@@ -7,8 +7,9 @@ use crate::reading::lists::{push_words, read_list};
 use crate::reading::numbers::{told_number, told_three_numbers};
 use crate::reading::steps::read_steps;
 use crate::record::{Answer, Entry, MOST_EVENTS, MOST_WORKERS};
+use gp_base::Row;
 use gp_derivation::Certificate;
-use gp_text::{Row, Words, read_u32};
+use gp_text::{Words, read_u32};
 use gp_window::{EventId, Schedule};
 use std::alloc::Global;
 
@@ -131,9 +132,7 @@ fn read_impossible(
 {
     let count = told_number(b"impossible", line)?;
     let steps = read_steps(alloc, end, count, lines)?;
-    Ok(Answer::Impossible(Certificate {
-        steps: gp_clause::Row::from_vec(steps.into_vec()),
-    }))
+    Ok(Answer::Impossible(Certificate { steps }))
 }
 
 #[tactic(auto, unfolding(crate::specs::Reading::read_undecided))]

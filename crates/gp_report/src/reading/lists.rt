@@ -1,13 +1,14 @@
 ghost use Rattle.std.specs.Prelude.{◌≡◌, ◌≢◌, ◌^◌, ℕ, [], ◌∷◌, List, Option, IfErr, OnOk};
 ghost use Rattle.gp_text.specs.Numbers.{if_below};
-ghost use Rattle.gp_text.specs.Results.{with_prefix};
+ghost use Rattle.gp_base.specs.Results.{with_prefix};
 ghost use Rattle.gp_report.specs.Reading.{Gives, lit_of, lit_with, read_list, read_list_line, read_words};
 
 use crate::checks::VARIABLES;
 use crate::fault::{ReportFault, ReportRule};
 use crate::reading::cursor::{ReportLine, ReportLines};
+use gp_base::Row;
 use gp_clause::Lit;
-use gp_text::{Row, Words, read_u32};
+use gp_text::{Words, read_u32};
 use gp_window::{EventId, event_id_of};
 use std::alloc::Global;
 

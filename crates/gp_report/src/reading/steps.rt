@@ -5,9 +5,9 @@ use crate::fault::{ReportFault, ReportRule};
 use crate::reading::cursor::ReportLines;
 use crate::reading::lists::read_list;
 use crate::reading::numbers::told_two_numbers;
+use gp_base::Row;
 use gp_clause::{Clause, Lit};
 use gp_derivation::Step;
-use gp_text::Row;
 use std::alloc::Global;
 
 // Reads so many steps.
@@ -36,10 +36,7 @@ fn read_step(alloc: Global, end: u32, lines: &mut ReportLines) -> Result<Step, R
     let (lits, hints) = told_two_numbers(b"step", line)?;
     let clause = read_clause(alloc, end, number, lits, lines)?;
     let (hints, _) = read_list::<u32>(alloc, end, number, hints, lines)?;
-    Ok(Step {
-        clause,
-        hints: gp_clause::Row::from_vec(hints.into_vec()),
-    })
+    Ok(Step { clause, hints })
 }
 
 // Reads the literals of a step whose line has this number.

@@ -1,5 +1,5 @@
 use Rattle.std.proofs.Common.{◌∙◌, ap, sym, ℕ, List, [], ◌++◌}
-use Rattle.gp_text.specs.Table.{with_entries}
+use Rattle.gp_base.specs.Table.{with_entries}
 use Rattle.gp_trace.specs.declared.lock_use.LockMode.TheVariants.{Exclusive, Shared}
 use Rattle.gp_window.specs.Holders.{holder_cmp, Holdings}
 use Rattle.gp_constraint.specs.HeldLocks.{held_as}

@@ -1,5 +1,5 @@
 use Rattle.std.proofs.Common.{◌≡◌, drop}
-use Rattle.gp_text.specs.Table.{with_entries}
+use Rattle.gp_base.specs.Table.{with_entries}
 use Rattle.gp_window.specs.Holders.{holder_cmp}
 use Rattle.gp_constraint.specs.HeldLocks.{held_as}
 use Rattle.gp_constraint.proofs.held_locks.put_holds.Given as goal

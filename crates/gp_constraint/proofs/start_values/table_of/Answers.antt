@@ -1,7 +1,7 @@
 use Rattle.std.proofs.Common.{◌∙◌, ◌+◌, ◌-◌, ap, arith, List, ℕ, ℤ, length}
 use Rattle.std.specs.Cmp.Lexicographic.{slice_cmp}
 use Rattle.std.specs.Ordering.{nat_cmp}
-use Rattle.gp_text.specs.Table.{with_entry}
+use Rattle.gp_base.specs.Table.{with_entry}
 use Rattle.gp_constraint.proofs.Backward.{one_before}
 use Rattle.gp_constraint.proofs.start_values.table_of.Goals as goal
 

@@ -3,7 +3,7 @@ use Rattle.gp_clause.specs.declared.lit.Lit.{Lit}
 use Rattle.gp_clause.specs.Clause.{NamesBelow}
 use Rattle.gp_derivation.specs.Bench.{BenchForm}
 use Rattle.gp_derivation.specs.Certificate.{clauses_of}
-use Rattle.gp_derivation.specs.ListLaws.{got_all}
+use Rattle.gp_base.specs.ListLaws.{got_all}
 use Rattle.gp_derivation.proofs.Naming.{loaded_more, loaded_none}
 use Rattle.gp_derivation.proofs.check.load_hinted.Goals as goal
 use Rattle.gp_derivation.proofs.check.load_hinted.Goals.{in-Some+in_ok-clone+in_ok-load, in_default}

@@ -1,5 +1,5 @@
 use Rattle.std.proofs.Common.{◌≡◌, drop}
-use Rattle.gp_text.specs.Results.{some_prefix}
+use Rattle.gp_base.specs.Results.{some_prefix}
 use Rattle.gp_property.specs.Term.{terms_of}
 use Rattle.gp_property.proofs.term.terms_of.Given as goal
 

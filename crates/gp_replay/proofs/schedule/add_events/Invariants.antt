@@ -1,5 +1,5 @@
 use Rattle.std.proofs.Common.{◌≡◌, drop}
-use Rattle.gp_text.specs.Results.{with_prefix}
+use Rattle.gp_base.specs.Results.{with_prefix}
 use Rattle.gp_replay.specs.Schedule.{event_ids_of}
 use Rattle.gp_replay.proofs.schedule.add_events.Given as goal
 

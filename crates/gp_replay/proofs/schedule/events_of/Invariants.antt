@@ -1,5 +1,5 @@
 use Rattle.std.proofs.Common.{◌≡◌, drop}
-use Rattle.gp_text.specs.Results.{with_prefix}
+use Rattle.gp_base.specs.Results.{with_prefix}
 use Rattle.gp_replay.specs.Schedule.{events_of}
 use Rattle.gp_replay.proofs.schedule.events_of.Given as goal
 

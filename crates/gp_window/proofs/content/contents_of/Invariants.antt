@@ -2,7 +2,7 @@ use Rattle.std.proofs.Common.{◌≡◌, ◌+◌, ◌-◌, ◌≤◌, List, leng
 use Rattle.std.specs.Prelude.{All}
 use Rattle.gp_outside.specs.Folders.{File}
 use Rattle.gp_window.specs.Contents.{contents_from}
-use Rattle.gp_text.specs.Results.{with_prefix}
+use Rattle.gp_base.specs.Results.{with_prefix}
 use Rattle.gp_window.proofs.content.contents_of.Given as goal
 
 abbrev pub invariant-loop-before : goal.invariant-loop-before

@@ -1,6 +1,6 @@
 use Rattle.std.proofs.Common.{◌≡◌, drop}
 use Rattle.gp_window.specs.Number.{numbers_of}
-use Rattle.gp_text.specs.Results.{some_prefix}
+use Rattle.gp_base.specs.Results.{some_prefix}
 use Rattle.gp_window.proofs.numbers.numbers_of.Given as goal
 
 abbrev pub invariant-loop-word : goal.invariant-loop-word

@@ -1,7 +1,7 @@
 use Rattle.std.proofs.Common.{◌≡◌, ◌+◌, length}
 use Rattle.std.specs.Vec.Iter.{into_iter_items}
 use Rattle.gp_window.specs.Parsed.{gathered}
-use Rattle.gp_text.specs.Results.{with_prefix}
+use Rattle.gp_base.specs.Results.{with_prefix}
 use Rattle.gp_window.proofs.reading.gathered.Given as goal
 
 abbrev pub invariant-loop-one : goal.invariant-loop-one

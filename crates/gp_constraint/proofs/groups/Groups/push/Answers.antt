@@ -3,7 +3,7 @@ use Rattle.std.specs.Prelude.{Some}
 use Rattle.std.specs.BTreeMap.{is_at}
 use Rattle.std.specs.Cmp.Lexicographic.{slice_cmp}
 use Rattle.std.specs.Ordering.{nat_cmp}
-use Rattle.gp_text.specs.Table.{value_at}
+use Rattle.gp_base.specs.Table.{value_at}
 use Rattle.gp_constraint.proofs.Grouped.{grouped_more}
 use Rattle.gp_constraint.proofs.groups.Groups.push.Goals as goal
 

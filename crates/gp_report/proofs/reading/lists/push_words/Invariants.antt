@@ -1,6 +1,6 @@
 -- What was read, and then what is left, is all.
 use Rattle.std.proofs.Common.{◌≡◌, length}
-use Rattle.gp_text.specs.Results.{with_prefix}
+use Rattle.gp_base.specs.Results.{with_prefix}
 use Rattle.gp_report.specs.Reading.{read_words}
 use Rattle.gp_report.proofs.reading.lists.push_words.Given as goal
 

@@ -1,7 +1,7 @@
 -- What was put in, and then what is left, is the whole; and what was put in is what the table has.
 use Rattle.std.proofs.Common.{◌≡◌, drop, take}
-use Rattle.gp_text.specs.Table.{with_entries}
-use Rattle.gp_text.proofs.table.Table.put_all.Given as goal
+use Rattle.gp_base.specs.Table.{with_entries}
+use Rattle.gp_base.proofs.table.Table.put_all.Given as goal
 
 abbrev pub invariant-loop-key : goal.invariant-loop-key
 invariant-loop-key g l =

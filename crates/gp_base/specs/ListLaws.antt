@@ -5,8 +5,6 @@ use Rattle.std.specs.Option.{option_map}
 use Rattle.std.proofs.lemmas.List.{length-map, get_or-map}
 use Rattle.std.proofs.lemmas.List.Elements.{All-nil, All-cons}
 use Rattle.std.proofs.lemmas.Option.{slice_get_within, get_or_from_slice_get, slice_get-map, same_Some, none-some}
-use Rattle.gp_clause.specs.declared.lit.Lit.{Lit}
-use Rattle.gp_derivation.specs.Step.{named}
 
 -- the first of a list stands in it, and so does what stands in the rest
 pub here : {X : Type 0} (x : X) (xs : List X) → Contains (x ∷ xs) x
@@ -62,28 +60,3 @@ joined_cases {X} {Y} f (z ∷ ys) xs (suc k) y is = at (joined_cases f ys xs k y
         → (slice_get ys k ≡ Some y) ⊎ ((other : ℕ) × (x : X) × (suc (length ys) + other ≡ suc k) × (slice_get xs other ≡ Some x) × (f x ≡ y))
     at (inl first) = inl first
     at (inr (other, x, place, got, same)) = inr (other, x, omega arith, got, same)
-
--- what holds of each clause that a hint names holds of all that hints name
-pub named_all : (P : List Lit → Type 0) (clauses : List (List Lit)) (hints : List ℕ)
-    → ((hint : ℕ) (clause : List Lit) → Contains hints hint → slice_get clauses hint ≡ Some clause → P clause) → All P (named clauses hints)
-named_all P clauses [] each = All-nil P
-named_all P clauses (hint ∷ hints) each =
-    at (slice_get clauses hint) refl (named_all P clauses hints (λ h clause is got. each h clause (there hint hints h is) got))
-  where
-    at : (o : Option (List Lit)) → slice_get clauses hint ≡ o → All P (named clauses hints) → All P (named clauses (hint ∷ hints))
-    at None got rest = rw got rest
-    at (Some clause) got rest = rw got (All-cons P clause (named clauses hints) (each hint clause (here hint hints) got) rest)
-
--- a clause that a hint names is among those that hints name
-pub named_contains : (clauses : List (List Lit)) (hints : List ℕ) (hint : ℕ) (clause : List Lit) → Contains hints hint → slice_get clauses hint ≡ Some clause
-    → Contains (named clauses hints) clause
-named_contains clauses [] hint clause (k, within, is) got = absurd (omega arith)
-named_contains clauses (first ∷ hints) hint clause (zero, within, is) got =
-    let at : slice_get clauses first ≡ Some clause = ap (λ n. slice_get clauses n) is ∙ got in
-    rw at (here clause (named clauses hints))
-named_contains clauses (first ∷ hints) hint clause (suc k, within, is) got =
-    at (slice_get clauses first) refl (named_contains clauses hints hint clause (k, omega arith, is) got)
-  where
-    at : (o : Option (List Lit)) → slice_get clauses first ≡ o → Contains (named clauses hints) clause → Contains (named clauses (first ∷ hints)) clause
-    at None none rest = rw none rest
-    at (Some other) some rest = rw some (there other (named clauses hints) clause rest)

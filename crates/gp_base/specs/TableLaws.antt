@@ -11,7 +11,7 @@ use Rattle.std.proofs.Common.{sym, ap, subst, ◌∙◌, inl, inr}
 use Rattle.std.proofs.lemmas.Bool.{cases_Bool, false≢true, true≢false, false_from_ne_true}
 use Rattle.std.proofs.lemmas.Cmp.{alike_right, tied_itself, nat_list_cmp_total}
 use Rattle.std.proofs.lemmas.Map.Lookups.{exact_bytes}
-use Rattle.gp_text.specs.Table.{value_at, with_entry, without_entry}
+use Rattle.gp_base.specs.Table.{value_at, with_entry, without_entry}
 
 -- what the same test decides twice
 decided_twice : {X : Type 0} (b : Bool) (x y z : X) → cond b x z ≡ cond b x (cond b y z)

@@ -2,7 +2,7 @@
 use Rattle.std.proofs.Common.{◌≡◌, ◌∙◌, sym, ap, refl, ℕ, ◌+◌, ◌<◌, List, [], ◌∷◌, ◌++◌, length, get_or, take, drop}
 use Rattle.std.specs.declared.cmp.Ordering.{Ordering}
 use Rattle.std.proofs.lemmas.List.{drop_more, take_more}
-use Rattle.gp_text.specs.Table.{with_entries, with_entry}
+use Rattle.gp_base.specs.Table.{with_entries, with_entry}
 
 -- an entry behind others is put in last
 entries_then : {K V : Type 0} (cmp : K → K → Ordering) (entries more : List (K × V)) (last : K × V)

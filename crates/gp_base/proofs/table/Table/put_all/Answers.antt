@@ -1,6 +1,6 @@
 use Rattle.std.proofs.Common.{sym}
-use Rattle.gp_text.proofs.Fillings.{front_filled, rest_filled}
-use Rattle.gp_text.proofs.table.Table.put_all.Goals as goal
+use Rattle.gp_base.proofs.Fillings.{front_filled, rest_filled}
+use Rattle.gp_base.proofs.table.Table.put_all.Goals as goal
 
 pub loop-key-preserved : goal.loop-key-preserved
 loop-key-preserved g c = (

@@ -1,7 +1,7 @@
 -- Laws: a prefix of what is read, and one value more.
 use Rattle.std.specs.Prelude.{◌≡◌, refl, List, [], ◌∷◌, ◌++◌, Option, Some, None, Result, Ok, Err}
 use Rattle.std.proofs.Common.{ap, append_assoc}
-use Rattle.gp_text.specs.Results.{some_prefix, then_rest, with_prefix}
+use Rattle.gp_base.specs.Results.{some_prefix, then_rest, with_prefix}
 
 -- a value stands at the end of the prefix, or before the rest
 pub prefix_then : {A E : Type 0} (prefix : List A) (value : A) (rest : Result (List A) E)

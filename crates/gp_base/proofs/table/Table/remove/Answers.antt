@@ -2,8 +2,8 @@
 use Rattle.std.proofs.Common.{◌∙◌}
 use Rattle.std.specs.BTreeMap.{is_at}
 use Rattle.std.proofs.lemmas.Map.{none_passes_from_lookup}
-use Rattle.gp_text.proofs.Removals.{removed_is_filtered}
-use Rattle.gp_text.proofs.table.Table.remove.Goals as goal
+use Rattle.gp_base.proofs.Removals.{removed_is_filtered}
+use Rattle.gp_base.proofs.table.Table.remove.Goals as goal
 
 pub returns : goal.returns
 returns g c =

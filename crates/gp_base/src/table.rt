@@ -1,6 +1,6 @@
 ghost use Rattle.std.specs.Prelude.{◌≡◌, [], OnOk, OnErr, option_copied, map, IfOk};
 ghost use Rattle.std.specs.List.Sorted.{IsStrictlySortedBy};
-ghost use Rattle.gp_text.specs.Table.{IsPartlyFilled, value_at, with_entries, with_entry, without_entry};
+ghost use Rattle.gp_base.specs.Table.{IsPartlyFilled, value_at, with_entries, with_entry, without_entry};
 
 use crate::row::Row;
 use std::alloc::{AllocError, Global};

@@ -3,4 +3,8 @@ pub mod Results
 pub mod TableLaws
 pub mod ResultLaws
 pub mod ListLaws
-pub mod HasLaws
+pub mod CountLaws
+pub mod Counts
+pub mod SumLaws
+pub mod FilterLaws
+pub mod LimitLaws

@@ -1,6 +1,7 @@
 -- What a scripted write of a folder in memory leaves, in the words of every folder.
 use Rattle.gp_outside.proofs.Files.{file_is_written}
-use Rattle.gp_outside.specs.Faults.{Rose, one_more}
+use Rattle.gp_outside.specs.Faults.{Rose}
+use Rattle.gp_base.specs.Counts.{one_more}
 use Rattle.gp_outside.specs.FolderLaws.{same_but_itself}
 use Rattle.gp_outside.specs.Folders.{File, Spares, Writes}
 use Rattle.gp_outside.specs.MemoryFolders.{FolderState, after_write, fails_next, with_file, write_answer}

@@ -1,8 +1,5 @@
-use Rattle.std.specs.Prelude.{ℕ, ◌+◌, ◌-◌, ◌^◌, ◌≤◌, min}
-
--- a count after one more: it stays at its last value once it has come there
-abbrev pub one_more : ℕ → ℕ
-one_more count = min (count + 1) (2 ^ 64 - 1)
+use Rattle.std.specs.Prelude.{ℕ, ◌≤◌}
+use Rattle.gp_base.specs.Counts.{one_more}
 
 -- the count rose, or stands at its last value
 abbrev pub Rose : ℕ → ℕ → Type 0

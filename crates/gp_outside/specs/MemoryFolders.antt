@@ -1,4 +1,4 @@
-use Rattle.gp_outside.specs.Faults.{one_more}
+use Rattle.gp_base.specs.Counts.{one_more}
 use Rattle.gp_outside.specs.Folders.{File, file_named}
 use Rattle.gp_outside.specs.declared.folders.ReadFault.TheVariants.{Absent, Failed, TooLong}
 use Rattle.gp_outside.specs.declared.folders.ReadFault.{ReadFault}

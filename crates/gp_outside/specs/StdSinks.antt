@@ -1,4 +1,4 @@
-use Rattle.gp_outside.specs.Faults.{one_more}
+use Rattle.gp_base.specs.Counts.{one_more}
 use Rattle.gp_outside.specs.declared.sinks.PutFault.{PutFault}
 use Rattle.std.specs.Prelude.{Err, List, Ok, Option, Result, ℕ}
 

@@ -11,7 +11,7 @@ use Rattle.std.proofs.lemmas.List.Folds.{list_all-append}
 use Rattle.gp_text.specs.Line.{is_word}
 use Rattle.gp_text.specs.Lines.{is_passed_over}
 use Rattle.gp_text.specs.Name.{is_name}
-use Rattle.gp_text.specs.Spelling.{is_plain, is_plain_word, IsPlainLine, IsShortWord, PlainWords}
+use Rattle.gp_text.specs.Spelling.{after_words, is_plain, is_plain_word, IsPlainLine, IsShortWord, PlainWords}
 use Rattle.gp_property.specs.declared.property.Atom.{Atom}
 use Rattle.gp_property.specs.declared.property.EventDef.{EventDef}
 use Rattle.gp_property.specs.declared.property.PatternStep.{PatternStep}
@@ -27,7 +27,7 @@ use Rattle.gp_property.specs.declared.property.ValueTerm.TheVariants as value
 use Rattle.gp_property.specs.Atoms.{atom_count}
 use Rattle.gp_property.specs.Checks.{is_wide}
 use Rattle.gp_property.specs.Property.{AreAtoms, AreSteps, IsAtom, IsEvent, IsMarked, IsProperty, IsShape, IsTerm, IsThread, IsValue}
-use Rattle.gp_property.specs.Words.{after_words, atom_word, atoms_words, event_words, grouped_words, mark_word, pattern_words, property_lines, shape_words, steps_words, term_word, thread_word, value_word}
+use Rattle.gp_property.specs.Words.{atom_word, atoms_words, event_words, grouped_words, mark_word, pattern_words, property_lines, shape_words, steps_words, term_word, thread_word, value_word}
 
 both_short : (xs ys : List (List ℕ)) → AllByRecursion IsShortWord xs → AllByRecursion IsShortWord ys → AllByRecursion IsShortWord (xs ++ ys)
 both_short [] ys first second = second

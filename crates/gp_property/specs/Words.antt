@@ -78,8 +78,3 @@ pattern_words pattern = codes "pattern" ∷ steps_words pattern
 abbrev pub property_lines : PropertyForm → List (List (List ℕ))
 property_lines property =
     (codes "property" ∷ property.name ∷ []) ∷ (map event_words property.events ++ pattern_words property.pattern ∷ [])
-
--- words that follow the first one of a line, a space before each
-abbrev pub after_words : List (List ℕ) → List ℕ
-after_words [] = []
-after_words (word ∷ words) = 32 ∷ (word ++ after_words words)

@@ -1,7 +1,7 @@
 ghost use Rattle.std.specs.Prelude.{◌≡◌, [], ◌∷◌, ◌++◌, Ok, IfOk, OnOk, codes, map};
-ghost use Rattle.gp_text.specs.Spelling.{joined, spelling};
+ghost use Rattle.gp_text.specs.Spelling.{after_words, joined, spelling};
 ghost use Rattle.gp_property.specs.Reading.{properties_of};
-ghost use Rattle.gp_property.specs.Words.{after_words, atom_word, atoms_words, event_words, grouped_words, mark_word, pattern_words, property_lines, shape_words, steps_words, term_word, thread_word, value_word};
+ghost use Rattle.gp_property.specs.Words.{atom_word, atoms_words, event_words, grouped_words, mark_word, pattern_words, property_lines, shape_words, steps_words, term_word, thread_word, value_word};
 
 use crate::laws::property_again;
 use crate::property::{Atom, EventDef, PatternStep, Property, Shape, Term, ThreadTerm, ValueTerm};

@@ -5,3 +5,4 @@ pub mod Numbers
 pub mod Padding
 pub mod Spelling
 pub mod LineLaws
+pub mod SpellingLaws

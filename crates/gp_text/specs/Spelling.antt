@@ -20,6 +20,11 @@ is_plain_word bytes = is_word bytes && list_all is_plain bytes
 abbrev pub joined : List (List ℕ) → List ℕ
 joined words = join_with_byte 32 words
 
+-- words that follow the first one of a line, a space before each
+abbrev pub after_words : List (List ℕ) → List ℕ
+after_words [] = []
+after_words (word ∷ words) = 32 ∷ (word ++ after_words words)
+
 -- words that make a line of the text: no comment, and not too long
 pub record IsPlainLine (words : List (List ℕ)) : Type 0 where
   pub plain : AllByRecursion (λ word. is_plain_word word ≡ true) words

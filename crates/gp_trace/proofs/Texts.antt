@@ -1,7 +1,8 @@
 -- Lines one after another, and words in a row.
-use Rattle.std.proofs.Common.{◌≡◌, refl, sym, ap, ◌∙◌, ℕ, ◌+◌, ◌<◌, List, [], ◌∷◌, ◌++◌, length, get_or, drop, Option, Result, Ok, Err, OnOk, is_ok, if◌then◌else◌, arith, append_assoc, add-one, drop-cons, codes}
+use Rattle.std.proofs.Common.{◌≡◌, refl, sym, ap, ◌∙◌, ℕ, ◌+◌, ◌<◌, List, [], ◌∷◌, ◌++◌, length, get_or, drop, Option, Result, Ok, Err, OnOk, is_ok, if◌then◌else◌, arith, append_assoc, append-nil, add-one, drop-cons, codes}
 use Rattle.std.specs.List.{flat_map}
 use Rattle.gp_text.specs.Spelling.{joined, spelling}
+use Rattle.gp_text.specs.SpellingLaws.{spelling_append}
 use Rattle.gp_trace.specs.declared.event.Event.{Event}
 use Rattle.gp_trace.specs.Printed.{event_lines, exit_lines, later_lines, segment_lines}
 
@@ -15,18 +16,9 @@ pub on_if : {A E : Type 0} (r : Result A E) (new appended old : List ℕ) {Q : T
 on_if (Ok x) new appended old follows is = follows is
 on_if (Err e) new appended old follows is = tt
 
-spelling_append : (xs ys : List (List (List ℕ))) → spelling (xs ++ ys) ≡ spelling xs ++ spelling ys
-spelling_append [] ys = refl
-spelling_append (x ∷ xs) ys =
-    ap (λ rest. joined x ++ (10 ∷ rest)) (spelling_append xs ys) ∙ sym (append_assoc (joined x) (10 ∷ spelling xs) (spelling ys))
-
-append_nil : (bytes : List ℕ) → bytes ++ [] ≡ bytes
-append_nil [] = refl
-append_nil (b ∷ bytes) = ap (λ rest. b ∷ rest) (append_nil bytes)
-
 -- the words after the first, each with a space before it
 joined_row : (first : List ℕ) (words : List (List ℕ)) → joined (first ∷ words) ≡ first ++ flat_map (λ word. 32 ∷ word) words
-joined_row first [] = sym (append_nil first)
+joined_row first [] = sym (append-nil first)
 joined_row first (next ∷ words) = ap (λ rest. first ++ (32 ∷ rest)) (joined_row next words)
 
 pub op_text : (out name : List ℕ) (objects : List (List ℕ)) → (((out ++ codes "op ") ++ name) ++ flat_map (λ object. 32 ∷ object) objects) ++ 10 ∷ [] ≡ out ++ spelling ((codes "op" ∷ name ∷ objects) ∷ [])

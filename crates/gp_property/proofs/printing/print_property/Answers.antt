@@ -2,7 +2,8 @@ use Rattle.std.proofs.Common.{◌≡◌, ◌∙◌, ap, codes, map, List, ℕ, [
 use Rattle.gp_text.specs.Spelling.{spelling}
 use Rattle.gp_property.specs.Reading.{properties_of}
 use Rattle.gp_property.specs.Words.{event_words, pattern_words, property_lines}
-use Rattle.gp_property.proofs.Texts.{line_put, lines_put}
+use Rattle.gp_property.proofs.Texts.{lines_put}
+use Rattle.gp_text.specs.SpellingLaws.{line_put}
 use Rattle.gp_property.proofs.printing.print_property.Goals as goal
 
 printed : (c : goal.After-from_vec) → c.from_vec.result ≡ spelling (property_lines c.args.property.now)

@@ -1,6 +1,6 @@
 use Rattle.std.proofs.Common.{codes}
 use Rattle.gp_property.specs.Words.{shape_words}
-use Rattle.gp_property.proofs.Texts.{line_put_with}
+use Rattle.gp_text.specs.SpellingLaws.{line_put_with}
 use Rattle.gp_property.proofs.printing.put_event.Goals as goal
 
 pub returns : goal.returns

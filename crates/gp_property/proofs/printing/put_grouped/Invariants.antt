@@ -1,5 +1,6 @@
 use Rattle.std.proofs.Common.{◌≡◌, ◌++◌, drop}
-use Rattle.gp_property.specs.Words.{after_words, grouped_words}
+use Rattle.gp_property.specs.Words.{grouped_words}
+use Rattle.gp_text.specs.Spelling.{after_words}
 use Rattle.gp_property.proofs.printing.put_grouped.Given as goal
 
 abbrev pub invariant-loop-atom : goal.invariant-loop-atom

@@ -1,5 +1,6 @@
 use Rattle.std.proofs.Common.{◌≡◌, ◌++◌, drop}
-use Rattle.gp_property.specs.Words.{after_words, steps_words}
+use Rattle.gp_property.specs.Words.{steps_words}
+use Rattle.gp_text.specs.Spelling.{after_words}
 use Rattle.gp_property.proofs.printing.put_steps.Given as goal
 
 abbrev pub invariant-loop-step : goal.invariant-loop-step

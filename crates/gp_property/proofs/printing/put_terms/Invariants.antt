@@ -1,5 +1,6 @@
 use Rattle.std.proofs.Common.{◌≡◌, ◌++◌, drop, map}
-use Rattle.gp_property.specs.Words.{after_words, term_word}
+use Rattle.gp_property.specs.Words.{term_word}
+use Rattle.gp_text.specs.Spelling.{after_words}
 use Rattle.gp_property.proofs.printing.put_terms.Given as goal
 
 abbrev pub invariant-loop-term : goal.invariant-loop-term

@@ -3,11 +3,8 @@ use Rattle.std.proofs.Common.{◌≡◌, refl, sym, ap, ◌∙◌, ℕ, ◌+◌,
 use Rattle.std.specs.List.{flat_map, range_with_len}
 use Rattle.std.proofs.lemmas.List.FromFn.{map-range_with_len_more}
 use Rattle.std.proofs.lemmas.List.Concat.{flat_map-append}
-use Rattle.gp_text.specs.Spelling.{joined, spelling}
-
-pub spelling_append : (xs ys : List (List (List ℕ))) → spelling (xs ++ ys) ≡ spelling xs ++ spelling ys
-spelling_append [] ys = refl
-spelling_append (x ∷ xs) ys = ap (λ rest. joined x ++ (10 ∷ rest)) (spelling_append xs ys) ∙ sym (append_assoc (joined x) (10 ∷ spelling xs) (spelling ys))
+use Rattle.gp_text.specs.Spelling.{spelling}
+use Rattle.gp_text.specs.SpellingLaws.{spelling_append}
 
 -- lines, and then more lines
 pub lines_put : (old : List ℕ) (xs ys : List (List (List ℕ))) → (old ++ spelling xs) ++ spelling ys ≡ old ++ spelling (xs ++ ys)

@@ -15,7 +15,7 @@ use Rattle.gp_make.specs.Files.{file_of}
 use Rattle.gp_make.specs.MadeFileForm.{MadeFileForm}
 use Rattle.gp_make.specs.Texts.{told_event}
 use Rattle.gp_make.specs.Traces.{TracesGrow, lines_of, traces_with, with_lines}
-use Rattle.gp_make.proofs.Growing.{spelling_append}
+use Rattle.gp_text.specs.SpellingLaws.{spelling_append}
 
 -- what holds for a value holds for no error
 pub on_ok : {A E : Type 0} (result : Result A E) (P Q : Type 0) → (P → Q) → OnOk result P → OnOk result Q

@@ -2,7 +2,7 @@
 use Rattle.std.proofs.Common.{◌≡◌, ◌⊎◌, ◌∙◌, refl, ap, sym, subst, inl, inr, Bool, true, false, cond, ℕ, zero, suc, ◌+◌, ◌-◌, ◌<◌, ◌≤◌, ◌^◌, List, [], ◌∷◌, map, length, arith, eqb-true}
 use Rattle.std.specs.Prelude.{◌==◌, ◌||◌, filter, if◌then◌else◌, Option, Some, None, Result, Ok, Err, is_ok, slice_get, unwrap_or}
 use Rattle.std.specs.List.{AllByRecursion}
-use Rattle.std.proofs.lemmas.Bool.{cases_Bool, cases_lt, eq-eqb, false≢true, false_from_ne_true, true≢false}
+use Rattle.std.proofs.lemmas.Bool.{and_parts, cases_Bool, cases_lt, eq-eqb, false≢true, false_from_ne_true, true≢false}
 use Rattle.std.proofs.lemmas.Bool.Decides.{nat_tests}
 use Rattle.std.proofs.lemmas.List.{length-map}
 use Rattle.std.proofs.lemmas.List.Elements.{recursion_from_All}
@@ -16,15 +16,16 @@ use Rattle.gp_trace.specs.Rules.{after, AreWellFormed, at_first, fault_of}
 use Rattle.gp_trace.specs.RulesLaws.{used_well}
 use Rattle.gp_trace.specs.Trace.{in_order, IsEvent, IsLocalTrace, LocalTraceForm}
 use Rattle.gp_window.specs.declared.schedule.EventId.{EventId}
+use Rattle.gp_window.specs.AmongLaws.{among_kept, among_numbers}
 use Rattle.gp_window.specs.Contested.{first_contested}
-use Rattle.gp_window.specs.Events.{event_at, has_thread, segment_in}
+use Rattle.gp_window.specs.Events.{event_at, has_thread, segment_in, segment_of}
 use Rattle.gp_window.specs.Formed.{IsFormed, mode_at_start, stands_at, UsesLocksWell}
 use Rattle.gp_window.specs.FormedLaws.{mode_by}
 use Rattle.gp_window.specs.Holders.{Holdings, held_over, segment_after}
 use Rattle.gp_window.specs.HoldersLaws.{stands_from}
 use Rattle.gp_window.specs.RecordingForm.{AreNumbered, IsRecording, RecordingForm}
 use Rattle.gp_window.specs.Starts.{after_traces, is_among, is_thread}
-use Rattle.gp_window.specs.WindowForm.{exited_of, has_exited, IsWindow, numbers_from, started_before, window_of, WindowForm}
+use Rattle.gp_window.specs.WindowForm.{exited_of, has_exited, IsWindow, numbers_from, started_before, started_of, window_of, WindowForm}
 use Rattle.gp_window.proofs.Happening.{in_window, OfEach, segments_short}
 use Rattle.gp_window.proofs.HeldRising.{mode_among, over_rises, readers_rise}
 use Rattle.gp_window.proofs.OwnLocks.{held_by, none_by, over_tells, segment_well}
@@ -61,36 +62,6 @@ is_ok_gives (Err fault) e = cc
 one_small : (b : Bool) → one b ≤ 1
 one_small true = omega arith
 one_small false = omega arith
-
-among_here : (x thread : ℕ) (xs : List ℕ) → is_among xs thread ≡ true → is_among (x ∷ xs) thread ≡ true
-among_here x thread xs among =
-    elim (cases_Bool (x == thread)) [
-      | inl same ↦ rw same refl
-      | inr apart ↦ rw apart among
-    ]
-
-kept_at : (p : ℕ → Bool) (x : ℕ) (xs : List ℕ) (thread : ℕ) (b : Bool) → p x ≡ b
-    → (is_among (filter p xs) thread ≡ true → (p thread ≡ true) × (is_among xs thread ≡ true))
-    → is_among (cond b (x ∷ filter p xs) (filter p xs)) thread ≡ true → (p thread ≡ true) × (is_among (x ∷ xs) thread ≡ true)
-kept_at p x xs thread true is more e =
-    elim (cases_Bool (x == thread)) [
-      | inl same ↦ (subst (λ t. p t ≡ true) (eqb-true x thread same) is, rw same refl)
-      | inr apart ↦ let rest = more (rw apart at e) in (rest.0, among_here x thread xs rest.1)
-    ]
-kept_at p x xs thread false is more e = let rest = more e in (rest.0, among_here x thread xs rest.1)
-
--- what is among the kept is among all, and is kept
-among_kept : (p : ℕ → Bool) (xs : List ℕ) (thread : ℕ) → is_among (filter p xs) thread ≡ true → (p thread ≡ true) × (is_among xs thread ≡ true)
-among_kept p [] thread e = absurd (false≢true e)
-among_kept p (x ∷ xs) thread e = kept_at p x xs thread (p x) refl (among_kept p xs thread) e
-
-among_numbers : (n more thread : ℕ) → is_among (numbers_from n more) thread ≡ true → (n ≤ thread) × (thread < n + more)
-among_numbers n zero thread e = absurd (false≢true e)
-among_numbers n (suc more) thread e =
-    elim (cases_Bool (n == thread)) [
-      | inl same ↦ let is : n ≡ thread = eqb-true n thread same in (omega (arith, is), omega (arith, is))
-      | inr apart ↦ let rest = among_numbers (n + 1) more thread (rw apart at e) in (omega (arith, rest.0), omega (arith, rest.1))
-    ]
 
 -- a number from 1 to the last is that of a thread
 is_thread_from : (threads thread : ℕ) → 1 ≤ thread → thread ≤ threads → is_thread threads thread ≡ true
@@ -133,6 +104,28 @@ no_mode : (alone reads : Bool) → mode_by alone reads ≡ None → (alone ≡ f
 no_mode true reads e = cc
 no_mode false true e = cc
 no_mode false false e = (refl, refl)
+
+-- a thread that is started when a window begins is a root or was started before, and is one of the threads
+started_kept : (r : RecordingForm) (before thread : ℕ) → is_among (started_of r before) thread ≡ true
+    → ((is_among r.manifest.roots thread || is_among (started_before before r.traces) thread) ≡ true) × (is_among (numbers_from 1 r.manifest.threads) thread ≡ true)
+started_kept r before thread among =
+    and_parts (is_among r.manifest.roots thread || is_among (started_before before r.traces) thread) (is_among (numbers_from 1 r.manifest.threads) thread)
+    (sym (among_kept (λ t. is_among r.manifest.roots t || is_among (started_before before r.traces) t) (numbers_from 1 r.manifest.threads) thread) ∙ among)
+
+-- how a thread holds a lock by its own events before a window, it holds it when the window begins
+pub mode_told : (r : RecordingForm) (k : ℕ) → IsRecording r → (thread : ℕ) (lock : List ℕ)
+    → mode_held (held_by r.traces (k - 1) thread) lock ≡ mode_at_start (window_of r k) thread lock
+mode_told r k rules thread lock =
+    sym (over_tells r.manifest.epochs (k - 1) thread r.traces rules.numbered lock)
+    ∙ mode_among (held_over r.traces (k - 1)) (lock, thread) (over_rises r.traces (k - 1))
+
+-- and with these locks its segment uses locks well
+pub segment_used_well : (r : RecordingForm) (k : ℕ) → IsRecording r → (thread : ℕ)
+    → LocksAreUsedWell (held_by r.traces (k - 1) thread) (segment_of (window_of r k) thread)
+segment_used_well r k rules thread =
+    segment_well (k - 1) thread r.traces
+    (each IsLocalTrace (λ trace. LocksAreUsedWell [] (in_order trace.segments))
+    (λ trace is. used_well trace.thread at_first (in_order trace.segments) is.formed) r.traces (recursion_from_All IsLocalTrace r.traces rules.traces))
 
 module _ (r : RecordingForm) (k : ℕ) (rules : IsRecording r) (first : 1 ≤ k) (last : k ≤ r.manifest.epochs) where
   -- the window, and the segments of each trace before its own
@@ -190,8 +183,7 @@ module _ (r : RecordingForm) (k : ℕ) (rules : IsRecording r) (first : 1 ≤ k)
         known_there thread known.0,
         other_at id (Start thread) e,
         false_from_ne_true _ (λ among.
-            let kept = among_kept (λ t. is_among r.manifest.roots t || is_among (started_before (k - 1) r.traces) t) (numbers_from 1 r.manifest.threads) thread among in
-            let was : is_among (started_before (k - 1) r.traces) thread ≡ true = second_holds (is_among r.manifest.roots thread) _ kept.0 known.1 in
+            let was : is_among (started_before (k - 1) r.traces) thread ≡ true = second_holds (is_among r.manifest.roots thread) _ (started_kept r (k - 1) thread among).0 known.1 in
             started_now thread (k - 1) r.traces id (at_most_once thread) e was),
       )
     where
@@ -207,8 +199,7 @@ module _ (r : RecordingForm) (k : ℕ) (rules : IsRecording r) (first : 1 ≤ k)
 
   started_there : (thread : ℕ) → is_among window.started thread ≡ true → has_thread window thread ≡ true
   started_there thread among =
-      let kept = among_kept (λ t. is_among r.manifest.roots t || is_among (started_before (k - 1) r.traces) t) (numbers_from 1 r.manifest.threads) thread among in
-      let inside = among_numbers 1 r.manifest.threads thread kept.1 in
+      let inside = (among_numbers 1 r.manifest.threads thread).0 (started_kept r (k - 1) thread among).1 in
       let all = rules.count in
       there_from thread inside.0 (let high = inside.1 in omega (arith, high, all))
 
@@ -220,17 +211,11 @@ module _ (r : RecordingForm) (k : ℕ) (rules : IsRecording r) (first : 1 ≤ k)
   no_contest : first_contested held ≡ None
   no_contest = uncontested r.traces r.manifest.epochs (k - 1) rules.holders (omega (arith, first, last))
 
-  mode_told : (thread : ℕ) (lock : List ℕ) → mode_held (held_by r.traces (k - 1) thread) lock ≡ mode_at_start window thread lock
-  mode_told thread lock =
-      sym (over_tells r.manifest.epochs (k - 1) thread r.traces rules.numbered lock) ∙ mode_among held (lock, thread) (over_rises r.traces (k - 1))
-
   thread_uses_well : (thread : ℕ) → UsesLocksWell window thread
   thread_uses_well thread = record {
     held = held_by r.traces (k - 1) thread;
-    told = mode_told thread;
-    well = segment_well (k - 1) thread r.traces
-        (each IsLocalTrace (λ trace. LocksAreUsedWell [] (in_order trace.segments))
-        (λ trace is. used_well trace.thread at_first (in_order trace.segments) is.formed) r.traces locals);
+    told = mode_told r k rules thread;
+    well = segment_used_well r k rules thread;
   }
 
   -- a thread that holds a lock in some way is there
@@ -242,7 +227,7 @@ module _ (r : RecordingForm) (k : ℕ) (rules : IsRecording r) (first : 1 ≤ k)
         | inr empty ↦
             let none : held_by r.traces (k - 1) thread ≡ [] =
             none_by (k - 1) thread r.traces (λ j. empty (map (segment_after j) r.traces) (length-map r.traces (segment_after j))) in
-            let mode : mode_at_start window thread lock ≡ None = sym (mode_told thread lock) ∙ ap (λ (own : HeldLocks). mode_held own lock) none in
+            let mode : mode_at_start window thread lock ≡ None = sym (mode_told r k rules thread lock) ∙ ap (λ (own : HeldLocks). mode_held own lock) none in
             let ways = no_mode (stands_at window.holders lock thread) (stands_at window.readers lock thread) mode in
             absurd (some ways.0 ways.1)
       ]

@@ -2,6 +2,7 @@ pub mod Carried
 pub mod Contents
 pub mod Counts
 pub mod EventIds
+pub mod Followed
 pub mod Formed
 pub mod Happening
 pub mod Heads
@@ -15,7 +16,11 @@ pub mod PassedMarks
 pub mod Places
 pub mod Rising
 pub mod StartCounts
+pub mod StillToCome
 pub mod Suspects
 pub mod Threads
 pub mod Uncontested
 pub mod Walked
+pub mod StartsTold
+pub mod MarksTold
+pub mod NoFile

@@ -1,6 +1,6 @@
 -- The values that the lines of a manifest give, each put at its place, and that their order in the lines is lost.
-use Rattle.std.proofs.Common.{◌≡◌, refl, ap, sym, subst, ◌∙◌, inl, inr, ℕ, zero, suc, ◌<◌, ◌^◌, ℤ, false, cond, List, [], ◌∷◌, ◌++◌, length, map, arith}
-use Rattle.std.specs.Prelude.{Contains, if◌then◌else◌, is_some, Option, Some, None, Result, Ok, slice_index_or}
+use Rattle.std.proofs.Common.{◌≡◌, refl, ap, sym, subst, ◌∙◌, inl, inr, ℕ, ◌<◌, ◌^◌, ℤ, false, cond, List, [], ◌∷◌, ◌++◌, map}
+use Rattle.std.specs.Prelude.{Contains, if◌then◌else◌, is_some, Option, Some, None, Result, Ok}
 use Rattle.std.specs.declared.cmp.Ordering.{Ordering}
 use Rattle.std.specs.declared.cmp.Ordering.TheVariants.{Less, Equal, Greater}
 use Rattle.std.specs.Cmp.{IsTotalOrder}
@@ -15,6 +15,7 @@ use Rattle.std.proofs.lemmas.List.Sorted.{Contains-permutation, IsPermutation-ap
 use Rattle.std.proofs.lemmas.Map.Keys.{IsDistinct-from_sorted, IsDistinct-IsPermutation}
 use Rattle.gp_text.specs.declared.line.Line.{Line}
 use Rattle.gp_text.specs.Numbers.{OneSpelling}
+use Rattle.gp_base.specs.ListLaws.{contains_map, first_or_rest, here, nothing_in, recursion_at, there}
 use Rattle.gp_base.specs.Results.{and_then, or_refusal}
 use Rattle.gp_base.specs.Table.{value_at, with_entries, with_entry}
 use Rattle.gp_base.specs.TableLaws.{value_after_put}
@@ -25,7 +26,6 @@ use Rattle.gp_window.specs.Manifest.{Values, start_value, value_of, values_after
 use Rattle.gp_window.specs.ManifestForm.{IsInside, place_cmp, place_of}
 use Rattle.gp_window.proofs.ManifestLines.{value_read, value_said}
 use Rattle.gp_window.proofs.Rising.{put_rises}
-use Rattle.gp_window.proofs.Uncontested.{Has}
 use Rattle.gp_window.proofs.Walked.{first_gave}
 
 place_total : IsTotalOrder place_cmp
@@ -183,23 +183,8 @@ permuted_room given values permuted rises =
     (IsPermutation-map place_of values given (IsPermutation-sym given values permuted))
     (IsDistinct-from_sorted place_cmp (map place_of values) rises)) (all_free given)
 
-has_at : {X : Type 0} (xs : List X) (k : ℕ) (x : X) → k < length xs → slice_index_or xs k x ≡ x → Has x xs
-has_at [] k x below is = absurd (omega arith)
-has_at (y ∷ ys) zero x below is = inl is
-has_at (y ∷ ys) (suc k) x below is = inr (has_at ys k x (omega (arith, below)) is)
-
-contains_from : {X : Type 0} (xs : List X) (x : X) → Has x xs → Contains xs x
-contains_from [] x has = absurd has
-contains_from (y ∷ ys) x (inl same) = (0, omega arith, same)
-contains_from (y ∷ ys) x (inr has) =
-    let rest = contains_from ys x has in
-    let below : rest.0 < length ys = rest.1 in
-    (suc rest.0, omega (arith, below), rest.2)
-
-all_has : {X : Type 0} (key : X → ℕ × List ℕ) (P : ℕ × List ℕ → Type 0) (xs : List X) (x : X) → Has x xs → AllByRecursion P (map key xs) → P (key x)
-all_has key P [] x has all = absurd has
-all_has key P (y ∷ ys) x (inl same) all = subst (λ z. P (key z)) same all.0
-all_has key P (y ∷ ys) x (inr has) all = all_has key P ys x has all.1
+all_has : {X : Type 0} (key : X → ℕ × List ℕ) (P : ℕ × List ℕ → Type 0) (xs : List X) (x : X) → Contains xs x → AllByRecursion P (map key xs) → P (key x)
+all_has key P xs x has all = recursion_at P (map key xs) (key x) all (contains_map key xs x has)
 
 not_below_itself : (place : ℕ × List ℕ) → place_cmp place place ≡ Less → ⊥
 not_below_itself place less = false≢true (ap is_eq (sym less) ∙ ap is_eq (tied_itself place_total place))
@@ -208,42 +193,46 @@ not_both_below : (one other : ℕ × List ℕ) → place_cmp one other ≡ Less 
 not_both_below one other up down = not_below_itself one (place_total.trans one other one up down)
 
 same_first : (x y : StartValue) (xs ys : List StartValue) → AllByRecursion (λ place. place_cmp (place_of x) place ≡ Less) (map place_of xs)
-    → AllByRecursion (λ place. place_cmp (place_of y) place ≡ Less) (map place_of ys) → Has x (y ∷ ys) → Has y (x ∷ xs) → x ≡ y
-same_first x y xs ys above_x above_y (inl same) there = sym same
-same_first x y xs ys above_x above_y (inr here) (inl same) = same
-same_first x y xs ys above_x above_y (inr here) (inr there) =
-    absurd (not_both_below (place_of x) (place_of y)
-    (all_has place_of (λ place. place_cmp (place_of x) place ≡ Less) xs y there above_x)
-    (all_has place_of (λ place. place_cmp (place_of y) place ≡ Less) ys x here above_y))
+    → AllByRecursion (λ place. place_cmp (place_of y) place ≡ Less) (map place_of ys) → Contains (y ∷ ys) x → Contains (x ∷ xs) y → x ≡ y
+same_first x y xs ys above_x above_y one other =
+    elim (first_or_rest y ys x one) [
+      | inl same ↦ sym same
+      | inr late ↦ elim (first_or_rest x xs y other) [
+        | inl same ↦ same
+        | inr later ↦
+            absurd (not_both_below (place_of x) (place_of y)
+            (all_has place_of (λ place. place_cmp (place_of x) place ≡ Less) xs y later above_x)
+            (all_has place_of (λ place. place_cmp (place_of y) place ≡ Less) ys x late above_y))
+      ]
+    ]
 
 -- what stands behind the first of one list stands behind the first of the other
 later_in : (x y z : StartValue) (xs ys : List StartValue) → x ≡ y → AllByRecursion (λ place. place_cmp (place_of x) place ≡ Less) (map place_of xs)
-    → Has z xs → Has z (y ∷ ys) → Has z ys
-later_in x y z xs ys same above has (inr rest) = rest
-later_in x y z xs ys same above has (inl here) =
-    let less : place_cmp (place_of x) (place_of z) ≡ Less = all_has place_of (λ place. place_cmp (place_of x) place ≡ Less) xs z has above in
-    absurd (not_below_itself (place_of z) (subst (λ v. place_cmp (place_of v) (place_of z) ≡ Less) (same ∙ here) less))
+    → Contains xs z → Contains (y ∷ ys) z → Contains ys z
+later_in x y z xs ys same above has among =
+    elim (first_or_rest y ys z among) [
+      | inl one ↦
+          let less : place_cmp (place_of x) (place_of z) ≡ Less = all_has place_of (λ place. place_cmp (place_of x) place ≡ Less) xs z has above in
+          absurd (not_below_itself (place_of z) (subst (λ v. place_cmp (place_of v) (place_of z) ≡ Less) (same ∙ one) less))
+      | inr rest ↦ rest
+    ]
 
 -- lists of the same values in the order of their places are the same
 same_members : (xs ys : List StartValue) → IsStrictlySortedBy place_cmp (map place_of xs) → IsStrictlySortedBy place_cmp (map place_of ys)
-    → ((z : StartValue) → Has z xs → Has z ys) → ((z : StartValue) → Has z ys → Has z xs) → xs ≡ ys
+    → ((z : StartValue) → Contains xs z → Contains ys z) → ((z : StartValue) → Contains ys z → Contains xs z) → xs ≡ ys
 unfolding IsStrictlySortedBy
-same_members [] [] up_x up_y there back = refl
-same_members [] (y ∷ ys) up_x up_y there back = absurd (back y (inl refl))
-same_members (x ∷ xs) [] up_x up_y there back = absurd (there x (inl refl))
-same_members (x ∷ xs) (y ∷ ys) up_x up_y there back =
-    let first : x ≡ y = same_first x y xs ys up_x.0 up_y.0 (there x (inl refl)) (back y (inl refl)) in
+same_members [] [] up_x up_y onto back = refl
+same_members [] (y ∷ ys) up_x up_y onto back = absurd (nothing_in y (back y (here y ys)))
+same_members (x ∷ xs) [] up_x up_y onto back = absurd (nothing_in x (onto x (here x xs)))
+same_members (x ∷ xs) (y ∷ ys) up_x up_y onto back =
+    let first : x ≡ y = same_first x y xs ys up_x.0 up_y.0 (onto x (here x xs)) (back y (here y ys)) in
     ap (λ v. v ∷ xs) first
     ∙ ap (λ rest. y ∷ rest) (same_members xs ys up_x.1 up_y.1
-    (λ z has. later_in x y z xs ys first up_x.0 has (there z (inr has)))
-    (λ z has. later_in y x z ys xs (sym first) up_y.0 has (back z (inr has))))
-
-has_permuted : (xs ys : List StartValue) → IsPermutation xs ys → (z : StartValue) → Has z xs → Has z ys
-has_permuted xs ys permuted z has =
-    let found = Contains-permutation xs ys z permuted (contains_from xs z has) in has_at ys found.0 z found.1 found.2
+    (λ z has. later_in x y z xs ys first up_x.0 has (onto z (there x xs z has)))
+    (λ z has. later_in y x z ys xs (sym first) up_y.0 has (back z (there y ys z has))))
 
 -- values in the order of their places, in which the same stand, are the same
 pub same_permuted : (xs ys : List StartValue) → IsPermutation xs ys → IsStrictlySortedBy place_cmp (map place_of xs)
     → IsStrictlySortedBy place_cmp (map place_of ys) → xs ≡ ys
 same_permuted xs ys permuted up_x up_y =
-    same_members xs ys up_x up_y (has_permuted xs ys permuted) (has_permuted ys xs (IsPermutation-sym xs ys permuted))
+    same_members xs ys up_x up_y (λ z. Contains-permutation xs ys z permuted) (λ z. Contains-permutation ys xs z (IsPermutation-sym xs ys permuted))

@@ -1,11 +1,11 @@
 -- Over a mark no lock has two holders, or a holder and a reader.
-use Rattle.std.proofs.Common.{◌≡◌, ◌⊎◌, ◌∙◌, refl, ap, sym, subst, inl, inr, Bool, true, false, cond, ℕ, zero, suc, ◌+◌, ◌-◌, ◌<◌, ◌≤◌, List, [], ◌∷◌, map, arith, eqb-true}
+use Rattle.std.proofs.Common.{◌≡◌, ◌∙◌, refl, ap, sym, subst, inl, inr, Bool, true, false, cond, ℕ, zero, suc, ◌+◌, ◌-◌, ◌<◌, ◌≤◌, List, [], ◌∷◌, map, arith, eqb-true}
 use Rattle.std.specs.Prelude.{◌&&◌, ◌||◌, ◌==◌, not, filter, find, Option, Some, None, option_map, Result, Ok}
 use Rattle.std.specs.declared.cmp.Ordering.{Ordering}
 use Rattle.std.specs.declared.cmp.Ordering.TheVariants.{Less, Equal, Greater}
 use Rattle.std.specs.BTreeMap.{is_at}
 use Rattle.std.specs.Cmp.Lexicographic.{slice_cmp}
-use Rattle.std.specs.List.{AllByRecursion, list_any}
+use Rattle.std.specs.List.{AllByRecursion, Contains, list_any}
 use Rattle.std.specs.List.Sorted.{IsStrictlySortedBy}
 use Rattle.std.specs.Map.{keys_of}
 use Rattle.std.specs.Ordering.{is_eq, nat_cmp, ordering_then}
@@ -13,6 +13,7 @@ use Rattle.std.specs.Str.{bytes_eq}
 use Rattle.std.proofs.lemmas.Bool.{cases_Bool, cases_eq, false≢true, true≢false}
 use Rattle.std.proofs.lemmas.Map.Lookups.{exact_bytes}
 use Rattle.std.proofs.lemmas.Slice.Eq.{bytes_eq-Decides}
+use Rattle.gp_base.specs.ListLaws.{contains_map, first_or_rest, here, nothing_in, recursion_at, there}
 use Rattle.gp_base.specs.Table.{value_at}
 use Rattle.gp_trace.specs.declared.lock_use.LockMode.{LockMode}
 use Rattle.gp_trace.specs.declared.lock_use.LockMode.TheVariants.{Exclusive, Shared}
@@ -46,32 +47,34 @@ pub uncontested : (traces : List LocalTraceForm) (epochs before : ℕ) → after
 uncontested traces epochs zero e below = refl
 uncontested traces epochs (suc before) e below = passed_from traces 0 (epochs - 1) (suc before) e (omega arith) (omega (arith, below))
 
--- one stands in the list
-abbrev pub Has : {X : Type 0} → X → List X → Type 0
-Has x [] = ⊥
-Has x (y ∷ ys) = (y ≡ x) ⊎ Has x ys
-
 -- of two tests that fail together
 neither : (a b : Bool) → (a || b) ≡ false → (a ≡ false) × (b ≡ false)
 neither true b e = absurd (true≢false e)
 neither false b e = (refl, e)
 
 -- a test that none passes
-passes_none : {X : Type 0} (test : X → Bool) (xs : List X) (x : X) → list_any test xs ≡ false → Has x xs → test x ≡ false
-passes_none test [] x none has = absurd has
-passes_none test (y ∷ ys) x none (inl same) = subst (λ z. test z ≡ false) same (neither (test y) (list_any test ys) none).0
-passes_none test (y ∷ ys) x none (inr has) = passes_none test ys x (neither (test y) (list_any test ys) none).1 has
+passes_none : {X : Type 0} (test : X → Bool) (xs : List X) (x : X) → list_any test xs ≡ false → Contains xs x → test x ≡ false
+passes_none test [] x none has = absurd (nothing_in x has)
+passes_none test (y ∷ ys) x none has =
+    let fails = neither (test y) (list_any test ys) none in
+    elim (first_or_rest y ys x has) [
+      | inl same ↦ subst (λ z. test z ≡ false) same fails.0
+      | inr more ↦ passes_none test ys x fails.1 more
+    ]
 
 found_none_at : {X Y : Type 0} (name : X → Y) (b : Bool) (y : X) (rest : Option X) → option_map name (cond b (Some y) rest) ≡ None → (b ≡ false) × (option_map name rest ≡ None)
 found_none_at name true y rest e = cc
 found_none_at name false y rest e = (refl, e)
 
 -- where none is found, none passes
-found_none : {X Y : Type 0} (name : X → Y) (test : X → Bool) (xs : List X) (x : X) → option_map name (find test xs) ≡ None → Has x xs → test x ≡ false
-found_none name test [] x none has = absurd has
-found_none name test (y ∷ ys) x none (inl same) =
-    subst (λ z. test z ≡ false) same (found_none_at name (test y) y (find test ys) none).0
-found_none name test (y ∷ ys) x none (inr has) = found_none name test ys x (found_none_at name (test y) y (find test ys) none).1 has
+found_none : {X Y : Type 0} (name : X → Y) (test : X → Bool) (xs : List X) (x : X) → option_map name (find test xs) ≡ None → Contains xs x → test x ≡ false
+found_none name test [] x none has = absurd (nothing_in x has)
+found_none name test (y ∷ ys) x none has =
+    let fails = found_none_at name (test y) y (find test ys) none in
+    elim (first_or_rest y ys x has) [
+      | inl same ↦ subst (λ z. test z ≡ false) same fails.0
+      | inr more ↦ found_none name test ys x fails.1 more
+    ]
 
 -- two tests, then a third, that fail together
 last_fails : (a b c : Bool) → (a && (b && c)) ≡ false → a ≡ true → b ≡ true → c ≡ false
@@ -85,7 +88,7 @@ same_thread true false e first = absurd (true≢false e)
 same_thread false b e first = absurd (false≢true first)
 
 -- a lock that is held alone by one thread is held by no other
-one_thread : (held : Holdings) (one other : Holding) → first_contested held ≡ None → Has one held → Has other held → is_exclusive one.1 ≡ true
+one_thread : (held : Holdings) (one other : Holding) → first_contested held ≡ None → Contains held one → Contains held other → is_exclusive one.1 ≡ true
     → other.0.0 ≡ one.0.0 → other.0.1 ≡ one.0.1
 one_thread held one other none first second alone same =
     let lock : List ℕ = one.0.0 in
@@ -105,7 +108,7 @@ less_name Equal second e apart = absurd (apart refl)
 less_name Greater second e apart = cc
 
 -- two locks that are held alone have names in the order of the holdings
-name_below : (held : Holdings) (one other : Holding) → first_contested held ≡ None → Has one held → Has other held → is_exclusive one.1 ≡ true
+name_below : (held : Holdings) (one other : Holding) → first_contested held ≡ None → Contains held one → Contains held other → is_exclusive one.1 ≡ true
     → holder_cmp one.0 other.0 ≡ Less → slice_cmp nat_cmp one.0.0 other.0.0 ≡ Less
 name_below held one other none first second alone less =
     less_name (slice_cmp nat_cmp one.0.0 other.0.0) (nat_cmp one.0.1 other.0.1) less (λ tied.
@@ -118,29 +121,29 @@ name_below held one other none first second alone less =
 
 -- the holdings of a part stand in the whole
 abbrev Within : Holdings → Holdings → Type 0
-Within part held = (one : Holding) → Has one part → Has one held
+Within part held = (one : Holding) → Contains part one → Contains held one
 
-names_above : (held part : Holdings) (one : Holding) → first_contested held ≡ None → Has one held → is_exclusive one.1 ≡ true → Within part held
+names_above : (held part : Holdings) (one : Holding) → first_contested held ≡ None → Contains held one → is_exclusive one.1 ≡ true → Within part held
     → AllByRecursion (λ key. holder_cmp one.0 key ≡ Less) (keys_of part)
     → AllByRecursion (λ name. slice_cmp nat_cmp one.0.0 name ≡ Less) (keys_of (holders_among part))
 names_above held [] one none has alone inside above = tt
 names_above held (other ∷ part) one none has alone inside above =
-    at (is_exclusive other.1) (names_above held part one none has alone (λ x among. inside x (inr among)) above.1)
+    at (is_exclusive other.1) (names_above held part one none has alone (λ x among. inside x (there _ _ _ among)) above.1)
   where
     at : (b : Bool) → AllByRecursion (λ name. slice_cmp nat_cmp one.0.0 name ≡ Less) (keys_of (holders_among part))
         → AllByRecursion (λ name. slice_cmp nat_cmp one.0.0 name ≡ Less)
         (keys_of (map (λ (x : Holding). x.0) (cond b (other ∷ filter (λ x. is_exclusive x.1) part) (filter (λ x. is_exclusive x.1) part))))
-    at true rest = (name_below held one other none has (inside other (inl refl)) alone above.0, rest)
+    at true rest = (name_below held one other none has (inside other (here _ _)) alone above.0, rest)
     at false rest = rest
 
 part_rises : (held part : Holdings) → first_contested held ≡ None → Within part held → Rise part → HasRisingNames (holders_among part)
 unfolding IsStrictlySortedBy
 part_rises held [] none inside rise = tt
-part_rises held (one ∷ part) none inside rise = at (is_exclusive one.1) refl (part_rises held part none (λ x among. inside x (inr among)) rise.1)
+part_rises held (one ∷ part) none inside rise = at (is_exclusive one.1) refl (part_rises held part none (λ x among. inside x (there _ _ _ among)) rise.1)
   where
     at : (b : Bool) → is_exclusive one.1 ≡ b → HasRisingNames (holders_among part)
         → HasRisingNames (map (λ (x : Holding). x.0) (cond b (one ∷ filter (λ x. is_exclusive x.1) part) (filter (λ x. is_exclusive x.1) part)))
-    at true is rest = (names_above held part one none (inside one (inl refl)) is (λ x among. inside x (inr among)) rise.0, rest)
+    at true is rest = (names_above held part one none (inside one (here _ _)) is (λ x among. inside x (there _ _ _ among)) rise.0, rest)
     at false is rest = rest
 
 -- the names of the locks that are held alone rise, where no lock is contested
@@ -150,12 +153,12 @@ holders_rise held none rise = part_rises held held none (λ one has. has) rise
 -- a holding at a place that is found among those that pass a test of their modes
 record Found (held : Holdings) (place : List ℕ × ℕ) (p : LockMode → Bool) : Type 0 where
   one : Holding
-  has : Has one held
+  has : Contains held one
   is : one.0 ≡ place
   passes : p one.1 ≡ true
 
 later : (held : Holdings) (first : Holding) (place : List ℕ × ℕ) (p : LockMode → Bool) → Found held place p → Found (first ∷ held) place p
-later held first place p found = record { one = found.one; has = inr found.has; is = found.is; passes = found.passes }
+later held first place p found = record { one = found.one; has = there _ _ _ found.has; is = found.is; passes = found.passes }
 
 found_at : (held : Holdings) (first : Holding) (place : List ℕ × ℕ) (p : LockMode → Bool) (b : Bool) → p first.1 ≡ b
     → (list_any (is_at (holder_cmp place)) (map (λ (x : Holding). x.0) (filter (λ x. p x.1) held)) ≡ true → Found held place p)
@@ -164,7 +167,7 @@ found_at : (held : Holdings) (first : Holding) (place : List ℕ × ℕ) (p : Lo
 found_at held first place p false is rest e = later held first place p (rest e)
 found_at held first place p true is rest e =
     elim (cases_Bool (is_at (holder_cmp place) first.0)) [
-      | inl here ↦ record { one = first; has = inl refl; is = sym (found_pair place first.0 here); passes = is }
+      | inl tied ↦ record { one = first; has = here _ _; is = sym (found_pair place first.0 tied); passes = is }
       | inr apart ↦ later held first place p (rest (rw apart at e))
     ]
 
@@ -174,25 +177,23 @@ found [] place p e = absurd (false≢true e)
 found (first ∷ held) place p e = found_at held first place p (p first.1) refl (found held place p) e
 
 -- a holding among holdings in order is told at its place
-told_at : (held : Holdings) (one : Holding) → Rise held → Has one held → value_at holder_cmp held one.0 ≡ Some one.1
+told_at : (held : Holdings) (one : Holding) → Rise held → Contains held one → value_at holder_cmp held one.0 ≡ Some one.1
 unfolding IsStrictlySortedBy
-told_at [] one rise has = absurd has
-told_at (first ∷ held) one rise (inl same) =
-    subst (λ (x : Holding). value_at holder_cmp (first ∷ held) x.0 ≡ Some x.1) same (let here = found_itself first.0 in rw here refl)
-told_at (first ∷ held) one rise (inr has) =
-    let less : holder_cmp first.0 one.0 ≡ Less = key_of held one has rise.0 in
-    elim (cases_Bool (is_at (holder_cmp one.0) first.0)) [
-      | inl here ↦
-          let same : one.0 ≡ first.0 = found_pair one.0 first.0 here in
-          let bad : holder_cmp first.0 first.0 ≡ Less = subst (λ p. holder_cmp first.0 p ≡ Less) same less in
-          absurd (false≢true (ap is_eq (sym bad) ∙ found_itself first.0))
-      | inr apart ↦ rw apart (told_at held one rise.1 has)
+told_at [] one rise has = absurd (nothing_in one has)
+told_at (first ∷ held) one rise has =
+    elim (first_or_rest first held one has) [
+      | inl same ↦ subst (λ (x : Holding). value_at holder_cmp (first ∷ held) x.0 ≡ Some x.1) same (let itself = found_itself first.0 in rw itself refl)
+      | inr more ↦
+          let less : holder_cmp first.0 one.0 ≡ Less =
+          recursion_at (λ key. holder_cmp first.0 key ≡ Less) (keys_of held) one.0 rise.0 (contains_map (λ (x : Holding). x.0) held one more) in
+          elim (cases_Bool (is_at (holder_cmp one.0) first.0)) [
+            | inl tied ↦
+                let same : one.0 ≡ first.0 = found_pair one.0 first.0 tied in
+                let bad : holder_cmp first.0 first.0 ≡ Less = subst (λ p. holder_cmp first.0 p ≡ Less) same less in
+                absurd (false≢true (ap is_eq (sym bad) ∙ found_itself first.0))
+            | inr apart ↦ rw apart (told_at held one rise.1 more)
+          ]
     ]
-  where
-    key_of : (xs : Holdings) (x : Holding) → Has x xs → AllByRecursion (λ key. holder_cmp first.0 key ≡ Less) (keys_of xs) → holder_cmp first.0 x.0 ≡ Less
-    key_of [] x has all = absurd has
-    key_of (y ∷ ys) x (inl same) all = subst (λ (z : Holding). holder_cmp first.0 z.0 ≡ Less) same all.0
-    key_of (y ∷ ys) x (inr has) all = key_of ys x has all.1
 
 both_ways : (mode : LockMode) → is_exclusive mode ≡ true → not (is_exclusive mode) ≡ true → ⊥
 both_ways Exclusive first second = false≢true second

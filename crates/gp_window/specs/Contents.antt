@@ -1,5 +1,5 @@
 -- The bytes of the input files of a folder: a function of the files alone.
-use Rattle.std.specs.Prelude.{ℕ, zero, suc, ◌+◌, List, [], length, Option, Some, None, Result, Ok, Err, if◌then◌else◌, nat_lt}
+use Rattle.std.specs.Prelude.{◌≡◌, ℕ, zero, suc, ◌+◌, List, [], length, Option, Some, None, Result, Ok, Err, if◌then◌else◌, nat_lt}
 use Rattle.gp_outside.specs.Folders.{File, file_named}
 use Rattle.gp_base.specs.Results.{then_rest}
 use Rattle.gp_window.specs.declared.content.ContentFault.{ContentFault}
@@ -29,3 +29,10 @@ content_cause (Absent file) = Some (Absent file)
 content_cause (TooLong file) = Some (TooLong file)
 content_cause ReadFailed = None
 content_cause Memory = None
+
+-- a fault that names a file names this one
+abbrev pub IsOf : FileName → ContentFault → Type 0
+IsOf file (Absent other) = other ≡ file
+IsOf file (TooLong other) = other ≡ file
+IsOf file ReadFailed = Unit {0}
+IsOf file Memory = Unit {0}

@@ -1,5 +1,5 @@
 -- A window of a recording, read off the recording.
-use Rattle.std.specs.Prelude.{ℕ, ℤ, pos, zero, suc, ◌≡◌, ◌≤◌, ◌+◌, ◌-◌, ◌++◌, Bool, false, not, ◌==◌, ◌||◌, List, [], ◌∷◌, Option, Some, None, filter, flat_map, map, nat_le}
+use Rattle.std.specs.Prelude.{ℕ, ℤ, pos, zero, suc, ◌≡◌, ◌≤◌, ◌+◌, ◌-◌, ◌++◌, Bool, false, not, ◌==◌, ◌||◌, List, [], ◌∷◌, Option, Some, None, filter, flat_map, map, nat_le, unwrap_or}
 use Rattle.std.specs.Cmp.Lexicographic.{slice_cmp}
 use Rattle.std.specs.Ordering.{int_eq, nat_cmp}
 use Rattle.gp_trace.specs.declared.event.Event.{Event}
@@ -9,7 +9,7 @@ use Rattle.gp_window.specs.declared.manifest.StartValue.{StartValue}
 use Rattle.gp_window.specs.Holders.{held_over, holders_among, readers_among, segment_after}
 use Rattle.gp_window.specs.RecordingForm.{RecordingForm, IsRecording}
 use Rattle.gp_window.specs.Starts.{is_among}
-use Rattle.gp_base.specs.Table.{with_entry}
+use Rattle.gp_base.specs.Table.{value_at, with_entry}
 
 -- a window: its number, the events of each thread in it, and what holds when it begins
 pub record WindowForm : Type 0 where
@@ -38,6 +38,10 @@ is_kept value = not (int_eq value.1 (pos 0))
 -- the start values of a window, without those that are 0
 abbrev pub start_values_of : List StartValue → ℕ → List (List ℕ × ℤ)
 start_values_of given k = filter is_kept (values_at given k)
+
+-- the value of a variable among these; one that is not there is 0
+abbrev pub value_in : List (List ℕ × ℤ) → List ℕ → ℤ
+value_in values variable = unwrap_or (value_at (slice_cmp nat_cmp) values variable) (pos 0)
 
 -- the thread that an event starts
 abbrev pub started_by : Event → List ℕ
@@ -87,6 +91,10 @@ window_of r k = record {
   started = started_of r (k - 1);
   exited = exited_of k r.traces;
 }
+
+-- the value of a variable when a window begins
+abbrev pub start_value : WindowForm → List ℕ → ℤ
+start_value window variable = value_in window.start_values variable
 
 -- a window is one of the windows of some recording
 pub record IsWindow (w : WindowForm) : Type 0 where

@@ -1,8 +1,8 @@
-ghost use Rattle.std.specs.Prelude.{ℕ, ◌≡◌, ◌≤◌, All, List, Some, Err, IfOk, length};
+ghost use Rattle.std.specs.Prelude.{ℕ, ◌≡◌, ◌≤◌, All, List, Some, Err, IfErr, IfOk, length};
 ghost use Rattle.gp_outside.specs.Faults.{Rose};
-ghost use Rattle.gp_outside.specs.Folders.{File};
-ghost use Rattle.gp_window.specs.Contents.{content_cause, content_of, contents_from};
-ghost use Rattle.gp_window.specs.FileNames.{limit_of};
+ghost use Rattle.gp_outside.specs.Folders.{File, HasNone};
+ghost use Rattle.gp_window.specs.Contents.{content_cause, content_of, contents_from, IsOf};
+ghost use Rattle.gp_window.specs.FileNames.{limit_of, path_of};
 ghost use Rattle.gp_window.specs.Gives.{Gives};
 
 use crate::file_name::FileName;
@@ -46,6 +46,9 @@ pub fn content_of<F: Folder>(
     ensures told { (files : List File) → F.files folder.old ≡ Some files
         → Gives content_cause result (content_of files directory.now file.now) }
     ensures fits { IfOk result (λ bytes. length bytes ≤ limit_of file.now) }
+    ensures named { IfErr result (IsOf file.now) }
+    ensures absent { (other : FileName) → result ≡ Err (ContentFault.Absent other)
+        → HasNone (F.files folder.old) (path_of directory.now other) (Rose (F.faults folder.old) (F.faults folder.new)) }
     ensures fault { result ≡ Err ContentFault.ReadFailed → Rose (F.faults folder.old) (F.faults folder.new) }
 {
     let path = file.path(alloc, directory)?;
@@ -70,6 +73,8 @@ pub fn contents_of<F: Folder>(
     ensures kept { F.files folder.new ≡ F.files folder.old }
     ensures told { (files : List File) → F.files folder.old ≡ Some files
         → Gives content_cause result (contents_from files directory.now 1 threads) }
+    ensures absent { (other : FileName) → result ≡ Err (ContentFault.Absent other)
+        → HasNone (F.files folder.old) (path_of directory.now other) (Rose (F.faults folder.old) (F.faults folder.new)) }
     ensures fault { result ≡ Err ContentFault.ReadFailed → Rose (F.faults folder.old) (F.faults folder.new) }
     ensures count { IfOk result (λ contents. length contents ≡ threads) }
     ensures fits { IfOk result (All (λ bytes. length bytes ≤ 2097152)) }

@@ -23,18 +23,22 @@ mod starts;
 mod users;
 mod walk;
 mod window;
+mod windows;
 
 pub use content::{ContentFault, content_of};
 pub use event_id::{event_id_of, event_ids_read_exactly, put_event_id};
 pub use fault::RecordingFault;
 pub use file_name::FileName;
-pub use laws::{manifests_are_spelled, windows_are_formed};
+pub use laws::{
+    manifests_are_spelled, marks_are_told, starts_are_told, windows_are_formed, windows_follow,
+};
 pub use manifest::{
     MOST_EPOCHS, MOST_FORMAT, MOST_THREADS, Manifest, ManifestFault, StartValue, read_manifest,
 };
 pub use reading::read_recording;
 pub use recording::Recording;
-pub use schedule::{EventId, Schedule};
+pub use schedule::{EventId, Schedule, contains_event};
 pub use starts::is_among;
 pub use walk::{WindowWalk, cut};
 pub use window::Window;
+pub use windows::Windows;

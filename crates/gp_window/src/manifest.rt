@@ -8,7 +8,9 @@ ghost use Rattle.gp_window.specs.Number.{is_rising};
 
 use crate::numbers::{is_rising, numbers_of};
 use gp_base::{Row, Table};
-use gp_text::{Line, Name, TextFault, Word, between, end_line, number_after, read_i64, read_lines, read_u32};
+use gp_text::{
+    Line, Name, TextFault, Word, between, end_line, number_after, read_i64, read_lines, read_u32,
+};
 use std::alloc::{AllocError, Global};
 use std::marker::Model;
 use thiserror::Error;

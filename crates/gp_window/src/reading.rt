@@ -1,8 +1,9 @@
 ghost use Rattle.std.specs.Prelude.{ℕ, ◌≡◌, ◌≢◌, ◌≤◌, ◌<◌, ◌+◌, ◌-◌, ◌^◌, [], All, List, Some, Result, Err, IfOk, length, slice_index_or};
 ghost use Rattle.gp_outside.specs.Faults.{Rose};
-ghost use Rattle.gp_outside.specs.Folders.{File};
+ghost use Rattle.gp_outside.specs.Folders.{File, HasNone};
 ghost use Rattle.gp_trace.specs.declared.fault.TraceFault.{TraceFault};
 ghost use Rattle.gp_trace.specs.Trace.{LocalTraceForm};
+ghost use Rattle.gp_window.specs.FileNames.{path_of};
 ghost use Rattle.gp_window.specs.ManifestForm.{IsManifest};
 ghost use Rattle.gp_window.specs.Parsed.{AreTraces, IsRead, gathered};
 ghost use Rattle.gp_window.specs.Gives.{Gives};
@@ -33,6 +34,8 @@ pub fn read_recording<R: Threads + Sync, F: Folder>(
     ensures kept { F.files folder.new ≡ F.files folder.old }
     ensures told { (files : List File) → F.files folder.old ≡ Some files
         → Gives recording_cause result (recording_of files directory.now) }
+    ensures absent { (other : FileName) → result ≡ Err (RecordingFault.Absent other)
+        → HasNone (F.files folder.old) (path_of directory.now other) (Rose (F.faults folder.old) (F.faults folder.new)) }
     ensures fault { result ≡ Err RecordingFault.ReadFailed → Rose (F.faults folder.old) (F.faults folder.new) }
 {
     let manifest = manifest_at(alloc, folder, directory)?;
@@ -49,6 +52,8 @@ fn manifest_at<F: Folder>(
     ensures kept { F.files folder.new ≡ F.files folder.old }
     ensures told { (files : List File) → F.files folder.old ≡ Some files
         → Gives recording_cause result (manifest_at files directory.now) }
+    ensures absent { (other : FileName) → result ≡ Err (RecordingFault.Absent other)
+        → HasNone (F.files folder.old) (path_of directory.now other) (Rose (F.faults folder.old) (F.faults folder.new)) }
     ensures fault { result ≡ Err RecordingFault.ReadFailed → Rose (F.faults folder.old) (F.faults folder.new) }
 {
     let bytes = content_of(alloc, folder, directory, &FileName::Manifest)?;

@@ -12,8 +12,8 @@ use gp_trace::{Event, LocalTrace};
 use std::alloc::{AllocError, Global};
 use std::marker::Model;
 
-/// A walk over the windows of a recording, in order. It carries from window to window what holds when
-/// one begins, so that all windows together cost what the recording's size is.
+/// A walk that stands at a window of a recording. It carries from window to window what holds when one
+/// begins, so that all windows together cost what the recording's size is.
 #[derive(Drop)]
 pub struct WindowWalk<'a> {
     recording: &'a Recording,
@@ -49,6 +49,23 @@ impl<'a> WindowWalk<'a> {
             holders: Holders::new(alloc),
             started: Row::new(alloc),
         })
+    }
+
+    /// The walk that stands at window `k` of the recording. It goes past all windows before.
+    pub(crate) fn at(
+        alloc: Global,
+        recording: &'a Recording,
+        k: u32,
+    ) -> Result<WindowWalk<'a>, AllocError>
+        requires first { 1 ≤ k }
+        requires last { k ≤ recording.now.manifest.epochs }
+        ensures { IfOk result (λ walk. (walk.recording ≡ recording.now) × (walk.number ≡ k)) }
+    {
+        let mut walk = WindowWalk::new(alloc, recording)?;
+        for number in 1..k {
+            walk = walk.next()?;
+        }
+        Ok(walk)
     }
 
     /// The number of the window at which the walk stands.
@@ -120,10 +137,7 @@ pub fn cut(alloc: Global, recording: &Recording, k: u32) -> Result<Window, Alloc
     requires last { k ≤ recording.now.manifest.epochs }
     ensures { IfOk result (λ window. window ≡ window_of recording.now k) }
 {
-    let mut walk = WindowWalk::new(alloc, recording)?;
-    for number in 1..k {
-        walk = walk.next()?;
-    }
+    let walk = WindowWalk::at(alloc, recording, k)?;
     walk.window(alloc)
 }
 

@@ -1,4 +1,3 @@
 pub mod Countable
 pub mod Grammar
 pub mod Runs
-pub mod Starts

@@ -50,6 +50,23 @@ stays_held window state middle id Shared lock thread e held =
       | inr (inr left) ↦ inr (left.1, left.2 ∙ held)
     ]
 
+-- a lock that is held was taken by the event so, or was held so before and is not given back by its thread
+pub held_before : (window : WindowForm) (state middle : State) (id : EventId) (mode : LockMode) (lock : List ℕ) (thread : ℕ)
+    → next window state id ≡ Ok middle → IsHeldBy middle mode lock thread
+    → ((id.thread ≡ thread) × Takes window mode id lock) ⊎ ((id.thread ≡ thread → GivesBack window mode id lock → ⊥) × IsHeldBy state mode lock thread)
+held_before window state middle id Exclusive lock thread e held =
+    elim (step_turns window state middle id lock e) [
+      | inl took ↦ inl ((let same : ◌≡◌ {A = Option ℕ} (Some id.thread) (Some thread) = sym took.2 ∙ held in cc), took.0)
+      | inr (inl freed) ↦ (let bad : ◌≡◌ {A = Option ℕ} None (Some thread) = sym freed.1 ∙ held in cc)
+      | inr (inr left) ↦ inr ((λ own gives. left.1 gives), sym left.2 ∙ held)
+    ]
+held_before window state middle id Shared lock thread e held =
+    elim (step_shifts window state middle id lock thread e) [
+      | inl took ↦ inl (took.0, took.1)
+      | inr (inl gave) ↦ absurd (true≢false (sym held ∙ gave.2))
+      | inr (inr left) ↦ inr (left.1, sym left.2 ∙ held)
+    ]
+
 -- who takes a lock that is held takes it as a reader beside readers
 pub takes_beside : (window : WindowForm) (state middle : State) (id : EventId) (mode other : LockMode) (lock : List ℕ) (thread : ℕ)
     → next window state id ≡ Ok middle → Takes window other id lock → IsHeldBy state mode lock thread → (mode ≡ Shared) × (other ≡ Shared)

@@ -1,4 +1,8 @@
+pub mod Alike
+pub mod AlikeLaws
 pub mod CountLaws
+pub mod Counted
+pub mod CountedLaws
 pub mod ExclusionLaws
 pub mod Faults
 pub mod Feasible
@@ -20,9 +24,12 @@ pub mod Sharing
 pub mod SharingLaws
 pub mod SizeLaws
 pub mod Start
+pub mod StartLaws
 pub mod Step
 pub mod StepFault
 pub mod StepLaws
+pub mod Told
+pub mod ToldLaws
 pub mod UseLaws
 pub mod Value
 pub mod ValueLaws

@@ -128,7 +128,7 @@ level one Equal back up down = back
 level one Greater back up down = absurd (true≢false down)
 
 -- a lock that has a reader has some thread as one
-some_reader : (readers : List (List ℕ × ℕ)) (lock : List ℕ) → has_reader readers lock ≡ true → (thread : ℕ) × (is_reader readers lock thread ≡ true)
+pub some_reader : (readers : List (List ℕ × ℕ)) (lock : List ℕ) → has_reader readers lock ≡ true → (thread : ℕ) × (is_reader readers lock thread ≡ true)
 some_reader [] lock e = absurd (false≢true e)
 some_reader (reader ∷ readers) lock e =
     elim (cases_Bool (bytes_eq reader.0 lock)) [

@@ -19,7 +19,7 @@ use Rattle.gp_replay.specs.RunLaws.{runs_split}
 use Rattle.gp_replay.specs.UseLaws.{used}
 
 -- two threads at two locks are the same, or not
-same_reader : (lock name : List ℕ) (thread other : ℕ) → ((lock ≡ name) × (thread ≡ other)) ⊎ (lock ≡ name → thread ≡ other → ⊥)
+pub same_reader : (lock name : List ℕ) (thread other : ℕ) → ((lock ≡ name) × (thread ≡ other)) ⊎ (lock ≡ name → thread ≡ other → ⊥)
 same_reader lock name thread other =
     elim (same_or_apart lock name) [
       | inl same ↦ elim (cases_eq thread other) [

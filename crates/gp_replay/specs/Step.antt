@@ -4,7 +4,7 @@
 -- thread does its own events in order, it does none before it is started, and a read finds what was
 -- last written, by whatever thread. A lock has one holder at a time, or any number of readers, and a
 -- join waits for the end of its thread.
-use Rattle.std.specs.Prelude.{ℕ, ℤ, zero, suc, pos, Bool, ◌&&◌, ◌||◌, ◌+◌, ◌++◌, ◌==◌, List, [], ◌∷◌, Option, Some, None, Result, Ok, Err, is_some, if◌then◌else◌, slice_index, slice_set, length, replicate, unwrap_or}
+use Rattle.std.specs.Prelude.{ℕ, ℤ, zero, suc, Bool, ◌&&◌, ◌||◌, ◌+◌, ◌++◌, ◌==◌, List, [], ◌∷◌, Option, Some, None, Result, Ok, Err, is_some, if◌then◌else◌, slice_index, slice_set, length, replicate}
 use Rattle.std.specs.Ordering.{nat_cmp, int_eq}
 use Rattle.std.specs.Cmp.Lexicographic.{slice_cmp}
 use Rattle.gp_base.specs.Results.{and_then}
@@ -18,7 +18,7 @@ use Rattle.gp_trace.specs.declared.lock_use.LockUse.{LockUse}
 use Rattle.gp_trace.specs.declared.lock_use.LockUse.TheVariants.{Take, GiveBack}
 use Rattle.gp_window.specs.Events.{event_at, size_of}
 use Rattle.gp_window.specs.Starts.{is_among}
-use Rattle.gp_window.specs.WindowForm.{WindowForm}
+use Rattle.gp_window.specs.WindowForm.{value_in, WindowForm}
 use Rattle.gp_window.specs.declared.schedule.EventId.{EventId}
 use Rattle.gp_replay.specs.Readers.{has_reader, with_reader, with_readers, without_reader}
 use Rattle.gp_replay.specs.declared.state.State.{State}
@@ -32,7 +32,7 @@ count_of state (suc place) = slice_index state.counts place
 
 -- the value that a variable has; 0 where nothing is kept for it
 abbrev pub value_of : State → List ℕ → ℤ
-value_of state variable = unwrap_or (value_at (slice_cmp nat_cmp) state.values variable) (pos 0)
+value_of state variable = value_in state.values variable
 
 -- the thread that holds a lock by an acquire, where one does
 abbrev pub holder_of : State → List ℕ → Option ℕ

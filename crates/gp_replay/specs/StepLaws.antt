@@ -1,6 +1,7 @@
 -- Laws: what a step that was made says.
 use Rattle.std.proofs.Common.{◌≡◌, Bool, true, false, refl, eqb-true}
-use Rattle.std.specs.Prelude.{Option, Some, None, Result, Ok, Err, if◌then◌else◌}
+use Rattle.std.specs.Prelude.{Option, Some, None, Result, Ok, Err, ◌==◌, if◌then◌else◌}
+use Rattle.std.proofs.lemmas.Bool.{eq-eqb}
 use Rattle.gp_trace.specs.declared.event.Event.{Event}
 use Rattle.gp_window.specs.declared.schedule.EventId.{EventId}
 use Rattle.gp_window.specs.WindowForm.{WindowForm}
@@ -64,3 +65,11 @@ stepped_with window state middle id (Some event) there e =
 
 pub stepped : (window : WindowForm) (state middle : State) (id : EventId) → next window state id ≡ Ok middle → Stepped window state middle id
 stepped window state middle id e = stepped_with window state middle id (event_at window id) refl e
+
+-- an event in its turn, of a started thread, which is allowed, happens
+pub happens : (window : WindowForm) (state : State) (id : EventId) (event : Event)
+    → event_at window id ≡ Some event → count_of state id.thread ≡ id.index → is_among state.started id.thread ≡ true
+    → allowed_in window state event ≡ Ok tt → next window state id ≡ Ok (after id.thread event state)
+happens window state id event there turn started allowed =
+    let due : (count_of state id.thread == id.index) ≡ true = eq-eqb (count_of state id.thread) id.index turn in
+    rw there (rw due (rw started (rw allowed refl)))

@@ -1,10 +1,13 @@
+ghost use Rattle.gp_replay.specs.Alike.{AlikeStatesStepAlike};
+ghost use Rattle.gp_replay.specs.Counted.{EventsAreCounted};
 ghost use Rattle.gp_replay.specs.Feasible.{EventsHappenOnce, PrefixesAreFeasible, ReplayMeansFeasible};
 ghost use Rattle.gp_replay.specs.Grammar.{SchedulesReadExactly};
 ghost use Rattle.gp_replay.specs.Holder.{HoldersAcquired, LocksHaveOneHolder};
-ghost use Rattle.gp_replay.specs.Order.{JoinsComeLast, StartsComeFirst};
+ghost use Rattle.gp_replay.specs.Order.{JoinsComeLast, StartsComeFirst, ThreadsAreStarted};
 ghost use Rattle.gp_replay.specs.Part.{PartsArePrefixes};
 ghost use Rattle.gp_replay.specs.Sharing.{HoldersStayAlone, ReadersAcquired};
 ghost use Rattle.gp_replay.specs.Start.{BeginsAsTold};
+ghost use Rattle.gp_replay.specs.Told.{HoldsAreTold};
 ghost use Rattle.gp_replay.specs.Value.{ReadsFindLastWrites, ValuesAreLastWrites};
 
 use gp_text::one_spelling;
@@ -91,6 +94,30 @@ pub fn readers_acquired()
 /// After a feasible schedule of a window a lock that has a holder has no reader.
 pub fn holders_stay_alone()
     ensures { HoldersStayAlone }
+{
+    windows_are_formed();
+}
+
+/// States that tell the same take the same steps, and tell the same after them.
+pub fn alike_states_step_alike()
+    ensures { AlikeStatesStepAlike }
+{}
+
+/// An event is in a feasible schedule exactly where its thread has counted it in the last state.
+pub fn events_are_counted()
+    ensures { EventsAreCounted }
+{}
+
+/// After a feasible schedule a thread is started exactly where it was when the window began, or by an
+/// event of the schedule; and each thread that has done something is started.
+pub fn threads_are_started()
+    ensures { ThreadsAreStarted }
+{}
+
+/// After a feasible schedule of a window a thread holds a lock, alone or as a reader, exactly where it
+/// does so by its own trace.
+pub fn holds_are_told()
+    ensures { HoldsAreTold }
 {
     windows_are_formed();
 }

@@ -1,4 +1,4 @@
-use Rattle.gp_replay.proofs.Starts.{held_as_told, holders_as_told, read_as_told, readers_as_told, values_as_told}
+use Rattle.gp_replay.specs.StartLaws.{held_as_told, holders_as_told, read_as_told, readers_as_told, values_as_told}
 use Rattle.gp_replay.proofs.laws.begins_as_told.Goals as goal
 
 pub returns : goal.returns

@@ -2,7 +2,7 @@ use Rattle.gp_replay.specs.Step.{start_state}
 use Rattle.gp_replay.specs.ExclusionLaws.{run_alone}
 use Rattle.gp_replay.specs.HolderLaws.{holds_is_holder}
 use Rattle.gp_replay.specs.SharingLaws.{sharer_is_reader}
-use Rattle.gp_replay.proofs.Starts.{alone_at_start}
+use Rattle.gp_replay.specs.StartLaws.{alone_at_start}
 use Rattle.gp_replay.proofs.laws.holders_stay_alone.Goals as goal
 
 pub returns : goal.returns

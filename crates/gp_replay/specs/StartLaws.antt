@@ -1,4 +1,4 @@
--- Entries that are put into a table in the order of their keys.
+-- Laws: a window begins as it tells, where it is formed.
 use Rattle.std.proofs.Common.{ℕ, true, ◌≡◌, ◌∙◌, sym, ap, refl, subst, List, [], ◌∷◌, ◌++◌, append_assoc}
 use Rattle.std.specs.Prelude.{◌↔◌, Some}
 use Rattle.std.specs.declared.cmp.Ordering.{Ordering}

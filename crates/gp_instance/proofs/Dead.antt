@@ -2,18 +2,14 @@
 use Rattle.std.proofs.Common.{◌≡◌, refl, ap, ◌∙◌, sym, suc, Bool, true, false, cond, List, [], ◌∷◌, map, length, arith}
 use Rattle.std.specs.Prelude.{filter, ◌||◌, Option, Some, None}
 use Rattle.std.specs.List.{flat_map, list_any}
+use Rattle.std.proofs.lemmas.Bool.{or_right}
 use Rattle.std.proofs.Math.Dec.{eqb-suc-zero}
+use Rattle.gp_base.specs.FilterLaws.{flat_map_agree}
 use Rattle.gp_trace.specs.declared.event.Event.{Event}
 use Rattle.gp_window.specs.declared.schedule.EventId.{EventId}
 use Rattle.gp_property.specs.declared.atoms.PatternAtom.{PatternAtom}
 use Rattle.gp_instance.specs.declared.chosen.Chosen.{Chosen}
 use Rattle.gp_instance.specs.Search.{chosen_of, FindsSame, is_dead, Leaves, may_stand, narrowed, search, unless_dead}
-use Rattle.gp_instance.proofs.Lists.{flat_map_agree}
-
--- one test fails, so the other passes
-pub other_passes : (a b : Bool) → b ≡ true → (a || b) ≡ true
-other_passes true b passes = refl
-other_passes false b passes = passes
 
 -- the first has something left, so one of the rest has nothing
 rest_dead : (id : EventId) (ids : List EventId) (domains : List (List EventId)) → list_any is_dead ((id ∷ ids) ∷ domains) ≡ true → list_any is_dead domains ≡ true
@@ -27,7 +23,7 @@ stays_dead segments chosen [] (ids ∷ domains) same dead = absurd (omega arith)
 stays_dead segments chosen (atom ∷ atoms) [] same dead = absurd (omega arith)
 stays_dead segments chosen (atom ∷ atoms) ([] ∷ domains) same dead = refl
 stays_dead segments chosen (atom ∷ atoms) ((id ∷ ids) ∷ domains) same dead =
-    other_passes (is_dead (filter (may_stand segments chosen atom) (id ∷ ids))) (list_any is_dead (narrowed segments chosen atoms domains))
+    or_right (is_dead (filter (may_stand segments chosen atom) (id ∷ ids))) (list_any is_dead (narrowed segments chosen atoms domains))
     (stays_dead segments chosen atoms domains (omega arith) (rest_dead id ids domains dead))
 
 -- as many domains as atoms

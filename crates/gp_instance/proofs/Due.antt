@@ -1,17 +1,15 @@
 -- The instances that were found are those that are due.
-use Rattle.std.proofs.Common.{◌≡◌, ap, ◌∙◌, subst, sym, ℕ, ◌<◌, ◌≤◌, cond, List, [], length, map, arith}
+use Rattle.std.proofs.Common.{◌≡◌, ap, ◌∙◌, ℕ, ◌<◌, ◌≤◌, List, [], length, map}
 use Rattle.std.specs.Prelude.{Ok, Err}
-use Rattle.std.proofs.lemmas.Bool.{le-ltb, lt-ltb}
-use Rattle.std.proofs.lemmas.List.{length-map}
 use Rattle.gp_window.specs.WindowForm.{WindowForm}
 use Rattle.gp_property.specs.PropertyForm.{PropertyForm}
 use Rattle.gp_instance.specs.declared.instance.Instance.{Instance}
 use Rattle.gp_instance.specs.declared.instance.InstancesFault.TheVariants.{TooMany}
 use Rattle.gp_property.specs.Atoms.{atoms_of}
 use Rattle.gp_instance.specs.Instances.{due_instances, instances_of, numbered}
+use Rattle.gp_instance.specs.LimitLaws.{all_due, many_due}
 use Rattle.gp_instance.specs.Search.{candidates_of, first_instances, search}
 use Rattle.gp_instance.proofs.Found.{search_finds}
-use Rattle.gp_instance.proofs.Limit.{all-first, length-first}
 
 -- what the search of a window finds up to the limit
 abbrev pub found_of : WindowForm → PropertyForm → ℕ → List Instance
@@ -26,18 +24,10 @@ found_is window property number = ap (λ lists. first_instances [] (map (numbere
 pub due_too_many : (window : WindowForm) (property : PropertyForm) (number : ℕ) (found : List Instance)
     → found ≡ found_of window property number → 10000 < length found → Err TooMany ≡ due_instances window property number
 unfolding due_instances
-due_too_many window property number found is over =
-    let listed = instances_of window property in
-    let many : 10000 < length listed = omega (arith, length-first (map (numbered number) listed) (subst (λ xs. 10000 < length xs) (is ∙ found_is window property number) over), length-map listed (numbered number)) in
-    ap (λ b. cond b (Err TooMany) (Ok (map (numbered number) listed))) (sym (lt-ltb 10000 (length listed) many))
+due_too_many window property number found is over = many_due number (instances_of window property) found (is ∙ found_is window property number) over
 
 -- not too many
 pub due_all : (window : WindowForm) (property : PropertyForm) (number : ℕ) (found : List Instance)
     → found ≡ found_of window property number → length found ≤ 10000 → Ok found ≡ due_instances window property number
 unfolding due_instances
-due_all window property number found is few =
-    let listed = instances_of window property in
-    let all = all-first (map (numbered number) listed) (subst (λ xs. length xs ≤ 10000) (is ∙ found_is window property number) few) in
-    let short : length listed ≤ 10000 = omega (arith, all.0, length-map listed (numbered number)) in
-    ap Ok (is ∙ found_is window property number ∙ all.1)
-    ∙ ap (λ b. cond b (Err TooMany) (Ok (map (numbered number) listed))) (sym (le-ltb 10000 (length listed) short))
+due_all window property number found is few = all_due number (instances_of window property) found (is ∙ found_is window property number) few

@@ -1,5 +1,5 @@
 -- The table of ends, made in one walk from the last event to the first, has the end of each region.
-use Rattle.std.proofs.Common.{◌≡◌, refl, ap, ◌∙◌, sym, subst, ℕ, zero, suc, ◌+◌, ◌<◌, ◌≤◌, Bool, true, false, cond, List, [], ◌∷◌, ◌++◌, length, drop, map, get_or, reverse, arith}
+use Rattle.std.proofs.Common.{◌≡◌, refl, ap, ◌∙◌, sym, ℕ, zero, suc, ◌+◌, ◌<◌, ◌≤◌, Bool, true, false, cond, List, [], ◌∷◌, ◌++◌, length, drop, map, get_or, reverse, arith}
 use Rattle.std.specs.Prelude.{Option, Some, None, position, count_by, ◌==◌, ◌&&◌, nat_lt, not, slice_get, unwrap_or}
 use Rattle.std.specs.Option.{option_flatten, option_map}
 use Rattle.std.specs.List.{position_or_len}
@@ -18,11 +18,11 @@ waiting_from index [] = []
 waiting_from index (event ∷ events) = waiting_at event index (waiting_from (index + 1) events)
 
 -- so many more regions end than begin
-abbrev is_over : ℕ → List Event → Bool
+abbrev pub is_over : ℕ → List Event → Bool
 is_over n events = count_by is_begin events + n == count_by is_end events
 
 -- the first place in a list at which a test passes
-position_cons : {A : Type 0} (p : A → Bool) (x : A) (xs : List A) → position p (x ∷ xs) ≡ cond (p x) (Some 0) (option_map suc (position p xs))
+pub position_cons : {A : Type 0} (p : A → Bool) (x : A) (xs : List A) → position p (x ∷ xs) ≡ cond (p x) (Some 0) (option_map suc (position p xs))
 position_cons p x xs = by_cases (p x)
   where
     later : (n len : ℕ) → cond (nat_lt (1 + n) (suc len)) (Some (1 + n)) None ≡ option_map suc (cond (nat_lt n len) (Some n) None)
@@ -48,7 +48,7 @@ position_agree p q f same (x ∷ xs) =
     ∙ sym (position_cons q x xs)
 
 -- the first front that passes, behind one event more
-over_at : (p q : List Event → Bool) (event : Event) (events : List Event) → ((front : List Event) → p (event ∷ front) ≡ q front) → p (event ∷ []) ≡ false
+pub over_at : (p q : List Event → Bool) (event : Event) (events : List Event) → ((front : List Event) → p (event ∷ front) ≡ q front) → p (event ∷ []) ≡ false
     → position p (fronts (event ∷ events)) ≡ option_map suc (position q (fronts events))
 over_at p q event events same not_here =
     position_cons p (event ∷ []) (map (λ front. event ∷ front) (fronts events))
@@ -61,7 +61,7 @@ one_further i None = refl
 one_further i (Some p) = ap Some (omega arith)
 
 -- equal tests of sums
-same_sums : (a b c d : ℕ) → (a ≡ b → c ≡ d) → (c ≡ d → a ≡ b) → (a == b) ≡ (c == d)
+pub same_sums : (a b c d : ℕ) → (a ≡ b → c ≡ d) → (c ≡ d → a ≡ b) → (a == b) ≡ (c == d)
 same_sums a b c d there back = grind (arith, nat_tests)
 
 -- no first element
@@ -75,7 +75,7 @@ one_kind (Begin name) = refl
 one_kind other = refl
 
 -- the tests at one event more
-over_step : (b e : Bool) (n m : ℕ) (event : Event) (front : List Event) → is_begin event ≡ b → is_end event ≡ e → cond b 1 0 + n ≡ cond e 1 0 + m
+pub over_step : (b e : Bool) (n m : ℕ) (event : Event) (front : List Event) → is_begin event ≡ b → is_end event ≡ e → cond b 1 0 + n ≡ cond e 1 0 + m
     → is_over n (event ∷ front) ≡ is_over m front
 over_step b e n m event front is is' shift =
     let begun = count_by is_begin front in

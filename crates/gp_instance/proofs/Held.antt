@@ -1,5 +1,5 @@
 -- Events that are held by the span of their key.
-use Rattle.std.proofs.Common.{◌≡◌, refl, ap, ◌∙◌, sym, ℕ, ◌+◌, ◌<◌, ◌⊎◌, inl, inr, Bool, true, false, cond, subst, below_more, List, length, get_or, arith}
+use Rattle.std.proofs.Common.{◌≡◌, refl, ap, ◌∙◌, sym, ℕ, ◌+◌, ◌<◌, inl, inr, Bool, true, false, cond, subst, below_more, List, length, get_or}
 use Rattle.std.specs.Prelude.{All, IfSome, IfOk, Option, Some, None, Result, Ok, Err, filter}
 use Rattle.std.specs.Ordering.{is_eq, nat_cmp}
 use Rattle.std.specs.Cmp.Lexicographic.{slice_cmp}

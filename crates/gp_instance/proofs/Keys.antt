@@ -1,8 +1,9 @@
 -- Events that may stand beside each other have equal keys.
 use Rattle.std.proofs.Common.{◌≡◌, refl, ap, ◌∙◌, sym, subst, ℕ, zero, suc, ◌<◌, Bool, true, false, not, List, [], ◌∷◌, ◌++◌, length, arith, eqb-true, eq-eqb, cond}
-use Rattle.std.specs.Prelude.{◌&&◌, ◌||◌, ◌==◌, Option, Some, None, slice_get, zip, nat_lt}
-use Rattle.std.specs.List.{list_all, flat_map}
+use Rattle.std.specs.Prelude.{◌||◌, ◌==◌, Option, Some, None, slice_get, nat_lt}
+use Rattle.std.specs.List.{list_all}
 use Rattle.std.specs.Str.{bytes_eq}
+use Rattle.std.proofs.lemmas.Bool.{and_parts}
 use Rattle.std.proofs.lemmas.Bool.Decides.{nat_tests}
 use Rattle.std.proofs.lemmas.Slice.Eq.{bytes_eq-Decides}
 use Rattle.std.proofs.lemmas.List.Folds.{list_all-append}
@@ -13,15 +14,14 @@ use Rattle.gp_property.specs.declared.property.Term.{Term}
 use Rattle.gp_property.specs.declared.property.Term.TheVariants as term
 use Rattle.gp_property.specs.declared.atoms.PatternAtom.{PatternAtom}
 use Rattle.gp_instance.specs.declared.link.Link.{Link}
-use Rattle.gp_instance.specs.declared.link.Side.{Side}
 use Rattle.gp_instance.specs.declared.link.Side.TheVariants.{First, Second}
-use Rattle.gp_instance.specs.Instance.{agree, bindings, bindings_with, choice_of, closes, is_at, is_same, is_same_mark}
+use Rattle.gp_instance.specs.Instance.{agree, bindings, bindings_with, choice_of, is_at, is_same_mark}
 use Rattle.gp_window.specs.Events.{event_in, segment_in}
-use Rattle.gp_instance.specs.Partners.{are_one_parameter, IsLink, index_part, is_bound, is_shared, key_of, name_part, names_with, opener, place_on, region_index, shared_names, thread_index}
+use Rattle.gp_window.specs.Ids.{is_same}
+use Rattle.gp_instance.specs.Partners.{are_one_parameter, IsLink, index_part, is_bound, is_shared, key_of, name_part, names_with, opener, region_index, shared_names, thread_index}
 use Rattle.gp_instance.specs.Region.{end_of}
 use Rattle.gp_instance.specs.Search.{all_agree, chosen_of, end_if_opened, may_stand}
-use Rattle.gp_instance.specs.Shape.{binding_of, bindings_in, names_of, terms_of}
-use Rattle.gp_instance.proofs.Holding.{both}
+use Rattle.gp_instance.specs.Shape.{binding_of, bindings_in, terms_of}
 
 -- equal bytes
 pub same_bytes : (xs ys : List ℕ) → bytes_eq xs ys ≡ true → xs ≡ ys
@@ -36,10 +36,10 @@ bound_passes test (t ∷ terms) (n ∷ names) zero parameter name is_term is_nam
     let here : t ≡ term.Param parameter = cc in
     let called : n ≡ name = cc in
     let all' : list_all test ((parameter, name) ∷ bindings_in terms names) ≡ true = subst (λ z. list_all test ((parameter, z) ∷ bindings_in terms names) ≡ true) called (subst (λ z. list_all test (binding_of (z, n) ++ bindings_in terms names) ≡ true) here all) in
-    (both _ _ all').0
+    (and_parts _ _ all').0
 bound_passes test (t ∷ terms) (n ∷ names) (suc k) parameter name is_term is_name all =
     bound_passes test terms names k parameter name is_term is_name
-    (both (list_all test (binding_of (t, n))) (list_all test (bindings_in terms names)) (sym (list_all-append test (binding_of (t, n)) (bindings_in terms names)) ∙ all)).1
+    (and_parts (list_all test (binding_of (t, n))) (list_all test (bindings_in terms names)) (sym (list_all-append test (binding_of (t, n)) (bindings_in terms names)) ∙ all)).1
 
 -- the names that one parameter stands for in two events that agree
 shared_agree : (ones others : List Term) (names names' : List (List ℕ)) (k k' : ℕ) (name name' : List ℕ)
@@ -79,9 +79,9 @@ names_agree : (ones others : List Term) (names names' : List (List ℕ)) (shared
     → all_agree (bindings_in ones names) (bindings_in others names') ≡ true → shared_names First shared names ≡ shared_names Second shared names'
 names_agree ones others names names' [] all bound bound' agreed = refl
 names_agree ones others names names' (places ∷ shared) all bound bound' agreed =
-    let here = both _ _ all in
-    let there = both _ _ bound in
-    let there' = both _ _ bound' in
+    let here = and_parts _ _ all in
+    let there = and_parts _ _ bound in
+    let there' = and_parts _ _ bound' in
     let one = name_there names places.0 (below_of places.0 (length names) there.0) in
     let two = name_there names' places.1 (below_of places.1 (length names') there'.0) in
     let same : slice_get names places.0 ≡ slice_get names' places.1 =
@@ -148,18 +148,18 @@ rises_later false step less h h' t = absurd (cc)
 pub stands : (segments : List (List Event)) (first second : PatternAtom) (a b : EventId) → may_stand segments (chosen_of segments first a) second b ≡ true → Stands segments first second a b
 unfolding may_stand
 stands segments first second a b may =
-    let five = both _ _ may in
-    let four = both _ _ five.0 in
-    let three = both _ _ four.0 in
-    let two = both _ _ three.0 in
-    let one = both _ _ two.0 in
+    let five = and_parts _ _ may in
+    let four = and_parts _ _ five.0 in
+    let three = and_parts _ _ four.0 in
+    let two = and_parts _ _ three.0 in
+    let one = and_parts _ _ two.0 in
     record {
       same_thread = λ h. one_thread (bytes_eq first.thread_var second.thread_var) a.thread b.thread h one.0;
       other_thread = λ h. two_threads (bytes_eq first.thread_var second.thread_var) a.thread b.thread h one.0;
       apart = fails_of (is_same a b) one.1;
       rises = λ same other. rises_later (a.thread == b.thread) (first.step == second.step) (nat_lt a.index b.index) (eq-eqb a.thread b.thread same) other two.1;
-      closing = λ h. opened_end segments first.opens second.closes a b.index h (found_at (end_if_opened segments first.opens a) b.index (both _ _ (second_of (is_same_mark first.opens second.closes) _ h three.1)).1);
-      opening = λ h. found_at (end_of (segment_in segments b.thread) b.index) a.index (both _ _ (second_of (is_same_mark second.opens first.closes) _ h four.1)).1;
+      closing = λ h. opened_end segments first.opens second.closes a b.index h (found_at (end_if_opened segments first.opens a) b.index (and_parts _ _ (second_of (is_same_mark first.opens second.closes) _ h three.1)).1);
+      opening = λ h. found_at (end_of (segment_in segments b.thread) b.index) a.index (and_parts _ _ (second_of (is_same_mark second.opens first.closes) _ h four.1)).1;
       agreed = ap (λ ones. all_agree ones (bindings_in (terms_of second.shape) (names_with (event_in segments b)))) (sym (bindings_there first.shape (event_in segments a)))
           ∙ ap (all_agree (bindings (choice_of segments first a))) (sym (bindings_there second.shape (event_in segments b))) ∙ five.1;
     }

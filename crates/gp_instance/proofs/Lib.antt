@@ -1,4 +1,3 @@
-pub mod Lists
 pub mod Bools
 pub mod Pairs
 pub mod Passing
@@ -6,16 +5,17 @@ pub mod Conditions
 pub mod Found
 pub mod Steps
 pub mod Ends
+pub mod RegionsTold
 pub mod Bound
-pub mod Limit
+pub mod Choices
 pub mod Dead
 pub mod Agreeing
 pub mod Small
 pub mod Due
 pub mod ThreadsFit
 pub mod Holding
-pub mod Ordered
 pub mod InRows
+pub mod Matched
 pub mod Order
 pub mod Thin
 pub mod Keys

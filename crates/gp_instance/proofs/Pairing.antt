@@ -1,8 +1,7 @@
 -- Where an event may stand beside one that counts as a partner, it may have a partner.
-use Rattle.std.proofs.Common.{◌≡◌, refl, ap, ◌∙◌, sym, ℕ, zero, suc, ◌<◌, ◌⊎◌, inl, inr, Bool, true, false, not, cond, List, [], ◌∷◌, length, arith}
-use Rattle.std.specs.Prelude.{◌&&◌, ◌||◌, ◌==◌, All, Option, Some, None, nat_lt}
+use Rattle.std.proofs.Common.{◌≡◌, refl, ap, ◌∙◌, sym, ℕ, suc, ◌⊎◌, inl, inr, Bool, true, false, not, cond, List, [], ◌∷◌, arith}
+use Rattle.std.specs.Prelude.{◌&&◌, ◌||◌, ◌==◌, All, Some, nat_lt}
 use Rattle.std.specs.List.{list_any}
-use Rattle.std.specs.Str.{bytes_eq}
 use Rattle.std.proofs.lemmas.Bool.Decides.{nat_tests}
 use Rattle.gp_trace.specs.declared.event.Event.{Event}
 use Rattle.gp_window.specs.declared.schedule.EventId.{EventId}
@@ -12,28 +11,28 @@ use Rattle.gp_instance.specs.declared.link.Side.{Side}
 use Rattle.gp_instance.specs.declared.link.Side.TheVariants.{First, Second}
 use Rattle.gp_instance.specs.declared.partners.Partners.{Partners}
 use Rattle.gp_instance.specs.declared.span.Span.{Span}
-use Rattle.gp_instance.specs.Instance.{is_same}
 use Rattle.gp_window.specs.Events.{event_in}
-use Rattle.gp_instance.specs.Partners.{Counts, has_earlier, has_later, has_partner, is_bound, is_inside, IsHeld, IsLink, IsWithin, key_of, may_pair, names_with, precedes, reaches, reaches_some, span_at, across}
+use Rattle.gp_window.specs.Ids.{is_less, is_same}
+use Rattle.gp_instance.specs.Partners.{Counts, has_partner, is_bound, IsHeld, IsLink, IsWithin, key_of, may_pair, names_with, reaches, reaches_some, span_at, across}
 use Rattle.gp_instance.specs.Search.{chosen_of, may_stand}
 use Rattle.gp_instance.proofs.Keys.{same_keys, stands, Stands}
 
 -- other threads than that of an event between two others
-reach_thread : (id other first last : EventId) → (id.thread == other.thread) ≡ false → precedes other first ≡ false → precedes last other ≡ false
+reach_thread : (id other first last : EventId) → (id.thread == other.thread) ≡ false → is_less other first ≡ false → is_less last other ≡ false
     → (not (first.thread == id.thread) || not (last.thread == id.thread)) ≡ true
 reach_thread id other first last apart from to = grind (arith, nat_tests)
 
 -- other events than one between two others
-reach_other : (id other first last : EventId) → is_same id other ≡ false → precedes other first ≡ false → precedes last other ≡ false
+reach_other : (id other first last : EventId) → is_same id other ≡ false → is_less other first ≡ false → is_less last other ≡ false
     → (not (is_same first id) || not (is_same last id)) ≡ true
 reach_other id other first last apart from to = grind (arith, nat_tests)
 
 -- an event before one that is not after the last
-reach_last : (id other last : EventId) → id.thread ≡ other.thread → nat_lt id.index other.index ≡ true → precedes last other ≡ false → precedes id last ≡ true
+reach_last : (id other last : EventId) → id.thread ≡ other.thread → nat_lt id.index other.index ≡ true → is_less last other ≡ false → is_less id last ≡ true
 reach_last id other last same rises to = grind (arith, nat_tests)
 
 -- an event after one that is not before the first
-reach_first : (id other first : EventId) → other.thread ≡ id.thread → nat_lt other.index id.index ≡ true → precedes other first ≡ false → precedes first id ≡ true
+reach_first : (id other first : EventId) → other.thread ≡ id.thread → nat_lt other.index id.index ≡ true → is_less other first ≡ false → is_less first id ≡ true
 reach_first id other first same rises from = grind (arith, nat_tests)
 
 -- the same test the other way round
@@ -55,7 +54,7 @@ reach_of false step id other span inside apart differ further within = reach_thr
 reach_later : (segments : List (List Event)) (first second : PatternAtom) (link : Link) (a b : EventId) (span : Span)
     → IsLink first second link → Stands segments first second a b → IsWithin span b → reaches link First a span ≡ true
 reach_later segments first second link a b span is keep within =
-    reach_of link.same_thread link.same_step a b span (precedes a span.last) (λ h. keep.other_thread (sym is.thread ∙ h)) keep.apart
+    reach_of link.same_thread link.same_step a b span (is_less a span.last) (λ h. keep.other_thread (sym is.thread ∙ h)) keep.apart
     (λ h h'. let same = keep.same_thread (sym is.thread ∙ h) in reach_last a b span.last same (keep.rises same (sym is.step ∙ h')) within.to)
     within
 
@@ -63,7 +62,7 @@ reach_later segments first second link a b span is keep within =
 reach_earlier : (segments : List (List Event)) (first second : PatternAtom) (link : Link) (a b : EventId) (span : Span)
     → IsLink first second link → Stands segments first second a b → IsWithin span a → reaches link Second b span ≡ true
 reach_earlier segments first second link a b span is keep within =
-    reach_of link.same_thread link.same_step b a span (precedes span.first b) (λ h. eqb_swap b.thread a.thread ∙ keep.other_thread (sym is.thread ∙ h)) (same_swap b a ∙ keep.apart)
+    reach_of link.same_thread link.same_step b a span (is_less span.first b) (λ h. eqb_swap b.thread a.thread ∙ keep.other_thread (sym is.thread ∙ h)) (same_swap b a ∙ keep.apart)
     (λ h h'. let same = keep.same_thread (sym is.thread ∙ h) in reach_first b a span.first same (keep.rises same (sym is.step ∙ h')) within.from)
     within
 

@@ -2,16 +2,17 @@
 use Rattle.std.proofs.Common.{◌≡◌, refl, ap, ◌∙◌, sym, ℕ, zero, suc, ◌<◌, Bool, true, false, cond, List, [], ◌∷◌, map, length, get_or, arith}
 use Rattle.std.specs.Prelude.{filter, ◌&&◌, ◌||◌, slice_set}
 use Rattle.std.specs.List.{AllByRecursion, flat_map, list_any}
+use Rattle.std.proofs.lemmas.Bool.{or_right}
 use Rattle.std.proofs.lemmas.List.{get_or_default, length-set}
 use Rattle.std.proofs.lemmas.List.Elements.{filter_agree}
+use Rattle.gp_base.specs.FilterLaws.{filter-filter, flat_map-filter, flat_map_agree}
 use Rattle.gp_trace.specs.declared.event.Event.{Event}
 use Rattle.gp_window.specs.declared.schedule.EventId.{EventId}
 use Rattle.gp_property.specs.declared.atoms.PatternAtom.{PatternAtom}
 use Rattle.gp_instance.specs.declared.chosen.Chosen.{Chosen}
 use Rattle.gp_instance.specs.Partners.{has_earlier, has_later, KeepsPartnered}
 use Rattle.gp_instance.specs.Search.{chosen_of, FindsSame, is_dead, may_stand, narrowed, search}
-use Rattle.gp_instance.proofs.Dead.{dead_end, narrowed_long, other_passes}
-use Rattle.gp_instance.proofs.Lists.{filter-filter, flat_map-filter, flat_map_agree}
+use Rattle.gp_instance.proofs.Dead.{dead_end, narrowed_long}
 
 -- two tests in either order
 and_swap : (a b : Bool) → (a && b) ≡ (b && a)
@@ -58,7 +59,7 @@ none_passes p (x ∷ xs) none = by_cases (p x) (none_passes p xs) none
 dead_at : (domains : List (List EventId)) (j : ℕ) → j < length domains → get_or domains j [] ≡ [] → list_any is_dead domains ≡ true
 dead_at [] j below none = absurd (omega arith)
 dead_at (ids ∷ domains) zero below none = ap (λ first. is_dead first || list_any is_dead domains) none
-dead_at (ids ∷ domains) (suc j) below none = other_passes (is_dead ids) (list_any is_dead domains) (dead_at domains j (omega arith) none)
+dead_at (ids ∷ domains) (suc j) below none = or_right (is_dead ids) (list_any is_dead domains) (dead_at domains j (omega arith) none)
 
 -- a choice without a partner among a later atom's events is in nothing that is found
 alone_later : (segments : List (List Event)) (chosen : Chosen) (atoms : List PatternAtom) (domains : List (List EventId)) (j : ℕ) (d : PatternAtom)
@@ -81,7 +82,7 @@ any_filter p q (x ∷ xs) some = by_cases (q x) (any_filter p q xs) some
 
     by_cases : (b : Bool) → (list_any p (filter q xs) ≡ true → list_any p xs ≡ true) → list_any p (cond b (x ∷ filter q xs) (filter q xs)) ≡ true → (p x || list_any p xs) ≡ true
     by_cases true rest h = first_or (p x) (list_any p (filter q xs)) (list_any p xs) rest h
-    by_cases false rest h = other_passes (p x) (list_any p xs) (rest h)
+    by_cases false rest h = or_right (p x) (list_any p xs) (rest h)
 
 -- what is found with a choice that is kept or has no partner
 kept_or_alone : (kept partnered : Bool) (found : List (List EventId)) → (partnered ≡ true → kept ≡ true) → (partnered ≡ false → found ≡ []) → cond kept found [] ≡ found
@@ -146,7 +147,7 @@ each_one ids = each_of ids (λ id one. one)
     each_of [] leads = tt
     each_of (id ∷ some) leads = (
       leads id (λ test passes. here (test id) (list_any test some) passes),
-      each_of some (λ other one. leads other (λ test passes. other_passes (test id) (list_any test some) (one test passes))),
+      each_of some (λ other one. leads other (λ test passes. or_right (test id) (list_any test some) (one test passes))),
     )
 
 -- two joins that agree at each element that is there

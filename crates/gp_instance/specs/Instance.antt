@@ -1,11 +1,12 @@
 -- What an instance of a property in a window is: one event for each atom of the pattern, under six conditions.
-use Rattle.std.specs.Prelude.{ℕ, zero, suc, Bool, false, not, ◌==◌, ◌&&◌, ◌||◌, nat_lt, List, [], ◌∷◌, length, Option, Some, None, if◌then◌else◌, slice_get, unwrap_or}
+use Rattle.std.specs.Prelude.{ℕ, Bool, false, not, ◌==◌, ◌&&◌, ◌||◌, nat_lt, List, [], ◌∷◌, length, Option, Some, None, if◌then◌else◌}
 use Rattle.std.specs.List.{list_all, flat_map}
 use Rattle.std.specs.Str.{bytes_eq}
 use Rattle.gp_trace.specs.declared.event.Event.{Event}
 use Rattle.gp_window.specs.declared.schedule.EventId.{EventId}
 use Rattle.gp_window.specs.Events.{event_in, segment_in}
 use Rattle.gp_window.specs.WindowForm.{WindowForm}
+use Rattle.gp_window.specs.Ids.{is_same}
 use Rattle.gp_property.specs.PropertyForm.{PropertyForm}
 use Rattle.gp_property.specs.declared.property.Shape.{Shape}
 use Rattle.gp_property.specs.declared.atoms.PatternAtom.{PatternAtom}
@@ -83,10 +84,6 @@ keep_region segments opener closer =
 -- whichever of two atoms closes a region that the other opens, its event closes that of the other
 abbrev pub keep_regions : List (List Event) → Choice → Choice → Bool
 keep_regions segments one other = keep_region segments one other && keep_region segments other one
-
--- whether two ids name one event
-abbrev pub is_same : EventId → EventId → Bool
-is_same one other = one.thread == other.thread && one.index == other.index
 
 -- two atoms have different events
 abbrev pub are_apart : Choice → Choice → Bool

@@ -1,12 +1,16 @@
 pub mod Shape
 pub mod Region
+pub mod RegionsTold
 pub mod Pairs
 pub mod Instance
 pub mod Instances
 pub mod Matches
+pub mod Matched
 pub mod Search
 pub mod Partners
 pub mod Threads
 pub mod Listed
 pub mod Rows
 pub mod ListedLaws
+pub mod IdsLaws
+pub mod LimitLaws

@@ -1,19 +1,15 @@
 -- Where a schedule matches an instance: its events are there, its steps follow one another, and each group stands together.
-use Rattle.std.specs.Prelude.{ℕ, Bool, true, false, ◌==◌, ◌&&◌, ◌||◌, nat_lt, List, [], ◌∷◌, length, drop, take, position, sum_by, Option, Some, None}
-use Rattle.std.specs.List.{list_all, list_any}
+use Rattle.std.specs.Prelude.{ℕ, Bool, true, false, ◌==◌, ◌&&◌, ◌||◌, nat_lt, List, [], ◌∷◌, length, drop, take, position, Option, Some, None}
+use Rattle.std.specs.List.{list_all}
 use Rattle.gp_window.specs.declared.schedule.EventId.{EventId}
+use Rattle.gp_window.specs.Ids.{contains_event, is_same}
 use Rattle.gp_property.specs.declared.property.PatternStep.{PatternStep}
 use Rattle.gp_property.specs.PropertyForm.{PropertyForm}
-use Rattle.gp_instance.specs.Instance.{is_same}
 
 -- the events of an instance by step
 abbrev pub groups_of : List PatternStep → List EventId → List (List EventId)
 groups_of [] events = []
 groups_of (step ∷ steps) events = take (length step.atoms) events ∷ groups_of steps (drop (length step.atoms) events)
-
--- whether an event is one of these
-abbrev pub is_among : List EventId → EventId → Bool
-is_among events id = list_any (λ other. is_same other id) events
 
 -- the place, from 0, at which an event stands in a schedule
 abbrev pub place_of : List EventId → EventId → Option ℕ
@@ -41,7 +37,7 @@ follow schedule before (group ∷ groups) = all_before schedule before group && 
 -- as many events as the group has, at the beginning of a schedule, are all of the group
 abbrev pub begins_with_group : List EventId → List EventId → Bool
 begins_with_group group schedule =
-    length (take (length group) schedule) == length group && list_all (is_among group) (take (length group) schedule)
+    length (take (length group) schedule) == length group && list_all (contains_event group) (take (length group) schedule)
 
 -- the events of a group stand at as many neighbouring places, in any order: somewhere as many events, one after another, are all of the group
 abbrev pub stands_together : List EventId → List EventId → Bool
@@ -51,6 +47,6 @@ stands_together group (first ∷ rest) = begins_with_group group (first ∷ rest
 -- a schedule, in which no event stands twice, matches the events of an instance, one for each atom
 abbrev pub matches_events : PropertyForm → List EventId → List EventId → Bool
 matches_events property events schedule =
-    list_all (is_among schedule) events
+    list_all (contains_event schedule) events
     && follow schedule [] (groups_of property.pattern events)
     && list_all (λ group. stands_together group schedule) (groups_of property.pattern events)

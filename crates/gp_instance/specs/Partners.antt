@@ -1,6 +1,6 @@
 -- Partners. Of two atoms the events that may stand beside each other have equal keys; so an event whose key no event of
 -- the other atom has, or none that its thread and its place in it allow, has no partner there, and is in no instance.
-use Rattle.std.specs.Prelude.{ℕ, ◌≡◌, Bool, true, false, not, ◌==◌, ◌&&◌, ◌||◌, ◌⊎◌, nat_lt, List, [], ◌∷◌, ◌++◌, length, Option, Some, None, filter, if◌then◌else◌, slice_get, unwrap_or}
+use Rattle.std.specs.Prelude.{ℕ, ◌≡◌, Bool, true, false, not, ◌==◌, ◌||◌, ◌⊎◌, nat_lt, List, [], ◌∷◌, ◌++◌, length, Option, Some, None, filter, if◌then◌else◌, slice_get}
 use Rattle.std.specs.List.{list_all, list_any}
 use Rattle.std.specs.Str.{bytes_eq}
 use Rattle.std.specs.Ordering.{nat_cmp}
@@ -9,7 +9,6 @@ use Rattle.std.specs.BTreeMap as tree
 use Rattle.std.specs.BTreeMap.{BTreeMap}
 use Rattle.gp_trace.specs.declared.event.Event.{Event}
 use Rattle.gp_window.specs.declared.schedule.EventId.{EventId}
-use Rattle.gp_property.specs.declared.property.Shape.{Shape}
 use Rattle.gp_property.specs.declared.property.Term.{Term}
 use Rattle.gp_property.specs.declared.property.Term.TheVariants as term
 use Rattle.gp_property.specs.declared.atoms.PatternAtom.{PatternAtom}
@@ -18,8 +17,9 @@ use Rattle.gp_instance.specs.declared.link.Side.{Side}
 use Rattle.gp_instance.specs.declared.link.Side.TheVariants.{First, Second}
 use Rattle.gp_instance.specs.declared.span.Span.{Span}
 use Rattle.gp_instance.specs.declared.partners.Partners.{Partners}
-use Rattle.gp_instance.specs.Instance.{is_same, is_same_mark}
+use Rattle.gp_instance.specs.Instance.{is_same_mark}
 use Rattle.gp_window.specs.Events.{event_in, segment_in}
+use Rattle.gp_window.specs.Ids.{is_less, is_same}
 use Rattle.gp_instance.specs.Region.{end_of}
 use Rattle.gp_instance.specs.Search.{chosen_of, may_stand}
 use Rattle.gp_instance.specs.Shape.{names_of, terms_of}
@@ -114,19 +114,15 @@ unfoldable pub key_of : List (List Event) → Link → Side → EventId → List
 key_of segments link side id =
     (index_part (thread_index link.same_thread id) ++ index_part (region_index segments (opener link) side id)) ++ shared_names side link.shared (names_with (event_in segments id))
 
--- an event is before another, by thread and then index
-abbrev pub precedes : EventId → EventId → Bool
-precedes one other = nat_lt one.thread other.thread || (one.thread == other.thread && nat_lt one.index other.index)
-
 -- the event is not before the first and not after the last
 pub record IsWithin (span : Span) (id : EventId) : Type 0 where
-  pub from : precedes id span.first ≡ false
-  pub to : precedes span.last id ≡ false
+  pub from : is_less id span.first ≡ false
+  pub to : is_less span.last id ≡ false
 
 -- an event of the first atom is before the last of the span, one of the second after the first
 abbrev pub is_inside : Side → EventId → Span → Bool
-is_inside First id span = precedes id span.last
-is_inside Second id span = precedes span.first id
+is_inside First id span = is_less id span.last
+is_inside Second id span = is_less span.first id
 
 -- an event of a span that has another thread, where the thread variables differ; that is another event, where the step is the same;
 -- and that is later or earlier, where the steps differ

@@ -1,7 +1,7 @@
 -- A group that stands together, in plain words: somewhere in the schedule its events stand in a row, in some order.
-use Rattle.std.specs.Prelude.{◌≡◌, ◌≢◌, ◌↔◌, true, List, ◌++◌, length, Contains}
+use Rattle.std.specs.Prelude.{◌≡◌, ◌↔◌, true, List, ◌++◌, length, Contains}
+use Rattle.gp_base.specs.ListLaws.{AreDifferent}
 use Rattle.gp_window.specs.declared.schedule.EventId.{EventId}
-use Rattle.gp_instance.specs.Listed.{EachBefore}
 use Rattle.gp_instance.specs.Matches.{stands_together}
 
 -- the row has the events of the group, no others, and as many
@@ -17,5 +17,5 @@ StandsInRow group schedule =
 
 -- in a schedule in which no event stands twice, a group stands together exactly where it stands in a row
 abbrev pub GroupsStandInRows : Type 0
-GroupsStandInRows = (group schedule : List EventId) → EachBefore (λ one other. one ≢ other) schedule
+GroupsStandInRows = (group schedule : List EventId) → AreDifferent schedule
     → (stands_together group schedule ≡ true) ↔ StandsInRow group schedule

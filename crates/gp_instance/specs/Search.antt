@@ -1,14 +1,16 @@
 -- The search for instances. Each atom begins with its candidates; after a choice each later atom keeps those that may
 -- stand beside it, so that what is left of the last atom's is exactly what completes the choices before it.
-use Rattle.std.specs.Prelude.{ℕ, ◌≡◌, ◌<◌, ◌≤◌, ◌^◌, All, length, Bool, true, not, ◌==◌, ◌&&◌, ◌||◌, nat_lt, List, [], ◌∷◌, Option, Some, None, filter, if◌then◌else◌, map, take, zip, ◌++◌}
+use Rattle.std.specs.Prelude.{ℕ, ◌≡◌, ◌<◌, ◌≤◌, ◌^◌, All, length, Bool, not, ◌==◌, ◌&&◌, ◌||◌, nat_lt, List, [], ◌∷◌, Option, Some, None, filter, if◌then◌else◌, map, zip, ◌++◌}
 use Rattle.std.specs.List.{list_all, list_any, flat_map}
 use Rattle.std.specs.Str.{bytes_eq}
+use Rattle.gp_base.specs.LimitLaws.{up_to}
 use Rattle.gp_trace.specs.declared.event.Event.{Event}
 use Rattle.gp_window.specs.declared.schedule.EventId.{EventId}
 use Rattle.gp_property.specs.declared.atoms.PatternAtom.{PatternAtom}
 use Rattle.gp_instance.specs.declared.chosen.Chosen.{Chosen}
-use Rattle.gp_instance.specs.Instance.{agree, bindings, choice_of, closes, is_at, is_like_atom, is_same, is_same_mark}
+use Rattle.gp_instance.specs.Instance.{agree, bindings, choice_of, closes, is_at, is_like_atom, is_same_mark}
 use Rattle.gp_window.specs.Events.{segment_in}
+use Rattle.gp_window.specs.Ids.{is_same}
 use Rattle.gp_instance.specs.declared.instance.Instance.{Instance}
 use Rattle.gp_instance.specs.Instances.{ids_of, numbered}
 use Rattle.gp_instance.specs.Pairs.{all_pairs}
@@ -104,7 +106,7 @@ instance_after number front rest = numbered number (front ++ rest)
 
 -- what was found and what more is found, up to one more than are listed
 unfoldable pub first_instances : List Instance → List Instance → List Instance
-first_instances found more = take 10001 (found ++ more)
+first_instances found more = up_to 10001 found more
 
 -- a binding agrees with what the parameters among these terms stand for
 abbrev pub agrees_along : List ℕ × List ℕ → List Term → List (List ℕ) → Bool

@@ -1,18 +1,15 @@
 -- Whether there are threads for the thread variables. Different variables stand for different threads; so where some of
 -- them have fewer threads in all than they are, there is no instance.
-use Rattle.std.specs.Prelude.{ℕ, ◌+◌, Bool, ◌==◌, ◌||◌, nat_lt, List, [], ◌∷◌, ◌++◌, length, Option, Some, None, if◌then◌else◌}
+use Rattle.std.specs.Prelude.{ℕ, ◌+◌, Bool, ◌||◌, nat_lt, List, [], ◌∷◌, ◌++◌, length, Option, Some, None, if◌then◌else◌}
 use Rattle.std.specs.List.{list_any}
 use Rattle.std.specs.Str.{bytes_eq}
 use Rattle.gp_window.specs.declared.schedule.EventId.{EventId}
+use Rattle.gp_window.specs.Starts.{is_among}
 use Rattle.gp_property.specs.declared.atoms.PatternAtom.{PatternAtom}
-
--- whether a thread is one of these
-abbrev pub has_thread : List ℕ → ℕ → Bool
-has_thread threads thread = list_any (λ other. other == thread) threads
 
 -- these threads and one more, where it is not among them
 abbrev pub with_thread : List ℕ → ℕ → List ℕ
-with_thread threads thread = if has_thread threads thread then threads else threads ++ thread ∷ []
+with_thread threads thread = if is_among threads thread then threads else threads ++ thread ∷ []
 
 -- these threads and those, none twice
 abbrev pub with_threads : List ℕ → List ℕ → List ℕ

@@ -29,5 +29,5 @@ mod thinning;
 mod threads;
 
 pub use instance::{Instance, InstancesFault, MOST_INSTANCES, instances};
-pub use laws::{groups_stand_in_rows, lists_exactly};
+pub use laws::{groups_stand_in_rows, lists_exactly, matches_means, regions_close_as_begun};
 pub use matching::{is_one_for_each, matches};

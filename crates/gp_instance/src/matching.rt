@@ -1,12 +1,12 @@
 ghost use Rattle.std.specs.Prelude.{◌≡◌, ◌↔◌, [], length, IsTrue};
 ghost use Rattle.std.specs.List.{list_all};
-ghost use Rattle.gp_instance.specs.Instance.{is_same};
 ghost use Rattle.gp_property.specs.Atoms.{atom_count};
-ghost use Rattle.gp_instance.specs.Matches.{all_before, begins_with_group, follow, groups_of, is_among, is_before, is_before_all, matches_events, place_of, stands_together};
+ghost use Rattle.gp_instance.specs.Matches.{all_before, begins_with_group, follow, groups_of, is_before, is_before_all, matches_events, place_of, stands_together};
+ghost use Rattle.gp_window.specs.Ids.{contains_event};
 
 use crate::instance::Instance;
 use gp_property::{PatternStep, Property};
-use gp_window::{EventId, Schedule};
+use gp_window::{EventId, Schedule, contains_event};
 
 /// Whether an instance has one event for each atom of a property.
 pub fn is_one_for_each(property: &Property, instance: &Instance) -> bool
@@ -38,15 +38,9 @@ pub fn matches(property: &Property, instance: &Instance, schedule: &Schedule) ->
 }
 
 fn all_among(schedule: &[EventId], events: &[EventId]) -> bool
-    ensures { result ≡ list_all (is_among schedule.now) events.now }
+    ensures { result ≡ list_all (contains_event schedule.now) events.now }
 {
-    events.iter().all(|id| is_among(schedule, *id))
-}
-
-fn is_among(events: &[EventId], id: EventId) -> bool
-    ensures { result ≡ is_among events.now id }
-{
-    events.iter().any(|other| *other == id)
+    events.iter().all(|id| contains_event(schedule, *id))
 }
 
 /// Whether the steps follow one another in the schedule.

@@ -5,7 +5,7 @@ use crate::candidate::keep_id;
 use crate::key::{Key, key_of, names_of_id};
 use crate::link::{Link, Side, place_on};
 use crate::segments::Segments;
-use crate::span::{Span, precedes, widened};
+use crate::span::{Span, widened};
 use gp_base::Row;
 use gp_text::Name;
 use gp_window::EventId;
@@ -143,7 +143,7 @@ fn reaches(link: &Link, side: Side, id: EventId, span: Span) -> bool
         return span.first != id || span.last != id;
     }
     match side {
-        Side::First => precedes(id, span.last),
-        Side::Second => precedes(span.first, id),
+        Side::First => id.is_less(span.last),
+        Side::Second => span.first.is_less(id),
     }
 }

@@ -130,7 +130,7 @@ fn extended(alloc: Global, front: &[EventId], id: EventId) -> Result<Row<EventId
 }
 
 /// Adds the instance of these events, where there is room.
-#[tactic(auto, using(crate::proofs::Limit::one_more))]
+#[tactic(auto, using(crate::specs::LimitLaws::one_more))]
 fn add(
     alloc: Global,
     number: u32,

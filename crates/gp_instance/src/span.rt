@@ -1,5 +1,6 @@
 ghost use Rattle.std.specs.Prelude.{◌≡◌, false, IfSome};
-ghost use Rattle.gp_instance.specs.Partners.{IsWithin, precedes};
+ghost use Rattle.gp_instance.specs.Partners.{IsWithin};
+ghost use Rattle.gp_window.specs.Ids.{is_less};
 
 use gp_window::EventId;
 
@@ -27,25 +28,18 @@ pub fn widened(span: Option<Span>, id: EventId) -> Span
     }
 }
 
-/// Whether an event is before another, by thread and then index.
-pub fn precedes(one: EventId, other: EventId) -> bool
-    ensures { result ≡ precedes one other }
-{
-    one.thread < other.thread || (one.thread == other.thread && one.index < other.index)
-}
-
 /// The earlier of two events.
 fn earlier(one: EventId, other: EventId) -> EventId
-    ensures one { (id : EventId) → precedes id one ≡ false → precedes id result ≡ false }
-    ensures other { (id : EventId) → precedes id other ≡ false → precedes id result ≡ false }
+    ensures one { (id : EventId) → is_less id one ≡ false → is_less id result ≡ false }
+    ensures other { (id : EventId) → is_less id other ≡ false → is_less id result ≡ false }
 {
-    if precedes(other, one) { other } else { one }
+    if other.is_less(one) { other } else { one }
 }
 
 /// The later of two events.
 fn later(one: EventId, other: EventId) -> EventId
-    ensures one { (id : EventId) → precedes one id ≡ false → precedes result id ≡ false }
-    ensures other { (id : EventId) → precedes other id ≡ false → precedes result id ≡ false }
+    ensures one { (id : EventId) → is_less one id ≡ false → is_less result id ≡ false }
+    ensures other { (id : EventId) → is_less other id ≡ false → is_less result id ≡ false }
 {
-    if precedes(one, other) { other } else { one }
+    if one.is_less(other) { other } else { one }
 }

@@ -1,10 +1,10 @@
 ghost use Rattle.std.specs.Prelude.{◌≡◌, ◌++◌, ◌+◌, ◌<◌, ◌^◌, [], IfOk, OnOk, length};
-ghost use Rattle.gp_instance.specs.Threads.{few_threads, has_thread, is_crowded, is_given, set_part, thread_sets, threads_for, unless_crowded, with_thread, with_threads};
+ghost use Rattle.gp_instance.specs.Threads.{few_threads, is_crowded, is_given, set_part, thread_sets, threads_for, unless_crowded, with_thread, with_threads};
 
 use gp_base::Row;
 use gp_property::PatternAtom;
 use gp_text::Name;
-use gp_window::EventId;
+use gp_window::{EventId, is_among};
 use std::alloc::{AllocError, Global};
 
 /// The events of each atom, `None` where some of the thread variables have fewer threads in all than
@@ -94,16 +94,10 @@ fn few_threads(alloc: Global, limit: usize, ids: &[EventId]) -> Result<Option<Ro
 fn add_thread(threads: &mut Row<u32>, thread: u32) -> Result<(), AllocError>
     ensures { OnOk result (threads.new ≡ with_thread threads.old thread) }
 {
-    if has_thread(threads.as_slice(), thread) {
+    if is_among(threads.as_slice(), thread) {
         return Ok(());
     }
     threads.push(thread)
-}
-
-fn has_thread(threads: &[u32], thread: u32) -> bool
-    ensures { result ≡ has_thread threads.now thread }
-{
-    threads.iter().any(|other| *other == thread)
 }
 
 /// Whether some of these sets, and `count` more that have these threads, have fewer threads in all

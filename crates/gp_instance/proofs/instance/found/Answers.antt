@@ -1,6 +1,6 @@
 -- The search begins with the candidates of each atom.
 use Rattle.std.proofs.Common.{◌∙◌}
-use Rattle.gp_instance.proofs.Limit.{begun, never_begun}
+use Rattle.gp_instance.proofs.Choices.{begun, never_begun}
 use Rattle.gp_instance.proofs.Thin.{copy_finds}
 use Rattle.gp_instance.proofs.instance.found.Goals as goal
 use Rattle.gp_instance.proofs.instance.found.Goals.{in-Some+in_ok-search, in_default}

@@ -3,7 +3,8 @@ use Rattle.std.proofs.Common.{◌≡◌, ◌<◌, ◌∙◌, ap, arith, get_or, 
 use Rattle.std.specs.List.{flat_map}
 use Rattle.std.proofs.lemmas.List.{drop_all}
 use Rattle.gp_instance.specs.Search.{chosen_of, first_instances, instance_after, narrowed, search}
-use Rattle.gp_instance.proofs.Limit.{alive_step, completed, dead_step, full, no_more, within_limit}
+use Rattle.gp_instance.specs.LimitLaws.{full, no_more, within_limit}
+use Rattle.gp_instance.proofs.Choices.{alive_step, completed, dead_step}
 use Rattle.gp_instance.proofs.Thin.{copy_finds}
 use Rattle.gp_instance.proofs.search.+search.Goals as goal
 use Rattle.gp_instance.proofs.search.+search.Goals.{in-Some-2+in_ok-longer+in_ok-search, in_default-2}

@@ -1,7 +1,7 @@
 use Rattle.std.proofs.Common.{◌≡◌, ◌≤◌, drop, length, map}
 use Rattle.std.specs.List.{flat_map}
 use Rattle.gp_instance.specs.Search.{first_instances, instance_after, search}
-use Rattle.gp_instance.proofs.Limit.{completed}
+use Rattle.gp_instance.proofs.Choices.{completed}
 use Rattle.gp_instance.proofs.search.+search.Given as goal
 
 abbrev pub decreases-search : goal.decreases-search

@@ -1,6 +1,5 @@
 -- What is left of the first atom's events finds the same.
 use Rattle.std.proofs.Common.{◌∙◌, ap, get_or}
-use Rattle.gp_instance.specs.Search.{FindsSame}
 use Rattle.gp_instance.proofs.Thin.{first_kept}
 use Rattle.gp_instance.proofs.thinning.thin_first.Goals as goal
 

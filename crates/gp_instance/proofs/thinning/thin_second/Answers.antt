@@ -1,6 +1,5 @@
 -- What is left of the second atom's events finds the same.
 use Rattle.std.proofs.Common.{◌∙◌, ap, get_or}
-use Rattle.gp_instance.specs.Search.{FindsSame}
 use Rattle.gp_instance.proofs.Thin.{second_kept}
 use Rattle.gp_instance.proofs.thinning.thin_second.Goals as goal
 

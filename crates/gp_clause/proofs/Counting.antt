@@ -12,7 +12,7 @@ use Rattle.std.proofs.lemmas.Map.Steps.{length-le_from_distinct_below}
 use Rattle.gp_clause.specs.declared.lit.Lit.{Lit}
 use Rattle.gp_clause.specs.Clause.{IsRising, NamesBelow}
 use Rattle.gp_clause.specs.Counting.{AreDistinctClauses}
-use Rattle.gp_clause.specs.OccurrenceLaws.{rising_rest}
+use Rattle.gp_base.specs.CountLaws.{rising_rest}
 
 -- the digit of a literal by its sign
 abbrev digit : Bool → ℕ
@@ -118,7 +118,7 @@ rises_to k end [] low rising named = tt
 rises_to k end (lit ∷ lits) low rising named = (
   low lit (omega arith),
   All-head (λ (l : Lit). l.variable < end) lit lits named,
-  rises_to (lit.variable + 1) end lits (λ d some. let step : lit.variable < (get_or lits 0 d).variable = rising 0 d (omega (arith, some)) in omega (arith, step)) (rising_rest lit lits rising)
+  rises_to (lit.variable + 1) end lits (λ d some. let step : lit.variable < (get_or lits 0 d).variable = rising 0 d (omega (arith, some)) in omega (arith, step)) (rising_rest (λ (l : Lit). l.variable) lit lits rising)
       (All-tail (λ (l : Lit). l.variable < end) lit lits named),
 )
 

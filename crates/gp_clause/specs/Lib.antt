@@ -9,6 +9,5 @@ pub mod Valuation
 pub mod Follows
 pub mod Walk
 pub mod WalkLaws
-pub mod OccurrenceLaws
 pub mod Closure
 pub mod ClosureLaws

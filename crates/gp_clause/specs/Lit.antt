@@ -1,9 +1,13 @@
-use Rattle.std.specs.Prelude.{◌≡◌, ℕ, Bool, true, false, not, ◌==◌, ◌&&◌, ◌↔◌}
+use Rattle.std.specs.Prelude.{◌≡◌, ℕ, Bool, true, false, not, ◌==◌, ◌&&◌, ◌↔◌, List, map}
 use Rattle.gp_clause.specs.declared.lit.Lit.{Lit}
 
 -- the negation of a literal
 abbrev pub opposite : Lit → Lit
 opposite lit = record { variable = lit.variable; positive = not lit.positive }
+
+-- the negation of each literal
+abbrev pub negations : List Lit → List Lit
+negations lits = map opposite lits
 
 -- a literal is true where its variable has its sign
 abbrev pub HoldsLit : (ℕ → Bool) → Lit → Type 0

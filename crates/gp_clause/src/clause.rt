@@ -2,7 +2,7 @@ ghost use Rattle.std.specs.Prelude.{◌≡◌, ◌<◌, ◌≤◌, ◌↔◌, le
 ghost use Rattle.std.specs.List.{IsAllAdjacentAnswer};
 ghost use Rattle.std.specs.Cmp.Lexicographic.{pointwise};
 ghost use Rattle.gp_clause.specs.Lit.{lit_eq};
-ghost use Rattle.gp_clause.specs.Clause.{IsRising, NamesTwice, TrueOrFalse};
+ghost use Rattle.gp_clause.specs.Clause.{IsRising, NamesBelow, NamesTwice, TrueOrFalse};
 ghost use Rattle.gp_clause.specs.Counting.{ClausesAreFew};
 
 use crate::lit::Lit;
@@ -128,6 +128,13 @@ pub fn true_or_false()
 pub fn clauses_are_few()
     ensures { ClausesAreFew }
 {}
+
+/// Whether each literal has a variable below the number.
+pub fn names_below(lits: &[Lit], count: usize) -> bool
+    ensures { IsTrue result ↔ NamesBelow count lits.now }
+{
+    lits.iter().all(|lit| (lit.variable as usize) < count)
+}
 
 // Whether each variable is less than the next.
 fn is_rising(lits: &[Lit]) -> bool

@@ -15,7 +15,7 @@ mod problem;
 mod valuation;
 mod walk;
 
-pub use clause::{BadClause, Clause, clauses_are_few, true_or_false};
+pub use clause::{BadClause, Clause, clauses_are_few, names_below, true_or_false};
 pub use closure::{closure_is_least, derived_means};
 pub use edge::Edge;
 pub use follows::{follows_from_more, follows_through, locals_change_nothing, members_follow};

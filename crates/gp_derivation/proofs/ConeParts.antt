@@ -5,18 +5,18 @@ use Rattle.std.specs.List.{slice_get}
 use Rattle.std.proofs.lemmas.Bool.{cases_lt}
 use Rattle.std.proofs.lemmas.List.{get_or_default}
 use Rattle.std.proofs.lemmas.List.Elements.{All-contains, All-weaker, All-contains_itself, Contains-get_or}
-use Rattle.gp_derivation.specs.declared.step.Step.{Step}
+use Rattle.gp_certificate.specs.declared.step.Step.{Step}
 use Rattle.gp_derivation.specs.declared.log.LogEntry.{LogEntry}
 use Rattle.gp_derivation.specs.declared.log.Origin.{Origin}
 use Rattle.gp_derivation.specs.declared.log.Origin.TheVariants.{Learned, Taken}
-use Rattle.gp_derivation.specs.Numbering.{CanBeNumbered, NamesEarlier, IsNumbered, IsNumberable, number_beside, number_of, renumbered, with_hints}
+use Rattle.gp_derivation.specs.Numbering.{CanBeNumbered, NamesEarlier, IsNumbered, IsNumberable, number_beside, number_of, renumbered}
 use Rattle.gp_derivation.specs.Reach.{AreReached, IsReached, rests_on}
 use Rattle.gp_derivation.specs.Reach.IsReached.{direct, through}
-use Rattle.gp_derivation.specs.Cones.{IsCone, cone_steps}
+use Rattle.gp_derivation.specs.Cones.{IsCone, cone_step, cone_steps}
 use Rattle.gp_derivation.proofs.Descending.{rests_earlier}
 use Rattle.gp_derivation.proofs.Numbers.{rising_far}
 use Rattle.gp_derivation.proofs.Staying.{reached_within}
-use Rattle.gp_derivation.proofs.Drafts.{AreKept, IsDraft, among, among_tells, among_at, are_kept, draft_numbers, draft_all, with_hints_agree}
+use Rattle.gp_derivation.proofs.Drafts.{AreKept, IsDraft, among, among_tells, among_at, are_kept, draft_numbers, draft_all, cone_step_agree}
 
 -- the cone of a step lies over the places on which it rests, in order
 pub record LiesOver (bases : ℕ) (log : List LogEntry) (last : Step) (places : List ℕ) : Type 0 where
@@ -88,7 +88,7 @@ last_numbered bases log last places i steps numbers are end draft = All-weaker (
 
 -- the whole draft and the last step are the cone
 pub cone_drafted : (bases : ℕ) (log : List LogEntry) (last : Step) (places : List ℕ) (i : ℕ) (steps : List Step) (numbers : List ℕ) (whole : List Step) → LiesOver bases log last places → i ≡ length places → IsDraft bases (among places) log places i steps numbers
-    → whole ≡ steps ++ with_hints (renumbered bases (number_beside places numbers)) last ∷ [] → IsCone bases log last (record { steps = whole })
+    → whole ≡ steps ++ cone_step bases (number_beside places numbers) last ∷ [] → IsCone bases log last (record { steps = whole })
 cone_drafted bases log last places i steps numbers whole are end draft parts = record {
   kept = among places;
   reached = λ place. (λ told. (are.reached place).0 (among_tells places place told), λ reached. kept_is place ((are.reached place).1 reached));
@@ -101,6 +101,6 @@ cone_drafted bases log last places i steps numbers whole are end draft parts = r
     front : steps ≡ cone_steps bases (among places) log (length log)
     front = draft_all bases (among places) log places i steps numbers (reached_kept bases log last places are) (omega (arith, end)) draft
 
-    step : with_hints (renumbered bases (number_beside places numbers)) last ≡ with_hints (renumbered bases (number_of bases (among places) log)) last
-    step = with_hints_agree bases (number_beside places numbers) (number_of bases (among places) log) last
+    step : cone_step bases (number_beside places numbers) last ≡ cone_step bases (number_of bases (among places) log) last
+    step = cone_step_agree bases (number_beside places numbers) (number_of bases (among places) log) last
         (All-weaker (Contains last.hints) (λ hint. renumbered bases (number_beside places numbers) hint ≡ renumbered bases (number_of bases (among places) log) hint) (λ hint by. (last_numbers bases log last places i steps numbers are end draft hint by).1) last.hints (All-contains_itself last.hints))

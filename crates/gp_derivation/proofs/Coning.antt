@@ -5,29 +5,31 @@ use Rattle.std.specs.List.{slice_get}
 use Rattle.std.proofs.lemmas.Bool.{cases_lt}
 use Rattle.std.proofs.lemmas.Bool.Decides.{nat_tests}
 use Rattle.std.proofs.lemmas.List.{append-nil, map-append, length-append, length-map}
-use Rattle.std.proofs.lemmas.List.Elements.{All-weaker, All-contains}
+use Rattle.std.proofs.lemmas.List.Elements.{All-nil, All-weaker, All-contains, All-contains_itself}
 use Rattle.std.proofs.lemmas.Option.{same_Some, slice_get_within}
 use Rattle.gp_clause.specs.declared.kind.Kind.{Kind}
 use Rattle.gp_clause.specs.declared.lit.Lit.{Lit}
 use Rattle.gp_clause.specs.declared.problem.Problem.{Problem}
 use Rattle.gp_clause.specs.Clause.{NamesBelow}
 use Rattle.gp_clause.specs.Problem.{IsValidProblem}
-use Rattle.gp_derivation.specs.declared.step.Step.{Step}
+use Rattle.gp_certificate.specs.declared.step.Step.{Step}
 use Rattle.gp_derivation.specs.declared.log.LogEntry.{LogEntry}
 use Rattle.gp_derivation.specs.declared.log.Origin.{Origin}
 use Rattle.gp_derivation.specs.declared.log.Origin.TheVariants.{Learned, Taken}
-use Rattle.gp_derivation.specs.Certificate.{clauses_of, StepsCheck, Proves}
+use Rattle.gp_certificate.specs.Certificate.{clauses_of, StepsCheck, Proves}
 use Rattle.gp_derivation.specs.Reach.{rests_on, IsReached}
-use Rattle.gp_derivation.specs.Numbering.{steps_before, number_of, renumbered, moved, with_hints}
-use Rattle.gp_derivation.specs.Cones.{steps_given, kept_steps, cone_steps, ConeChecks}
+use Rattle.gp_derivation.specs.Numbering.{steps_before, number_of, renumbered, moved, based, with_base, with_hints}
+use Rattle.gp_derivation.specs.Cones.{cone_step, steps_given, kept_steps, cone_steps, ConeChecks}
 use Rattle.gp_derivation.specs.Reach.IsReached.{direct, through}
 use Rattle.gp_derivation.specs.Log.{IsTaken, logged, IsPure, IsUsable, LearnedPasses, OriginPasses, LogPasses}
 use Rattle.gp_derivation.specs.Log.IsPure.{taken, learned}
-use Rattle.gp_derivation.specs.Step.{Passes, named}
+use Rattle.gp_certificate.specs.Step.{Passes, named}
 use Rattle.gp_base.specs.ListLaws.{got_front, joined_cases}
-use Rattle.gp_derivation.proofs.Drafts.{length_cone}
-use Rattle.gp_derivation.proofs.Purity.{some_pass, pure_below, named_logged, passes_bare}
-use Rattle.gp_derivation.proofs.Rehinting.{NamesAlike, named_checks, check_append, check_wide, check_moved}
+use Rattle.gp_derivation.proofs.Drafts.{based_all, length_cone}
+use Rattle.gp_derivation.proofs.Purity.{some_pass, pure_below, named_logged}
+use Rattle.gp_derivation.proofs.Rehinting.{NamesAlike, named_checks, check_moved}
+use Rattle.gp_certificate.specs.CheckingLaws.{check_append, check_wide}
+use Rattle.gp_certificate.specs.PassingLaws.{more_pass, passes_bare}
 
 -- what an entry rests on is what its hints name
 rests_in : (step : Step) (origin : Origin) (number : ℕ) → Contains (rests_on step origin) number → Contains step.hints number
@@ -208,16 +210,38 @@ renumbered_alike problem locals log kept fitting place hints within keeps hint c
         ∙ number_names problem locals log kept fitting other place entry (omega arith) (keeps other named_so) at_other
         ∙ ap (λ c. Some c) same
 
+-- a hint 0 more names no entry
+based_names : (hints : List ℕ) (bases other : ℕ) → Contains (based hints bases) (bases + other) → Contains hints (bases + other)
+based_names [] zero other by = by
+based_names [] (suc others) other (zero, within, is) = absurd (omega (arith, is))
+based_names [] (suc others) other (suc k, within, is) = absurd (omega (arith, within))
+based_names (hint ∷ hints) bases other by = by
+
+-- and what hints name without it they name with it
+based_more : (clauses : List (List Lit)) (hints : List ℕ) (bases : ℕ) → All (Contains (named clauses (based hints bases))) (named clauses hints)
+based_more clauses [] bases = All-nil (Contains (named clauses (based [] bases)))
+based_more clauses (hint ∷ hints) bases = All-contains_itself (named clauses (hint ∷ hints))
+
+-- a step without hints rests on no clause in a log, so with a hint it passes too
+fits_based : (problem : Problem) (locals : List Kind) (log : List LogEntry) (place : ℕ) (step : Step) → FitsLearned problem locals log place step → FitsLearned problem locals log place (with_base (length problem.clauses) step)
+fits_based problem locals log place step fits = record {
+  hints = based_all (λ hint. hint < length problem.clauses + place) step.hints (length problem.clauses) (λ some. omega (arith, some)) fits.hints;
+  passes = more_pass problem.edges (problem.kinds ++ locals) (named (logged problem log) step.hints) (named (logged problem log) (based step.hints (length problem.clauses))) step.clause step.clause
+      (based_more (logged problem log) step.hints (length problem.clauses)) (All-contains_itself step.clause) fits.passes.in_range fits.passes;
+}
+
 -- the steps of an entry check after those before it
 pub given_checks : (problem : Problem) (locals : List Kind) (log : List LogEntry) (kept : ℕ → Bool) → KeepsFitting problem locals log kept → IsValidProblem problem → (place : ℕ) → place ≤ length log → (step : Step) (origin : Origin)
     → Fits problem locals log place step origin → ((other : ℕ) → Contains (rests_on step origin) (length problem.clauses + other) → kept other ≡ true)
     → StepsCheck problem.edges (problem.kinds ++ locals) (so_far problem log kept place)
     (steps_given (length problem.clauses) (number_of (length problem.clauses) kept log) (steps_before kept log place) step origin)
 given_checks problem locals log kept fitting valid place within step Learned fits keeps =
-    let long : length (logged problem log) ≡ length problem.clauses + length log = length-append problem.clauses (map (λ (entry : LogEntry). entry.step.clause) log) ∙ ap (λ n. length problem.clauses + n) (length-map log (λ (entry : LogEntry). entry.step.clause)) in
-    let hints : All (λ hint. hint < length (logged problem log)) step.hints = All-weaker (λ hint. hint < length problem.clauses + place) (λ hint. hint < length (logged problem log)) (λ hint less. omega (arith, long)) step.hints fits.hints in (
-      named_checks problem.edges (problem.kinds ++ locals) (logged problem log) (so_far problem log kept place) (renumbered (length problem.clauses) (number_of (length problem.clauses) kept log)) step
-          (renumbered_alike problem locals log kept fitting place step.hints fits.hints keeps) hints fits.passes,
+    let bases : ℕ = length problem.clauses in
+    let own : FitsLearned problem locals log place (with_base bases step) = fits_based problem locals log place step fits in
+    let long : length (logged problem log) ≡ bases + length log = length-append problem.clauses (map (λ (entry : LogEntry). entry.step.clause) log) ∙ ap (λ n. bases + n) (length-map log (λ (entry : LogEntry). entry.step.clause)) in
+    let hints : All (λ hint. hint < length (logged problem log)) (based step.hints bases) = All-weaker (λ hint. hint < bases + place) (λ hint. hint < length (logged problem log)) (λ hint less. omega (arith, long)) (based step.hints bases) own.hints in (
+      named_checks problem.edges (problem.kinds ++ locals) (logged problem log) (so_far problem log kept place) (renumbered bases (number_of bases kept log)) (with_base bases step)
+          (renumbered_alike problem locals log kept fitting place (based step.hints bases) own.hints (λ other by. keeps other (based_names step.hints bases other by))) hints own.passes,
       tt,
     )
 given_checks problem locals log kept fitting valid place within step (Taken sender certificate) fits keeps =
@@ -258,5 +282,5 @@ coning problem query log begins last certificate valid passes ends cone =
     let P : List Step → Type 0 = λ steps. StepsCheck problem.edges (problem.kinds ++ query.locals) problem.clauses steps in
     subst P (sym cone.steps)
     (check_append problem.edges (problem.kinds ++ query.locals) problem.clauses (cone_steps (length problem.clauses) cone.kept log (length log))
-    (with_hints (renumbered (length problem.clauses) (number_of (length problem.clauses) cone.kept log)) last ∷ []) (cone_checked problem query.locals log cone.kept fitting valid (length log))
+    (cone_step (length problem.clauses) (number_of (length problem.clauses) cone.kept log) last ∷ []) (cone_checked problem query.locals log cone.kept fitting valid (length log))
     (given_checks problem query.locals log cone.kept fitting valid (length log) (omega arith) last Learned (record { hints = ends.hints; passes = ends.passes }) (λ other by. (cone.reached other).1 (direct other by))))

@@ -4,19 +4,19 @@ use mathlib.Core.Bool.{◌||◌}
 use Rattle.std.specs.List.{slice_get, sum_by, list_any}
 use Rattle.std.specs.Prelude.{AllPairs, Contains}
 use Rattle.std.proofs.lemmas.List.{append-nil, length-append, length-map, length_push, get_or_append_left, get_or_push, get_or_default}
-use Rattle.std.proofs.lemmas.List.Elements.{All-head, All-tail, Contains-get_or}
+use Rattle.std.proofs.lemmas.List.Elements.{All-nil, All-cons, All-head, All-tail, Contains-get_or}
 use Rattle.std.proofs.lemmas.List.Sums.{sum_by_more, sum_by_more_le}
 use Rattle.std.proofs.lemmas.Bool.{cases_eq, cases_lt, eq-eqb, eqb-true}
 use Rattle.std.proofs.lemmas.Bool.Decides.{nat_tests}
 use Rattle.std.proofs.lemmas.Option.{slice_get_cases, get_or_from_slice_get}
-use Rattle.gp_derivation.specs.declared.step.Step.{Step}
+use Rattle.gp_certificate.specs.declared.step.Step.{Step}
 use Rattle.gp_derivation.specs.declared.log.LogEntry.{LogEntry}
 use Rattle.gp_derivation.specs.declared.log.Origin.{Origin}
 use Rattle.gp_derivation.specs.declared.log.Origin.TheVariants.{Learned, Taken}
-use Rattle.gp_derivation.specs.Numbering.{IsNumbered, size_of, counted, steps_before, number_of, number_beside, renumbered, moved, with_hints}
+use Rattle.gp_derivation.specs.Numbering.{IsNumbered, size_of, counted, steps_before, number_of, number_beside, renumbered, moved, based, with_base, with_hints}
 use Rattle.gp_derivation.specs.Reach.{rests_on}
 use Rattle.gp_derivation.proofs.Numbers.{number_at}
-use Rattle.gp_derivation.specs.Cones.{steps_given, kept_steps, cone_steps}
+use Rattle.gp_derivation.specs.Cones.{cone_step, steps_given, kept_steps, cone_steps}
 
 pub map_agree : (f g : ℕ → ℕ) (xs : List ℕ) → All (λ x. f x ≡ g x) xs → map f xs ≡ map g xs
 map_agree f g [] agree = refl
@@ -26,14 +26,33 @@ map_agree f g (x ∷ xs) agree =
     cc
 
 -- a step by two tables of numbers that agree at its hints
-pub with_hints_agree : (bases : ℕ) (f g : ℕ → ℕ) (step : Step) → All (λ hint. renumbered bases f hint ≡ renumbered bases g hint) step.hints → with_hints (renumbered bases f) step ≡ with_hints (renumbered bases g) step
+with_hints_agree : (bases : ℕ) (f g : ℕ → ℕ) (step : Step) → All (λ hint. renumbered bases f hint ≡ renumbered bases g hint) step.hints → with_hints (renumbered bases f) step ≡ with_hints (renumbered bases g) step
 with_hints_agree bases f g step agree =
     let same : map (renumbered bases f) step.hints ≡ map (renumbered bases g) step.hints = map_agree (renumbered bases f) (renumbered bases g) step.hints agree in
     λ i. record { clause = step.clause; hints = same i }
 
+-- what holds of the hints of a step, and of a hint to a base clause, holds of its hints in a cone
+pub based_all : (P : ℕ → Type 0) (hints : List ℕ) (bases : ℕ) → (0 < bases → P 0) → All P hints → All P (based hints bases)
+based_all P [] zero first all = All-nil P
+based_all P [] (suc others) first all = All-cons P 0 [] (first (omega arith)) (All-nil P)
+based_all P (hint ∷ hints) bases first all = all
+
+-- a hint to a base clause stays by any table of numbers
+base_stays : (bases : ℕ) (number : ℕ → ℕ) → 0 < bases → renumbered bases number 0 ≡ 0
+base_stays bases number some = at (nat_lt 0 bases) refl
+  where
+    at : (b : Bool) → nat_lt 0 bases ≡ b → renumbered bases number 0 ≡ 0
+    at true e = rw e refl
+    at false e = absurd (let none : bases ≤ 0 = grind (arith, nat_tests) in omega (arith, some, none))
+
+-- a step in a cone by two tables of numbers that agree at its hints
+pub cone_step_agree : (bases : ℕ) (f g : ℕ → ℕ) (step : Step) → All (λ hint. renumbered bases f hint ≡ renumbered bases g hint) step.hints → cone_step bases f step ≡ cone_step bases g step
+cone_step_agree bases f g step agree = with_hints_agree bases f g (with_base bases step)
+    (based_all (λ hint. renumbered bases f hint ≡ renumbered bases g hint) step.hints bases (λ some. base_stays bases f some ∙ sym (base_stays bases g some)) agree)
+
 -- the steps that an entry gives
 given_agree : (bases before : ℕ) (f g : ℕ → ℕ) (step : Step) (origin : Origin) → All (λ hint. renumbered bases f hint ≡ renumbered bases g hint) (rests_on step origin) → steps_given bases f before step origin ≡ steps_given bases g before step origin
-given_agree bases before f g step Learned agree = ap (λ (s : Step). s ∷ []) (with_hints_agree bases f g step agree)
+given_agree bases before f g step Learned agree = ap (λ (s : Step). s ∷ []) (cone_step_agree bases f g step agree)
 given_agree bases before f g step (Taken sender certificate) agree = refl
 
 length_given : (bases : ℕ) (number : ℕ → ℕ) (before : ℕ) (step : Step) (origin : Origin) → length (steps_given bases number before step origin) ≡ size_of (record { step = step; origin = origin })

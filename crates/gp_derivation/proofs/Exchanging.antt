@@ -7,25 +7,22 @@ use Rattle.std.proofs.lemmas.Option.{slice_get_within}
 use Rattle.gp_clause.specs.declared.kind.Kind.{Kind}
 use Rattle.gp_clause.specs.declared.problem.Problem.{Problem}
 use Rattle.gp_clause.specs.Clause.{NamesBelow}
-use Rattle.gp_clause.specs.Follows.{LocalsChangeNothing}
 use Rattle.gp_clause.specs.Problem.{IsValidProblem}
-use Rattle.gp_derivation.specs.declared.certificate.Certificate.{Certificate}
+use Rattle.gp_certificate.specs.declared.certificate.Certificate.{Certificate}
 use Rattle.gp_derivation.specs.declared.log.LogEntry.{LogEntry}
 use Rattle.gp_derivation.specs.declared.log.Origin.{Origin}
 use Rattle.gp_derivation.specs.declared.log.Origin.TheVariants.{Learned, Taken}
-use Rattle.gp_derivation.specs.declared.step.Step.{Step}
-use Rattle.gp_derivation.specs.Certificate.{Proves, StepsCheck, clauses_of}
-use Rattle.gp_derivation.specs.Cones.{IsCone, steps_given, kept_steps, cone_steps}
-use Rattle.gp_derivation.specs.Exchange.{FitIsGood, GoodFollows}
+use Rattle.gp_certificate.specs.declared.step.Step.{Step}
+use Rattle.gp_certificate.specs.Certificate.{Proves, StepsCheck, clauses_of}
+use Rattle.gp_derivation.specs.Cones.{IsCone, cone_step, steps_given, kept_steps, cone_steps}
+use Rattle.gp_derivation.specs.Exchange.{FitIsGood}
 use Rattle.gp_derivation.specs.Fit.{IsConeBy}
 use Rattle.gp_derivation.specs.Log.{LogPasses, OriginPasses}
-use Rattle.gp_derivation.specs.Numbering.{steps_before, number_of, renumbered, with_hints}
+use Rattle.gp_derivation.specs.Numbering.{steps_before, number_of}
 use Rattle.gp_derivation.specs.Reach.IsReached.{direct, through}
-use Rattle.gp_derivation.proofs.Checking.{certificates}
 use Rattle.gp_derivation.proofs.Coning.{FitsLearned, KeepsFitting, cone_checked, cone_prefix, fits_pure, given_checks}
-use Rattle.gp_derivation.proofs.Passing.{Laws}
 use Rattle.gp_derivation.proofs.Purity.{some_pass, taken_below}
-use Rattle.gp_derivation.proofs.Rehinting.{check_append}
+use Rattle.gp_certificate.specs.CheckingLaws.{check_append}
 use Rattle.gp_derivation.proofs.Rooms.{all_left, all_right}
 
 -- an entry that gives clauses of problem variables alone has a clause of them
@@ -49,7 +46,7 @@ module _ (problem : Problem) (locals : List Kind) (log : List LogEntry) (begins 
   cone = cone_steps bases bare.cone.kept log (length log)
 
   abbrev ending : Step
-  ending = with_hints (renumbered bases (number_of bases bare.cone.kept log)) last
+  ending = cone_step bases (number_of bases bare.cone.kept log) last
 
   parts : clauses_of certificate.steps ≡ clauses_of cone ++ last.clause ∷ []
   parts = ap clauses_of bare.cone.steps ∙ map-append (λ (s : Step). s.clause) cone (ending ∷ [])
@@ -129,6 +126,3 @@ fits_good problem locals log begins valid passes place entry certificate got fit
       small = fit.small;
       proves = cone_proves problem locals log begins some.0 some.1 place entry.step entry.origin certificate valid passes fit.small.below (slice_get_within log place entry got) some.2 fit.cone;
     }
-
-pub goods_follow : Laws → LocalsChangeNothing → GoodFollows
-goods_follow laws locals problem clause certificate valid good = (certificates laws locals).proved problem certificate clause valid good.proves

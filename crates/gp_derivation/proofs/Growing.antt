@@ -8,16 +8,16 @@ use Rattle.std.proofs.lemmas.Option.{same_Some, slice_get_within}
 use Rattle.gp_clause.specs.declared.kind.Kind.{Kind}
 use Rattle.gp_clause.specs.declared.lit.Lit.{Lit}
 use Rattle.gp_clause.specs.declared.problem.Problem.{Problem}
-use Rattle.gp_derivation.specs.declared.step.Step.{Step}
+use Rattle.gp_certificate.specs.declared.step.Step.{Step}
 use Rattle.gp_derivation.specs.declared.log.LogEntry.{LogEntry}
 use Rattle.gp_derivation.specs.declared.log.Origin.{Origin}
 use Rattle.gp_derivation.specs.declared.log.Origin.TheVariants.{Learned, Taken}
 use Rattle.gp_derivation.specs.Log.{logged, IsPure, IsUsable, OriginPasses, EntryPasses, LogPasses, LogGrows}
 use Rattle.gp_derivation.specs.Log.IsPure.{taken, learned}
-use Rattle.gp_derivation.specs.Step.{named}
+use Rattle.gp_certificate.specs.Step.{named}
 use Rattle.gp_base.specs.ListLaws.{got_front, slice_get_front, slice_get_back}
-use Rattle.gp_derivation.specs.NamedLaws.{named_all, named_contains}
-use Rattle.gp_derivation.proofs.Passing.{more_pass}
+use Rattle.gp_certificate.specs.NamedLaws.{named_all, named_contains}
+use Rattle.gp_certificate.specs.PassingLaws.{more_pass}
 use Rattle.gp_derivation.proofs.Purity.{some_pass}
 
 pure_longer : (problem : Problem) (log more : List LogEntry) (place : ℕ) → IsPure problem log place → IsPure problem (log ++ more) place

@@ -13,11 +13,10 @@ use Rattle.gp_clause.specs.declared.lit.Lit.{Lit}
 use Rattle.gp_clause.specs.Clause.{NamesOnce, NamesTwice, occurrences}
 use Rattle.gp_clause.specs.Lit.{lit_eq}
 use Rattle.gp_clause.specs.LitLaws.{lit_eq_decides}
-use Rattle.gp_derivation.specs.Step.{Passes}
+use Rattle.gp_certificate.specs.Step.{Passes}
 use Rattle.gp_derivation.specs.Tight.{IsTight, left_out}
-use Rattle.gp_base.specs.ListLaws.{there}
-use Rattle.gp_derivation.proofs.Passing.{more_pass}
-use Rattle.gp_derivation.proofs.Standing.{all_from_contains}
+use Rattle.gp_base.specs.ListLaws.{all_from_contains, there}
+use Rattle.gp_certificate.specs.PassingLaws.{more_pass}
 
 -- what was taken out and put back
 pub put_back : {X : Type 0} (xs : List X) (i : ℕ) (x : X) → i < length xs → x ≡ get_or xs i x → insert (remove xs i) i x ≡ xs

@@ -1,5 +1,3 @@
-pub mod Passing
-pub mod Checking
 pub mod Purity
 pub mod Descending
 pub mod Numbers
@@ -9,19 +7,7 @@ pub mod Coning
 pub mod Growing
 pub mod Staying
 pub mod ConeParts
-pub mod Standing
-pub mod Settling
-pub mod BoundsAt
-pub mod Bounding
-pub mod Trying
-pub mod Sharing
 pub mod LeavingOut
-pub mod Naming
-pub mod Owning
-pub mod Counts
-pub mod Falling
-pub mod Listing
-pub mod Readying
 pub mod Rooms
 pub mod Narrowing
 pub mod Exchanging

@@ -6,15 +6,15 @@ use Rattle.std.proofs.lemmas.List.{map-append}
 use Rattle.std.proofs.lemmas.List.Elements.{All-contains, Contains-push, Contains-push_cases}
 use Rattle.gp_clause.specs.declared.lit.Lit.{Lit}
 use Rattle.gp_clause.specs.declared.problem.Problem.{Problem}
-use Rattle.gp_derivation.specs.declared.certificate.Certificate.{Certificate}
+use Rattle.gp_certificate.specs.declared.certificate.Certificate.{Certificate}
 use Rattle.gp_derivation.specs.declared.log.LogEntry.{LogEntry}
 use Rattle.gp_derivation.specs.declared.log.Origin.{Origin}
 use Rattle.gp_derivation.specs.declared.log.Origin.TheVariants.{Learned, Taken}
 use Rattle.gp_derivation.specs.declared.room.Room.{Room}
-use Rattle.gp_derivation.specs.declared.step.Step.{Step}
-use Rattle.gp_derivation.specs.Certificate.{clauses_of}
-use Rattle.gp_derivation.specs.Cones.{IsCone, steps_given, kept_steps, cone_steps}
-use Rattle.gp_derivation.specs.Numbering.{AllNameEarlier, CanBeNumbered, steps_before, number_of, renumbered, moved, with_hints}
+use Rattle.gp_certificate.specs.declared.step.Step.{Step}
+use Rattle.gp_certificate.specs.Certificate.{clauses_of}
+use Rattle.gp_derivation.specs.Cones.{IsCone, cone_step, steps_given, kept_steps, cone_steps}
+use Rattle.gp_derivation.specs.Numbering.{AllNameEarlier, CanBeNumbered, steps_before, number_of, moved}
 use Rattle.gp_derivation.specs.Reach.{IsReached, rests_on}
 use Rattle.gp_derivation.specs.Reach.IsReached.{direct, through}
 use Rattle.gp_derivation.specs.Room.{HasNoSmallCone, HasPlace, HasSmallCone, Leaves, clauses_by, whole_room}
@@ -143,7 +143,7 @@ narrowed_more problem log last bound places todo rest room place entry n bases h
 cone_has : (problem : Problem) (log : List LogEntry) (last : Step) (certificate : Certificate) → (cone : IsCone (length problem.clauses) log last certificate)
     → clauses_of certificate.steps ≡ cone_clauses problem log cone.kept (length log) ++ last.clause ∷ []
 cone_has problem log last certificate cone =
-    ap clauses_of cone.steps ∙ map-append (λ (s : Step). s.clause) (cone_steps (length problem.clauses) cone.kept log (length log)) (with_hints (renumbered (length problem.clauses) (number_of (length problem.clauses) cone.kept log)) last ∷ [])
+    ap clauses_of cone.steps ∙ map-append (λ (s : Step). s.clause) (cone_steps (length problem.clauses) cone.kept log (length log)) (cone_step (length problem.clauses) (number_of (length problem.clauses) cone.kept log) last ∷ [])
 
 -- where there is no place for the step itself, no cone of it is small
 pub none_at_once : (problem : Problem) (log : List LogEntry) (last : Step) (n : ℕ) (room : Room) → n ≡ length problem.kinds → room ≡ whole_room → (HasPlace n room (last.clause ∷ []) → ⊥) → HasNoSmallCone problem log last

@@ -2,30 +2,26 @@
 use Rattle.std.proofs.Common.{◌≡◌, ℕ, ◌+◌, ◌-◌, ◌<◌, ◌≤◌, ◌⊎◌, inl, inr, Bool, true, false, nat_lt, Some, List, [], ◌∷◌, ◌++◌, length, map, get_or, All, Contains, refl, sym, ◌∙◌, subst, ap, append_assoc, arith}
 use Rattle.std.specs.List.{slice_get}
 use Rattle.std.proofs.lemmas.Bool.Decides.{nat_tests}
-use Rattle.std.proofs.lemmas.List.{append-nil, length-append}
-use Rattle.std.proofs.lemmas.List.Elements.{All-nil, All-head, All-tail, All-map, All-push, All-weaker, All-contains, All-contains_itself, Contains-append_left, Contains-append_right, Contains-append_cases}
+use Rattle.std.proofs.lemmas.List.{length-append}
+use Rattle.std.proofs.lemmas.List.Elements.{All-nil, All-map, All-weaker, All-contains, All-contains_itself, Contains-append_left, Contains-append_right, Contains-append_cases}
 use Rattle.std.proofs.lemmas.Option.{slice_get-get_or, slice_get_within}
 use Rattle.gp_clause.specs.declared.edge.Edge.{Edge}
 use Rattle.gp_clause.specs.declared.kind.Kind.{Kind}
 use Rattle.gp_clause.specs.declared.lit.Lit.{Lit}
-use Rattle.gp_clause.specs.declared.problem.Problem.{Problem}
-use Rattle.gp_clause.specs.Clause.{NamesBelow}
-use Rattle.gp_derivation.specs.declared.step.Step.{Step}
-use Rattle.gp_derivation.specs.Certificate.{clauses_of, hinted, StepChecks, StepsCheck}
+use Rattle.gp_certificate.specs.declared.step.Step.{Step}
+use Rattle.gp_certificate.specs.Certificate.{usable, StepChecks, StepsCheck}
 use Rattle.gp_derivation.specs.Numbering.{moved, with_hints}
-use Rattle.gp_derivation.specs.Step.{Passes, named}
+use Rattle.gp_certificate.specs.Step.{Passes, named}
 use Rattle.gp_base.specs.ListLaws.{contains_map, got_front, slice_get_front, slice_get_back}
-use Rattle.gp_derivation.specs.NamedLaws.{named_all, named_contains}
-use Rattle.gp_derivation.proofs.Passing.{more_pass}
-use Rattle.gp_derivation.proofs.Checking.{hinted_among}
-use Rattle.gp_derivation.proofs.Purity.{passes_bare}
+use Rattle.gp_certificate.specs.NamedLaws.{named_all, named_contains}
+use Rattle.gp_certificate.specs.PassingLaws.{more_pass}
 
 -- hints replaced by others name in a second list what they named in a first
 abbrev pub NamesAlike : List (List Lit) → List (List Lit) → (ℕ → ℕ) → List ℕ → Type 0
 NamesAlike all more f hints = (hint : ℕ) (clause : List Lit) → Contains hints hint → slice_get all hint ≡ Some clause → slice_get more (f hint) ≡ Some clause
 
 -- what hints named is among what a step may use by the hints in their place
-used_alike : (all more : List (List Lit)) (f : ℕ → ℕ) (hints : List ℕ) → NamesAlike all more f hints → All (Contains (hinted more (map f hints))) (named all hints)
+used_alike : (all more : List (List Lit)) (f : ℕ → ℕ) (hints : List ℕ) → NamesAlike all more f hints → All (Contains (usable more more (map f hints))) (named all hints)
 used_alike all more f [] alike = All-nil (Contains more)
 used_alike all more f (first ∷ hints) alike =
     named_all (Contains (named more (map f (first ∷ hints)))) all (first ∷ hints)
@@ -42,10 +38,10 @@ pub named_checks : (edges : List Edge) (kinds : List Kind) (all more : List (Lis
     → All (λ hint. hint < length all) step.hints → Passes edges kinds (named all step.hints) step.clause → StepChecks edges kinds more (with_hints f step)
 named_checks edges kinds all more f step alike within passes = record {
   hints = hints_alike all more f step.hints alike within;
-  passes = more_pass edges kinds (named all step.hints) (hinted more (map f step.hints)) step.clause step.clause (used_alike all more f step.hints alike) (All-contains_itself step.clause) passes.in_range passes;
+  passes = more_pass edges kinds (named all step.hints) (usable more more (map f step.hints)) step.clause step.clause (used_alike all more f step.hints alike) (All-contains_itself step.clause) passes.in_range passes;
 }
 
-hinted_alike : (all more : List (List Lit)) (f : ℕ → ℕ) (hints : List ℕ) → NamesAlike all more f hints → All (Contains more) all → All (Contains (hinted more (map f hints))) (hinted all hints)
+hinted_alike : (all more : List (List Lit)) (f : ℕ → ℕ) (hints : List ℕ) → NamesAlike all more f hints → All (Contains more) all → All (Contains (usable more more (map f hints))) (usable all all hints)
 hinted_alike all more f [] alike among = among
 hinted_alike all more f (first ∷ hints) alike among = used_alike all more f (first ∷ hints) alike
 
@@ -54,41 +50,8 @@ pub hinted_checks : (edges : List Edge) (kinds : List Kind) (all more : List (Li
     → StepChecks edges kinds all step → StepChecks edges kinds more (with_hints f step)
 hinted_checks edges kinds all more f step alike among checks = record {
   hints = hints_alike all more f step.hints alike checks.hints;
-  passes = more_pass edges kinds (hinted all step.hints) (hinted more (map f step.hints)) step.clause step.clause (hinted_alike all more f step.hints alike among) (All-contains_itself step.clause) checks.passes.in_range checks.passes;
+  passes = more_pass edges kinds (usable all all step.hints) (usable more more (map f step.hints)) step.clause step.clause (hinted_alike all more f step.hints alike among) (All-contains_itself step.clause) checks.passes.in_range checks.passes;
 }
-
--- steps check one after the other
-pub check_append : (edges : List Edge) (kinds : List Kind) (earlier : List (List Lit)) (steps more : List Step) → StepsCheck edges kinds earlier steps → StepsCheck edges kinds (earlier ++ clauses_of steps) more
-    → StepsCheck edges kinds earlier (steps ++ more)
-check_append edges kinds earlier [] more first second =
-    let P : List (List Lit) → Type 0 = λ xs. StepsCheck edges kinds xs more in
-    subst P (append-nil earlier) second
-check_append edges kinds earlier (step ∷ steps) more first second =
-    let P : List (List Lit) → Type 0 = λ xs. StepsCheck edges kinds xs more in
-    (first.0, check_append edges kinds (earlier ++ step.clause ∷ []) steps more first.1 (subst P (sym (append_assoc earlier (step.clause ∷ []) (clauses_of steps))) second))
-
--- steps that check without locals check with them, after clauses of problem variables
-pub check_wide : (problem : Problem) (locals : List Kind) (earlier : List (List Lit)) (steps : List Step) → All (NamesBelow (length problem.kinds)) earlier
-    → StepsCheck problem.edges (problem.kinds ++ []) earlier steps → StepsCheck problem.edges (problem.kinds ++ locals) earlier steps
-check_wide problem locals earlier [] below checks = tt
-check_wide problem locals earlier (step ∷ steps) below checks =
-    let P : List Kind → Type 0 = λ kinds. NamesBelow (length kinds) step.clause in
-    let names : NamesBelow (length problem.kinds) step.clause = subst P (append-nil problem.kinds) checks.0.passes.in_range in
-    let used : All (NamesBelow (length problem.kinds)) (hinted earlier step.hints) = All-weaker (Contains earlier) (NamesBelow (length problem.kinds)) (λ clause is. All-contains (NamesBelow (length problem.kinds)) earlier clause below is) (hinted earlier step.hints) (hinted_among earlier step.hints) in (
-      record { hints = checks.0.hints; passes = passes_bare problem [] locals (hinted earlier step.hints) step.clause used names checks.0.passes },
-      check_wide problem locals (earlier ++ step.clause ∷ []) steps (All-push (NamesBelow (length problem.kinds)) earlier step.clause below names) checks.1,
-    )
-
--- steps that have problem variables only check whatever the other variables are
-pub check_bare : (problem : Problem) (own other : List Kind) (earlier : List (List Lit)) (steps : List Step) → All (NamesBelow (length problem.kinds)) earlier → All (NamesBelow (length problem.kinds)) (clauses_of steps)
-    → StepsCheck problem.edges (problem.kinds ++ own) earlier steps → StepsCheck problem.edges (problem.kinds ++ other) earlier steps
-check_bare problem own other earlier [] below named checks = tt
-check_bare problem own other earlier (step ∷ steps) below named checks =
-    let names : NamesBelow (length problem.kinds) step.clause = All-head (NamesBelow (length problem.kinds)) step.clause (clauses_of steps) named in
-    let used : All (NamesBelow (length problem.kinds)) (hinted earlier step.hints) = All-weaker (Contains earlier) (NamesBelow (length problem.kinds)) (λ clause is. All-contains (NamesBelow (length problem.kinds)) earlier clause below is) (hinted earlier step.hints) (hinted_among earlier step.hints) in (
-      record { hints = checks.0.hints; passes = passes_bare problem own other (hinted earlier step.hints) step.clause used names checks.0.passes },
-      check_bare problem own other (earlier ++ step.clause ∷ []) steps (All-push (NamesBelow (length problem.kinds)) earlier step.clause below names) (All-tail (NamesBelow (length problem.kinds)) step.clause (clauses_of steps) named) checks.1,
-    )
 
 -- a hint to a base clause names it still, and one to a step names the step that comes so many later
 moved_alike : (base added done : List (List Lit)) (hints : List ℕ) → NamesAlike (base ++ done) (base ++ added ++ done) (moved (length base) (length added)) hints

@@ -8,10 +8,10 @@ use Rattle.std.specs.Prelude.{Contains}
 use Rattle.gp_clause.specs.declared.lit.Lit.{Lit}
 use Rattle.gp_clause.specs.declared.problem.Problem.{Problem}
 use Rattle.gp_clause.specs.Clause.{NamesBelow}
-use Rattle.gp_derivation.specs.declared.certificate.Certificate.{Certificate}
+use Rattle.gp_certificate.specs.declared.certificate.Certificate.{Certificate}
 use Rattle.gp_derivation.specs.declared.room.Room.{Room}
-use Rattle.gp_derivation.specs.declared.step.Step.{Step}
-use Rattle.gp_derivation.specs.Certificate.{clauses_of}
+use Rattle.gp_certificate.specs.declared.step.Step.{Step}
+use Rattle.gp_certificate.specs.Certificate.{clauses_of}
 use Rattle.gp_derivation.specs.Fit.{IsSmall, literals_in}
 use Rattle.gp_derivation.specs.Room.{HasPlace, Leaves, whole_room}
 

@@ -8,20 +8,20 @@ use Rattle.std.proofs.lemmas.Option.{slice_get_within}
 use Rattle.gp_clause.specs.declared.kind.Kind.{Kind}
 use Rattle.gp_clause.specs.declared.lit.Lit.{Lit}
 use Rattle.gp_clause.specs.declared.problem.Problem.{Problem}
-use Rattle.gp_derivation.specs.declared.step.Step.{Step}
-use Rattle.gp_derivation.specs.declared.certificate.Certificate.{Certificate}
+use Rattle.gp_certificate.specs.declared.step.Step.{Step}
+use Rattle.gp_certificate.specs.declared.certificate.Certificate.{Certificate}
 use Rattle.gp_derivation.specs.declared.log.LogEntry.{LogEntry}
 use Rattle.gp_derivation.specs.declared.log.Origin.{Origin}
 use Rattle.gp_derivation.specs.declared.log.Origin.TheVariants.{Learned, Taken}
 use Rattle.gp_derivation.specs.declared.record.Turn.{Turn}
 use Rattle.gp_derivation.specs.Log.{IsLearned, OriginPasses, logged}
-use Rattle.gp_derivation.specs.Step.{named}
+use Rattle.gp_certificate.specs.Step.{named}
 use Rattle.gp_derivation.specs.Tight.{IsTight}
 use Rattle.gp_derivation.specs.Spent.{IsNewBy, SpentStays, turned}
-use Rattle.gp_derivation.specs.Numbering.{AllNameEarlier, NamesEarlier, counted, steps_before, number_of, renumbered, with_hints}
+use Rattle.gp_derivation.specs.Numbering.{AllNameEarlier, NamesEarlier, counted, steps_before, number_of}
 use Rattle.gp_derivation.specs.Reach.{IsReached, rests_on}
 use Rattle.gp_derivation.specs.Reach.IsReached.{direct, through}
-use Rattle.gp_derivation.specs.Cones.{ConeIsUnique, ConeStays, IsCone, kept_steps, cone_steps}
+use Rattle.gp_derivation.specs.Cones.{ConeIsUnique, ConeStays, IsCone, cone_step, kept_steps, cone_steps}
 use Rattle.gp_derivation.specs.Fit.{IsConeBy}
 use Rattle.gp_derivation.specs.FitStaying.{FitStays}
 use Rattle.gp_base.specs.ListLaws.{slice_get_front, got_front}
@@ -96,7 +96,7 @@ cone_is_unique bases log last certificate other one two = λ i. record { steps =
     kept = λ i place. same_test (one.kept place) (two.kept place) (λ told. (two.reached place).1 ((one.reached place).0 told)) (λ told. (one.reached place).1 ((two.reached place).0 told)) i
 
     steps : certificate.steps ≡ other.steps
-    steps = one.steps ∙ ap (λ (k : ℕ → Bool). cone_steps bases k log (length log) ++ with_hints (renumbered bases (number_of bases k log)) last ∷ []) kept ∙ sym two.steps
+    steps = one.steps ∙ ap (λ (k : ℕ → Bool). cone_steps bases k log (length log) ++ cone_step bases (number_of bases k log) last ∷ []) kept ∙ sym two.steps
 
 -- what is reached from hints that name entries of a log stands in it
 pub reached_within : (bases : ℕ) (log : List LogEntry) (hints : List ℕ) → AllNameEarlier bases log → All (λ hint. hint < bases + length log) hints
@@ -162,7 +162,7 @@ cone_stays bases log more last certificate names within cone = record {
     λ told. reached_longer bases log more last.hints place ((cone.reached place).0 told),
     λ reached. (cone.reached place).1 (reached_shorter bases log more last.hints names within place reached),
   );
-  steps = cone.steps ∙ (λ i. front i ++ with_hints (renumbered bases (sym (numbers_same bases log more cone.kept none) i)) last ∷ []);
+  steps = cone.steps ∙ (λ i. front i ++ cone_step bases (sym (numbers_same bases log more cone.kept none) i) last ∷ []);
 }
   where
     none : (place : ℕ) → length log ≤ place → cone.kept place ≡ false
@@ -184,7 +184,7 @@ cone_shortens bases log more last certificate names within cone = record {
     λ told. reached_shorter bases log more last.hints names within place ((cone.reached place).0 told),
     λ reached. (cone.reached place).1 (reached_longer bases log more last.hints place reached),
   );
-  steps = cone.steps ∙ (λ i. front i ++ with_hints (renumbered bases (numbers_same bases log more cone.kept none i)) last ∷ []);
+  steps = cone.steps ∙ (λ i. front i ++ cone_step bases (numbers_same bases log more cone.kept none i) last ∷ []);
 }
   where
     none : (place : ℕ) → length log ≤ place → cone.kept place ≡ false

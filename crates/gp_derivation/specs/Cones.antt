@@ -4,19 +4,24 @@ use Rattle.std.specs.Arc.{arc_value}
 use Rattle.gp_clause.specs.declared.problem.Problem.{Problem}
 use Rattle.gp_clause.specs.declared.problem.Query.{Query}
 use Rattle.gp_clause.specs.Problem.{IsValidProblem}
-use Rattle.gp_derivation.specs.declared.step.Step.{Step}
-use Rattle.gp_derivation.specs.declared.certificate.Certificate.{Certificate}
+use Rattle.gp_certificate.specs.declared.step.Step.{Step}
+use Rattle.gp_certificate.specs.declared.certificate.Certificate.{Certificate}
 use Rattle.gp_derivation.specs.declared.log.LogEntry.{LogEntry}
 use Rattle.gp_derivation.specs.declared.log.Origin.{Origin}
 use Rattle.gp_derivation.specs.declared.log.Origin.TheVariants.{Learned, Taken}
-use Rattle.gp_derivation.specs.Certificate.{Checks}
+use Rattle.gp_certificate.specs.Certificate.{Checks}
 use Rattle.gp_derivation.specs.Log.{LearnedPasses, LogPasses}
-use Rattle.gp_derivation.specs.Numbering.{AllNameEarlier, steps_before, number_of, renumbered, moved, with_hints}
+use Rattle.gp_derivation.specs.Numbering.{AllNameEarlier, steps_before, number_of, renumbered, moved, with_base, with_hints}
 use Rattle.gp_derivation.specs.Reach.{IsReached}
+
+-- a learned step in a cone: its hints to entries become hints to their numbers, and where it has none it gets the one hint 0,
+-- if there is a base clause
+abbrev pub cone_step : ℕ → (ℕ → ℕ) → Step → Step
+cone_step bases number step = with_hints (renumbered bases number) (with_base bases step)
 
 -- the steps that an entry gives after so many others: a learned one itself, and a taken one those of its certificate
 abbrev pub steps_given : ℕ → (ℕ → ℕ) → ℕ → Step → Origin → List Step
-steps_given bases number before step Learned = with_hints (renumbered bases number) step ∷ []
+steps_given bases number before step Learned = cone_step bases number step ∷ []
 steps_given bases number before step (Taken sender certificate) = map (with_hints (moved bases before)) (arc_value certificate).steps
 
 -- the steps that an entry gives, where it is kept
@@ -34,7 +39,7 @@ cone_steps bases kept log (suc place) = cone_steps bases kept log place ++ kept_
 pub record IsCone (bases : ℕ) (log : List LogEntry) (last : Step) (certificate : Certificate) : Type 0 where
   pub kept : ℕ → Bool
   pub reached : (place : ℕ) → IsTrue (kept place) ↔ IsReached bases log last.hints place
-  pub steps : certificate.steps ≡ cone_steps bases kept log (length log) ++ with_hints (renumbered bases (number_of bases kept log)) last ∷ []
+  pub steps : certificate.steps ≡ cone_steps bases kept log (length log) ++ cone_step bases (number_of bases kept log) last ∷ []
 
 -- the cone of a step that passes at the end of a log whose entries pass is a certificate that checks
 abbrev pub ConeChecks : Type 0

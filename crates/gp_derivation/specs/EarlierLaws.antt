@@ -13,8 +13,8 @@ use Rattle.gp_clause.specs.declared.problem.Problem.{Problem}
 use Rattle.gp_derivation.specs.declared.log.LogEntry.{LogEntry}
 use Rattle.gp_derivation.specs.declared.log.Origin.{Origin}
 use Rattle.gp_derivation.specs.declared.log.Origin.TheVariants.{Learned, Taken}
-use Rattle.gp_derivation.specs.declared.step.Step.{Step}
-use Rattle.gp_derivation.specs.Certificate.{Proves, StepsCheck}
+use Rattle.gp_certificate.specs.declared.step.Step.{Step}
+use Rattle.gp_certificate.specs.Certificate.{Proves, StepsCheck}
 use Rattle.gp_derivation.specs.Log.{LogPasses, OriginPasses}
 use Rattle.gp_derivation.specs.Numbering.{AllNameEarlier, NamesEarlier}
 

@@ -6,10 +6,10 @@ use Rattle.gp_clause.specs.declared.lit.Lit.{Lit}
 use Rattle.gp_clause.specs.declared.problem.Problem.{Problem}
 use Rattle.gp_clause.specs.Follows.{Follows}
 use Rattle.gp_clause.specs.Problem.{IsValidProblem}
-use Rattle.gp_derivation.specs.declared.certificate.Certificate.{Certificate}
+use Rattle.gp_certificate.specs.declared.certificate.Certificate.{Certificate}
 use Rattle.gp_derivation.specs.declared.exchange.SharedClause.{SharedClause}
 use Rattle.gp_derivation.specs.declared.log.LogEntry.{LogEntry}
-use Rattle.gp_derivation.specs.Certificate.{Proves}
+use Rattle.gp_certificate.specs.Certificate.{Proves}
 use Rattle.gp_derivation.specs.Fit.{IsFitBy, IsSmall}
 use Rattle.gp_derivation.specs.Log.{LogPasses}
 

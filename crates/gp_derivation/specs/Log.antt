@@ -6,13 +6,13 @@ use Rattle.gp_clause.specs.declared.problem.Problem.{Problem}
 use Rattle.gp_clause.specs.Clause.{NamesBelow}
 use Rattle.gp_clause.specs.Follows.{Follows}
 use Rattle.gp_clause.specs.Problem.{IsValidProblem}
-use Rattle.gp_derivation.specs.declared.step.Step.{Step}
-use Rattle.gp_derivation.specs.declared.certificate.Certificate.{Certificate}
+use Rattle.gp_certificate.specs.declared.step.Step.{Step}
+use Rattle.gp_certificate.specs.declared.certificate.Certificate.{Certificate}
 use Rattle.gp_derivation.specs.declared.log.LogEntry.{LogEntry}
 use Rattle.gp_derivation.specs.declared.log.Origin.{Origin}
 use Rattle.gp_derivation.specs.declared.log.Origin.TheVariants.{Learned, Taken}
-use Rattle.gp_derivation.specs.Step.{Passes, named}
-use Rattle.gp_derivation.specs.Certificate.{Proves}
+use Rattle.gp_certificate.specs.Step.{Passes, named}
+use Rattle.gp_certificate.specs.Certificate.{Proves}
 
 -- an origin is that of a taken entry
 abbrev pub IsTaken : Origin → Type 0

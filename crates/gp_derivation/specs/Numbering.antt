@@ -1,8 +1,8 @@
 -- The numbers of the steps of a cone, and hints by them.
-use Rattle.std.specs.Prelude.{ℕ, ◌≡◌, ◌+◌, ◌-◌, ◌<◌, ◌^◌, suc, zero, Bool, true, false, nat_lt, if◌then◌else◌, List, Option, None, Some, length, map, slice_get, slice_index_or, ◌≤◌, ◌==◌, All}
+use Rattle.std.specs.Prelude.{ℕ, ◌≡◌, ◌+◌, ◌-◌, ◌<◌, ◌^◌, suc, zero, Bool, true, false, nat_lt, if◌then◌else◌, List, [], ◌∷◌, Option, None, Some, length, map, slice_get, slice_index_or, ◌≤◌, ◌==◌, All}
 use Rattle.std.specs.List.{sum_by, position_or_len}
 use Rattle.std.specs.Arc.{arc_value}
-use Rattle.gp_derivation.specs.declared.step.Step.{Step}
+use Rattle.gp_certificate.specs.declared.step.Step.{Step}
 use Rattle.gp_derivation.specs.declared.log.LogEntry.{LogEntry}
 use Rattle.gp_derivation.specs.declared.log.Origin.{Origin}
 use Rattle.gp_derivation.specs.declared.log.Origin.TheVariants.{Learned, Taken}
@@ -76,3 +76,13 @@ moved bases by hint = if nat_lt hint bases then hint else (hint + by)
 -- a step with each of its hints replaced
 abbrev pub with_hints : (ℕ → ℕ) → Step → Step
 with_hints replaced step = record { clause = step.clause; hints = map replaced step.hints }
+
+-- some hints, or where there are none the one to the first base clause, if there is one
+abbrev pub based : List ℕ → ℕ → List ℕ
+based [] zero = []
+based [] (suc others) = 0 ∷ []
+based (hint ∷ hints) bases = hint ∷ hints
+
+-- a step that rests on no clause with the one hint 0, where there is a base clause; any other step as it is
+abbrev pub with_base : ℕ → Step → Step
+with_base bases step = record { clause = step.clause; hints = based step.hints bases }

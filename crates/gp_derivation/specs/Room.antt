@@ -5,13 +5,13 @@ use Rattle.std.specs.Arc.{arc_value}
 use Rattle.gp_clause.specs.declared.lit.Lit.{Lit}
 use Rattle.gp_clause.specs.declared.problem.Problem.{Problem}
 use Rattle.gp_clause.specs.Clause.{NamesBelow}
-use Rattle.gp_derivation.specs.declared.step.Step.{Step}
-use Rattle.gp_derivation.specs.declared.certificate.Certificate.{Certificate}
+use Rattle.gp_certificate.specs.declared.step.Step.{Step}
+use Rattle.gp_certificate.specs.declared.certificate.Certificate.{Certificate}
 use Rattle.gp_derivation.specs.declared.log.LogEntry.{LogEntry}
 use Rattle.gp_derivation.specs.declared.log.Origin.{Origin}
 use Rattle.gp_derivation.specs.declared.log.Origin.TheVariants.{Learned, Taken}
 use Rattle.gp_derivation.specs.declared.room.Room.{Room}
-use Rattle.gp_derivation.specs.Certificate.{clauses_of}
+use Rattle.gp_certificate.specs.Certificate.{clauses_of}
 use Rattle.gp_derivation.specs.Cones.{IsCone}
 use Rattle.gp_derivation.specs.Fit.{IsSmall}
 use Rattle.gp_derivation.specs.Reach.{AreReached}

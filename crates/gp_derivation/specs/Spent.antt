@@ -7,9 +7,9 @@ use Rattle.gp_derivation.specs.declared.log.LogEntry.{LogEntry}
 use Rattle.gp_derivation.specs.declared.record.Turn.{Turn}
 use Rattle.gp_derivation.specs.declared.record.WorkerRecord.{WorkerRecord}
 use Rattle.gp_clause.specs.Closure.{Derived}
-use Rattle.gp_clause.specs.Lit.{opposite}
+use Rattle.gp_clause.specs.Lit.{opposite, negations}
 use Rattle.gp_derivation.specs.Log.{IsLearned, EntryPasses, logged}
-use Rattle.gp_derivation.specs.Step.{IsRefuted, named, negations}
+use Rattle.gp_certificate.specs.Step.{LeadsToConflict, named}
 use Rattle.gp_derivation.specs.Tight.{IsTight, left_out}
 
 -- a turn learned so many entries of a log as its budget
@@ -36,7 +36,7 @@ start_beside query clause lit = query.assumed ++ negations (left_out lit clause)
 pub record IsNewBy (problem : Problem) (query : Query) (clauses : List (List Lit)) (clause : List Lit) (lit : Lit) : Type 0 where
   pub within : Contains clause lit
   pub agrees : (one : Lit) → Contains (start_beside query clause lit) one → Contains (start_beside query clause lit) (opposite one) → ⊥
-  pub open_still : IsRefuted problem.edges (problem.kinds ++ query.locals) clauses (start_beside query clause lit) → ⊥
+  pub open_still : LeadsToConflict problem.edges (problem.kinds ++ query.locals) clauses (start_beside query clause lit) → ⊥
   pub unassigned : (sign : Bool) → Derived (start_beside query clause lit) clauses (record { variable = lit.variable; positive = sign }) → ⊥
 
 -- each entry that a turn learned is new by one of its literals

@@ -5,7 +5,7 @@ use Rattle.gp_clause.specs.declared.edge.Edge.{Edge}
 use Rattle.gp_clause.specs.declared.kind.Kind.{Kind}
 use Rattle.gp_clause.specs.declared.lit.Lit.{Lit}
 use Rattle.gp_clause.specs.Lit.{lit_eq}
-use Rattle.gp_derivation.specs.Step.{Passes}
+use Rattle.gp_certificate.specs.Step.{Passes}
 
 -- a clause without a literal
 abbrev pub left_out : Lit → List Lit → List Lit

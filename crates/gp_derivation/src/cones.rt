@@ -1,19 +1,20 @@
 ghost use Rattle.std.specs.Prelude.{◌≡◌, ℕ, ◌+◌, ◌-◌, ◌<◌, ◌^◌, [], ◌∷◌, ◌++◌, Some, length, map, IfOk, OnOk, All, AllPairs, slice_get};
-ghost use Rattle.gp_derivation.specs.Cones.{IsCone, ConeChecks, ConeIsUnique, ConeStays, steps_given};
-ghost use Rattle.gp_derivation.specs.Numbering.{CanBeNumbered, IsNumberable, number_beside, moved, with_hints, size_of};
+ghost use Rattle.gp_derivation.specs.Cones.{IsCone, ConeChecks, ConeIsUnique, ConeStays, cone_step, steps_given};
+ghost use Rattle.gp_derivation.specs.Numbering.{CanBeNumbered, IsNumberable, IsNumbered, number_beside, moved, with_hints, size_of};
 ghost use Rattle.gp_derivation.specs.Reach.{AreReached};
-ghost use Rattle.gp_derivation.specs.declared.step.Step.{Step};
+ghost use Rattle.gp_certificate.specs.declared.step.Step.{Step};
 
-use crate::certificate::Certificate;
 use crate::log::{LogEntry, Origin};
 use crate::numbering::{last_number, moved_step, renumber};
 use crate::reach::reached;
-use crate::step::Step;
 use gp_base::Row;
+use gp_certificate::{Certificate, Step};
 use std::alloc::{AllocError, Global};
 
 /// The steps on which `last` rests, each once and in the order of the log, and `last` itself at the end. The steps of a
-/// taken entry's certificate stand for the entry, and a hint to it becomes one to the last of them. Besides what these
+/// taken entry's certificate stand for the entry, and a hint to it becomes one to the last of them. A learned step without
+/// hints, and so `last`, gets the one hint 0 where there is a base clause: it passes with it as it does with none, and only
+/// a certificate each of whose steps has a hint can be moved to a list that others share. Besides what these
 /// steps hold it costs a logarithm for each of their hints, and nothing for the rest of the log.
 pub fn cone(
     alloc: Global,
@@ -48,7 +49,7 @@ pub(crate) fn cone_over(
         draft.pass(alloc, base_clauses, places, &log[*place as usize])?;
     }
     let Draft { mut steps, numbers } = draft;
-    let step = renumber(alloc, base_clauses, places, numbers.as_slice(), last)?;
+    let step = learned_step(alloc, base_clauses, places, numbers.as_slice(), last)?;
     steps.push(step)?;
     Ok(Certificate { steps })
 }
@@ -114,12 +115,43 @@ fn add(
 {
     match &entry.origin {
         Origin::Learned => {
-            steps.push(renumber(alloc, base_clauses, places, numbers, &entry.step)?)
+            let step = learned_step(alloc, base_clauses, places, numbers, &entry.step)?;
+            steps.push(step)
         }
         Origin::Taken { certificate, .. } => {
             add_moved(alloc, base_clauses, steps, certificate.steps.as_slice())
         }
     }
+}
+
+// What a learned step is in a cone.
+fn learned_step(
+    alloc: Global,
+    base_clauses: u32,
+    places: &[u32],
+    numbers: &[u32],
+    step: &Step,
+) -> Result<Step, AllocError>
+    requires rising { AllPairs (λ a b. a < b) places.now }
+    requires numbered { All (IsNumbered base_clauses places.now numbers.now) step.now.hints }
+    ensures { IfOk result (λ copy. copy ≡ cone_step base_clauses (number_beside places.now numbers.now) step.now) }
+{
+    if base_clauses > 0 && step.hints.is_empty() {
+        return on_first_base(alloc, step);
+    }
+    renumber(alloc, base_clauses, places, numbers, step)
+}
+
+// The step with the first base clause as its one hint.
+fn on_first_base(alloc: Global, step: &Step) -> Result<Step, AllocError>
+    ensures { IfOk result (λ copy. copy ≡ record { clause = step.now.clause; hints = 0 ∷ [] }) }
+{
+    let mut hints = Row::new(alloc);
+    hints.push(0)?;
+    Ok(Step {
+        clause: step.clause.clone()?,
+        hints,
+    })
 }
 
 // Adds steps whose hints name base clauses and earlier ones of them.

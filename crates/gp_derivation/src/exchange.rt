@@ -1,10 +1,7 @@
 ghost use Rattle.gp_derivation.specs.Exchange.{FitIsGood, GoodFollows};
 
-use crate::certificate::Certificate;
-use gp_clause::{
-    Clause, bounds_mean, derived_means, keeping_leaves_no_cycle, locals_change_nothing,
-    true_or_false,
-};
+use gp_certificate::{Certificate, certificate_follows};
+use gp_clause::Clause;
 use std::sync::Arc;
 
 /// A clause that one search passes to another over the same problem, with its sender's number and a certificate of it.
@@ -24,9 +21,5 @@ pub fn fit_is_good()
 pub fn good_follows()
     ensures { GoodFollows }
 {
-    derived_means();
-    bounds_mean();
-    keeping_leaves_no_cycle();
-    true_or_false();
-    locals_change_nothing();
+    certificate_follows();
 }

@@ -6,13 +6,12 @@ ghost use Rattle.gp_derivation.specs.Numbering.{CanBeNumbered};
 ghost use Rattle.gp_derivation.specs.Room.{HasNoSmallCone};
 ghost use Rattle.gp_derivation.specs.declared.log.LogEntry.{LogEntry};
 
-use crate::certificate::Certificate;
 use crate::cones::cone_over;
 use crate::log::{LogEntry, Origin};
 use crate::reach::small_reach;
 use crate::room::Room;
-use crate::step::Step;
 use gp_base::Row;
+use gp_certificate::{Certificate, Step};
 use gp_clause::Problem;
 use std::alloc::{AllocError, Global};
 

@@ -1,8 +1,6 @@
 ghost use Rattle.gp_derivation.specs.Log.{PureFollows, LogGrows};
 
-use crate::certificate::Certificate;
-use crate::step::Step;
-use gp_clause::{bounds_mean, derived_means, keeping_leaves_no_cycle, true_or_false};
+use gp_certificate::{Certificate, Step, certificate_follows, passing_follows};
 use std::sync::Arc;
 
 /// Where an entry comes from: the search learned it, or took it from another with its certificate.
@@ -26,10 +24,8 @@ pub struct LogEntry {
 pub fn pure_follows()
     ensures { PureFollows }
 {
-    derived_means();
-    bounds_mean();
-    keeping_leaves_no_cycle();
-    true_or_false();
+    passing_follows();
+    certificate_follows();
 }
 
 /// A law: a log whose entries pass grows by an entry that passes at its end.

@@ -2,11 +2,11 @@ ghost use Rattle.std.specs.Prelude.{◌≡◌, ℕ, ◌+◌, ◌-◌, ◌<◌, �
 ghost use Rattle.std.specs.List.{sum_by};
 ghost use Rattle.gp_derivation.specs.Numbering.{AllNameEarlier, CanBeNumbered, NamesEarlier, HasNumber, IsNumbered, number_beside, renumbered, moved, with_hints, size_of};
 ghost use Rattle.gp_derivation.specs.declared.log.LogEntry.{LogEntry};
-ghost use Rattle.gp_derivation.specs.declared.step.Step.{Step};
+ghost use Rattle.gp_certificate.specs.declared.step.Step.{Step};
 
 use crate::log::{LogEntry, Origin};
-use crate::step::Step;
 use gp_base::Row;
+use gp_certificate::Step;
 use std::alloc::{AllocError, Global};
 
 /// Whether `cone` may be called: each hint names a base clause or what comes before, each taken certificate has a step,

@@ -6,7 +6,7 @@ ghost use Rattle.gp_derivation.specs.declared.log.LogEntry.{LogEntry};
 
 use crate::log::{LogEntry, Origin};
 use crate::room::Room;
-use crate::step::Step;
+use gp_certificate::Step;
 use gp_clause::Problem;
 use std::alloc::{AllocError, Global};
 use std::collections::BTreeSet;

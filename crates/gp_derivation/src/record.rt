@@ -1,7 +1,7 @@
 ghost use Rattle.gp_derivation.specs.Spent.{SpentStays};
 
-use gp_base::Row;
 use crate::log::LogEntry;
+use gp_base::Row;
 
 /// A turn of a worker at the query with this ticket: the entries `begins..learned` of its log were taken in it, and
 /// `learned..ends` were learned.

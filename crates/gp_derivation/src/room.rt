@@ -1,11 +1,10 @@
 ghost use Rattle.std.specs.Prelude.{◌≡◌, [], ◌∷◌, MatchOption};
-ghost use Rattle.gp_derivation.specs.Certificate.{clauses_of};
+ghost use Rattle.gp_certificate.specs.Certificate.{clauses_of};
 ghost use Rattle.gp_derivation.specs.Room.{HasPlace, Leaves, clauses_by, whole_room};
 
-use crate::bench::is_within;
 use crate::log::{LogEntry, Origin};
-use crate::step::Step;
-use gp_clause::Clause;
+use gp_certificate::Step;
+use gp_clause::{Clause, names_below};
 
 // How many steps a small certificate may have.
 const MOST_STEPS: usize = 64;
@@ -37,7 +36,7 @@ impl Room {
     {
         let steps = self.steps.checked_sub(1)?;
         let literals = self.literals.checked_sub(clause.len())?;
-        if !is_within(clause.lits(), variables) {
+        if !names_below(clause.lits(), variables) {
             return None;
         }
         Some(Room { steps, literals })

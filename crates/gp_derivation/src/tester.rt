@@ -4,11 +4,11 @@ ghost use Rattle.std.specs.Option.{option_map};
 ghost use Rattle.gp_clause.specs.Clause.{NamesBelow, NamesOnce};
 ghost use Rattle.gp_clause.specs.Problem.{IsValidKind, IsValidProblem};
 ghost use Rattle.gp_derivation.specs.Log.{logged};
-ghost use Rattle.gp_derivation.specs.Step.{Passes, named};
+ghost use Rattle.gp_certificate.specs.Step.{Passes, named};
 ghost use Rattle.gp_derivation.specs.Tight.{IsTight};
 
-use crate::bench::Bench;
 use crate::log::LogEntry;
+use gp_certificate::Bench;
 use gp_clause::{Clause, Kind, Lit, Problem};
 use std::alloc::{AllocError, Global};
 use std::marker::Model;

@@ -2,12 +2,12 @@ ghost use Rattle.std.specs.Prelude.{◌≡◌, ◌+◌, ◌++◌, length, IfOk, 
 ghost use Rattle.gp_clause.specs.Clause.{NamesBelow};
 ghost use Rattle.gp_clause.specs.Problem.{IsValidProblem, IsValidQuery};
 ghost use Rattle.gp_derivation.specs.Log.{logged};
-ghost use Rattle.gp_derivation.specs.Step.{Passes, named};
+ghost use Rattle.gp_certificate.specs.Step.{Passes, named};
 ghost use Rattle.gp_derivation.specs.Tight.{IsTight};
 
 use crate::log::LogEntry;
-use crate::step::Step;
 use crate::tester::Tester;
+use gp_certificate::Step;
 use gp_clause::{Problem, Query};
 use std::alloc::{AllocError, Global};
 

@@ -1,58 +1,10 @@
-use Rattle.std.proofs.Common.{◌≡◌, ◌≢◌, ℕ, ◌+◌, ◌^◌, ◌<◌, ◌≤◌, ◌⊎◌, inl, inr, suc, zero, List, [], ◌∷◌, length, set, Option, Some, None, sym, ap, subst, ◌∙◌, arith, ℤ, pos, ◌+ℤ◌, ◌-ℤ◌, ◌≤ℤ◌, ◌<ℤ◌}
+use Rattle.std.proofs.Common.{◌≡◌, ℕ, ◌+◌, ◌^◌, ◌<◌, ◌≤◌, ◌⊎◌, inl, inr, suc, zero, List, [], ◌∷◌, length, Some, None, ◌∙◌, arith, ℤ, pos, ◌+ℤ◌, ◌-ℤ◌, ◌≤ℤ◌, ◌<ℤ◌}
 use Rattle.std.specs.Int.{int_min}
 use Rattle.std.proofs.lemmas.Int.{ints, clamps, by_lt_z}
-use Rattle.std.proofs.lemmas.Bool.{cases_eq}
-use Rattle.std.proofs.lemmas.List.{length-set}
 use Rattle.std.proofs.lemmas.List.Elements.{All-from_get_or}
 use Rattle.gp_difference.specs.Places.{place_at}
-use Rattle.gp_difference.specs.Anew.{below_count, IsNextBelow, IsHigherBelow, AreSpaced, IsLevelled, AreSqueezed, KeepsLike, AreAnew}
+use Rattle.gp_difference.specs.Anew.{below_count, IsNextBelow, AreSpaced, IsLevelled, AreSqueezed, KeepsLike, AreAnew}
 use Rattle.gp_difference.proofs.CountLemmas.{lt_z_true, lt_z_false}
-use Rattle.gp_difference.proofs.RunLemmas.{read_set}
-
--- one more place looked at
-pub next_below_more : (places : List ℤ) (value : ℤ) (i : ℕ) (best next : Option ℤ) → i < length places →
-    IsNextBelow places value i best → IsHigherBelow (place_at places i) value best next → IsNextBelow places value (i + 1) next
-next_below_more places value i None None i_in was (above, e) = λ v lt. elim (cases_eq v i) [
-  | inl q ↦ subst (λ w. value ≤ℤ place_at places w) (sym q) above
-  | inr n ↦ let far : v ≢ i = n in was v (omega arith)
-]
-next_below_more places value i (Some other) None i_in was (above, e) = cc
-next_below_more places value i None (Some next) i_in was (inl h) = cc
-next_below_more places value i None (Some next) i_in was (inr h) = (
-  omega (arith, ints, h.0, h.1),
-  (i, i_in, sym h.0),
-  λ v lt. elim (cases_eq v i) [
-    | inl q ↦ inl (omega (arith, ints, ap (place_at places) q, h.0))
-    | inr n ↦ let far : v ≢ i = n in inr (was v (omega arith))
-  ],
-)
-next_below_more places value i (Some other) (Some next) i_in was (inl h) =
-    let same : other ≡ next = cc in (
-      omega (arith, ints, was.0, same),
-      (was.1.0, was.1.1, was.1.2 ∙ same),
-      λ v lt. elim (cases_eq v i) [
-        | inl q ↦ elim h.1 [
-          | inl a ↦ inr (omega (arith, ints, ap (place_at places) q, a))
-          | inr a ↦ inl (omega (arith, ints, ap (place_at places) q, a))
-        ]
-        | inr n ↦ let far : v ≢ i = n in elim (was.2 v (omega arith)) [
-          | inl a ↦ inl (omega (arith, ints, a, same))
-          | inr a ↦ inr a
-        ]
-      ],
-    )
-next_below_more places value i (Some other) (Some next) i_in was (inr h) =
-    let up : other ≤ℤ place_at places i = h.2 in (
-      omega (arith, ints, h.0, h.1),
-      (i, i_in, sym h.0),
-      λ v lt. elim (cases_eq v i) [
-        | inl q ↦ inl (omega (arith, ints, ap (place_at places) q, h.0))
-        | inr n ↦ let far : v ≢ i = n in elim (was.2 v (omega arith)) [
-          | inl a ↦ inl (omega (arith, ints, a, up, h.0))
-          | inr a ↦ inr a
-        ]
-      ],
-    )
 
 below_count_le : (places : List ℤ) (value : ℤ) → below_count places value ≤ length places
 below_count_le [] value = omega arith
@@ -197,34 +149,4 @@ squeezed_ends places labels value level few squeezed all =
           ] in
           (low, squeezed.high v at (all v at)));
       keeps = spaced_keep places labels value level squeezed all;
-    }
-
--- one more point gets the level
-pub levelled_write : (places before labels : List ℤ) (value level : ℤ) (i : ℕ) → length before ≡ length places → i < length places →
-    IsLevelled places before labels value level i → place_at places i ≡ value → IsLevelled places before (set labels i level) value level (i + 1)
-levelled_write places before labels value level i size i_in was at =
-    let i_len : i < length labels = omega (arith, was.size, size) in
-    let read = λ (v : ℕ). read_set labels i level v (pos 0) i_len in
-    record {
-      size = length-set labels i level ∙ was.size;
-      here = λ v lt e. elim (read v) [
-        | inl h ↦ h.1
-        | inr h ↦ let far : v ≢ i = h.0 in h.1 ∙ was.here v (omega arith) e
-      ];
-      rest = λ v off. elim (read v) [
-        | inl h ↦ absurd (omega (arith, off (ap (place_at places) h.0 ∙ at), h.0))
-        | inr h ↦ h.1 ∙ was.rest v (λ e. omega (arith, off e))
-      ];
-    }
-
-pub levelled_skip : (places before labels : List ℤ) (value level : ℤ) (i : ℕ) →
-    IsLevelled places before labels value level i → place_at places i ≢ value → IsLevelled places before labels value level (i + 1)
-levelled_skip places before labels value level i was off =
-    record {
-      size = was.size;
-      here = λ v lt e. elim (cases_eq v i) [
-        | inl q ↦ absurd (off (sym (ap (place_at places) q) ∙ e))
-        | inr n ↦ let far : v ≢ i = n in was.here v (omega arith) e
-      ];
-      rest = λ v other. was.rest v (λ e. omega (arith, other e));
     }

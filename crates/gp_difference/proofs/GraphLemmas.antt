@@ -12,7 +12,7 @@ use Rattle.gp_difference.specs.contracts.graph.Graph.{the_view}
 use Rattle.gp_clause.specs.Walk.{IsAmong, HasNegativeCycle}
 use Rattle.gp_difference.specs.Places.{place_at, KeepsAll, IsEdgeOf, AreFresh, AreLow}
 use Rattle.gp_difference.specs.Bounds.{edge_at, edges_of, no_bound, untagged, AreAmong, Closes}
-use Rattle.gp_difference.specs.Graph.{GraphForm, IsFeasible, MovesPlaces, Reaches, all_edges}
+use Rattle.gp_difference.specs.Graph.{GraphForm, HasPlaces, MovesPlaces, Reaches, all_edges}
 use Rattle.gp_difference.specs.Placement.{PlacementForm, IsAtRest}
 use Rattle.gp_difference.specs.Inside.{IsSound}
 use Rattle.gp_difference.specs.Settle.{Marks, AreMoved, NoneIsBelow}
@@ -34,7 +34,7 @@ all_keep places bounds kept =
     (All-from_get_or (λ (b : Bound). Keeps (place_at places) b.edge) bounds no_bound kept)
 
 -- a sound graph is feasible
-pub sound_feasible : (g : Inside) → IsSound g → IsFeasible (the_view g)
+pub sound_feasible : (g : Inside) → IsSound g → HasPlaces (the_view g)
 sound_feasible g sound =
     let keeps : KeepsAll g.placement.places (all_edges (the_view g)) =
     subst (λ bs. KeepsAll g.placement.places (edges_of bs)) (sym (whole g.fixed g.bounds.bounds sound.untagged))

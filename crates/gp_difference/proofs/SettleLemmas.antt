@@ -1,4 +1,4 @@
-use Rattle.std.proofs.Common.{◌≡◌, ℕ, ◌+◌, ◌^◌, ◌<◌, ◌⊎◌, inl, inr, Bool, true, false, MatchBool, List, length, refl, sym, subst, ◌∙◌, arith, ℤ, pos, ◌+ℤ◌, ◌≤ℤ◌, ◌<ℤ◌}
+use Rattle.std.proofs.Common.{◌≡◌, ℕ, ◌+◌, ◌^◌, ◌<◌, inl, inr, Bool, true, false, List, length, refl, sym, subst, ◌∙◌, arith, ℤ, pos, ◌+ℤ◌, ◌≤ℤ◌}
 use Rattle.std.proofs.lemmas.Int.{ints, by_lt_z}
 use Rattle.std.proofs.lemmas.Bool.{cases_lt, false≢true}
 use Rattle.std.proofs.lemmas.List.{get_or_past}
@@ -9,8 +9,7 @@ use Rattle.gp_difference.specs.Places.{place_at, IsEdgeOf, AreFresh}
 use Rattle.gp_difference.specs.Bounds.{edge_at}
 use Rattle.gp_difference.specs.Anew.{AreAnew}
 use Rattle.gp_difference.specs.Lower.{IsInput, IsLowered}
-use Rattle.gp_difference.specs.Placement.{StandsFrom, PointsAbove}
-use Rattle.gp_difference.specs.Settle.{Marks, RefreshGives, AreMoved, SomeBelow}
+use Rattle.gp_difference.specs.Settle.{Marks, RefreshGives, AreMoved}
 
 -- a fresh place lies from minus 2 ^ 28 to zero, and so does the default
 pub fresh_at : (places : List ℤ) → AreFresh places → (v : ℕ) → (pos 0 ≤ℤ (place_at places v +ℤ pos (2 ^ 28))) × (place_at places v ≤ℤ pos 0)
@@ -81,25 +80,4 @@ moved_lowered bounds edge before lowered after false result input not_low broken
       reached = λ e. at.reached;
       near = λ e. at.near;
       anew = λ e. absurd (false≢true e);
-    }
-
--- what looking for a low place among the fallen points says is a mark
-pub marks_fell : (places : List ℤ) (fallen : List ℕ) (result : Bool) (limit : ℤ) → (limit +ℤ pos (2 ^ 62)) ≡ pos 0 →
-    ((v : ℕ) → StandsFrom fallen 0 v ⊎ (pos 0 ≤ℤ (place_at places v +ℤ pos (2 ^ 62)))) →
-    MatchBool result (SomeBelow places limit) (PointsAbove places fallen limit) → Marks places result
-marks_fell places fallen true limit is others some =
-    let low : (place_at places some.0 +ℤ pos (2 ^ 62)) <ℤ pos 0 = omega (arith, ints, some.2, is) in
-    record {
-      yes = λ e. (some.0, some.1, low);
-      no = λ e. absurd (false≢true (sym e));
-    }
-marks_fell places fallen false limit is others none =
-    record {
-      yes = λ e. absurd (false≢true e);
-      no = λ e v. elim (others v) [
-        | inl stands ↦
-            let at : limit ≤ℤ place_at places v = subst (λ u. limit ≤ℤ place_at places u) stands.3 (none stands.0 stands.2) in
-            omega (arith, ints, at, is)
-        | inr h ↦ h
-      ];
     }

@@ -83,27 +83,6 @@ keeps_on p index was lt =
       ]
     ])
 
--- the place at an index became the label
-pub restores_on : (p : PlacementForm) (index : ℕ) → IsUntidy p index → index < length p.fallen →
-    IsUntidy (record p { labels = set p.labels (get_or p.fallen index 0) (place_at p.places (get_or p.fallen index 0)); falls = set p.falls (get_or p.fallen index 0) (pos 0) }) (index + 1)
-restores_on p index was lt =
-    let t = get_or p.fallen index 0 in
-    let t_in : t < length p.places = was.small index 0 lt in
-    let t_fall : t < length p.falls = omega (arith, t_in, was.falls_size) in
-    let t_label : t < length p.labels = omega (arith, t_in, was.labels_size) in
-    let x = place_at p.places t in
-    tidied p (record p { labels = set p.labels t x; falls = set p.falls t (pos 0) }) index was lt (λ i. p.fallen) (λ i. length p.places) (length-set p.labels t x) (λ i. length p.via) (length-set p.falls t (pos 0))
-    (λ v. elim (read_set p.labels t x v (pos 0) t_label) [
-      | inl h ↦ elim (read_set p.falls t (pos 0) v (pos 0) t_fall) [
-        | inl g ↦ inl (h.0, h.1 ∙ sym (ap (place_at p.places) h.0), g.1)
-        | inr g ↦ absurd (g.0 h.0)
-      ]
-      | inr h ↦ elim (read_set p.falls t (pos 0) v (pos 0) t_fall) [
-        | inl g ↦ absurd (h.0 g.0)
-        | inr g ↦ inr (h.0, h.1, (λ i. place_at p.places v), g.1)
-      ]
-    ])
-
 -- once all fallen points are tidied the labels are the places, and no fall is kept
 tidy_labels : (p : PlacementForm) (index : ℕ) → IsUntidy p index → length p.fallen ≤ index → p.labels ≡ p.places
 tidy_labels p index was end = ext_get_or (pos 0) p.labels p.places was.labels_size (λ v v_in.

@@ -110,16 +110,6 @@ traced_closes bounds new places labels via ranks walk done count v work tracing 
       | inr hung ↦ absurd (omega (arith, hung.which, mark))
     ]
 
--- a new bound that begins where it ends and is below zero is a cycle by itself
-pub closes_alone : (bounds : List Bound) (new : Edge) → new.a ≡ new.b → new.c <ℤ pos 0 → Closes bounds new []
-closes_alone bounds new same low =
-    record {
-      leads = sym same;
-      among = tt;
-      negative = omega (arith, ints, low);
-      simple = λ j k lt k_in. absurd (omega arith);
-    }
-
 -- places that are not being moved, in these buffers
 abbrev pub quiet : List ℤ → List ℕ → List ℕ → PlacementForm
 quiet places via walk = record {

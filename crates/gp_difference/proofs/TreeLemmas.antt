@@ -10,24 +10,6 @@ use Rattle.gp_difference.specs.Falls.{IsTree, IsTreeBut, IsMost, number_at}
 same_max : (a b c d : ℤ) → a ≡ c → b ≡ d → int_max a b ≡ int_max c d
 same_max a b c d e f i = int_max (e i) (f i)
 
--- the greater one of the two below, as read at a node
-greater_at : List ℤ → ℕ → ℤ
-greater_at tree node = int_max (number_at tree (2 * node)) (number_at tree (2 * node + 1))
-
--- a leaf was written
-pub tree_written : (tree : List ℤ) (leaf : ℕ) (x : ℤ) → IsTree tree → length tree / 2 ≤ leaf → leaf < length tree → IsTreeBut (set tree leaf x) leaf
-tree_written tree leaf x was half lt =
-    let size : length (set tree leaf x) ≡ length tree = length-set tree leaf x in
-    record {
-      even = rw size was.even;
-      greater = λ q some small other.
-          let q_in : q < length tree / 2 = subst (λ n. q < n / 2) size small in
-          let one : number_at (set tree leaf x) q ≡ number_at tree q = get_or-set_other tree leaf q x (pos 0) (λ h. omega (arith, h, q_in, half)) in
-          let two : number_at (set tree leaf x) (2 * q) ≡ number_at tree (2 * q) = get_or-set_other tree leaf (2 * q) x (pos 0) (λ h. omega (arith, h, other)) in
-          let three : number_at (set tree leaf x) (2 * q + 1) ≡ number_at tree (2 * q + 1) = get_or-set_other tree leaf (2 * q + 1) x (pos 0) (λ h. omega (arith, h, other)) in
-          one ∙ was.greater q some q_in ∙ same_max _ _ _ _ (sym two) (sym three);
-    }
-
 -- the node above was mended
 pub tree_mended : (tree : List ℤ) (written node : ℕ) (x : ℤ) → IsTreeBut tree written → node ≡ written / 2 → 0 < node → node < length tree / 2 →
     x ≡ int_max (number_at tree (2 * node)) (number_at tree (2 * node + 1)) → IsTreeBut (set tree node x) node
@@ -66,23 +48,11 @@ tree_fits tree written node was up value =
       ];
     }
 
--- nothing is above the top
-pub tree_ends : (tree : List ℤ) (written : ℕ) → IsTreeBut tree written → written ≤ 1 → IsTree tree
-tree_ends tree written was top =
-    record {
-      even = was.even;
-      greater = λ q some small. was.greater q some small (λ h. omega (arith, h, some, top));
-    }
-
 first_below : (a b x : ℤ) → x ≡ int_max a b → a ≤ℤ x
 first_below a b x h = omega (arith, ints, clamps, h)
 
 second_below : (a b x : ℤ) → x ≡ int_max a b → b ≤ℤ x
 second_below a b x h = omega (arith, ints, clamps, h)
-
--- the greater one is the second where it is not the first
-pub second_greater : (a b x : ℤ) → x ≡ int_max a b → a ≢ x → b ≡ x
-second_greater a b x h n = omega (arith, ints, clamps, h, n)
 
 -- no node has a greater number than the top
 top_greatest : (tree : List ℤ) → IsTree tree → (limit node : ℕ) → node < limit → 0 < node → node < length tree → number_at tree node ≤ℤ number_at tree 1

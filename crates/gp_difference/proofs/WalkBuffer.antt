@@ -62,19 +62,7 @@ trace_goes_on bounds new p count v next size input (ranks, done, h) mark at =
           (subst (λ u. Written bounds new p.places p.labels ranks (take count p.walk ++ w ∷ []) (count + 1) u) (sym at) more),
     )
 
--- while the walk goes on, its end has a bound that lowered it, and there is room for its number
-pub trace_room : (bounds : List Bound) (new : Edge) (p : PlacementForm) (count v : ℕ) → length p.walk ≡ length p.places →
-    IsInput bounds new p.places → Tracing bounds new p count v → get_or p.via v 0 ≢ length bounds →
-    (count < length p.walk) × (get_or p.via v 0 < length bounds)
-trace_room bounds new p count v size input (ranks, done, h) mark =
-    let on = traced_on bounds new p.places p.labels p.via ranks (walk_of bounds (take count p.walk)) done count v input h.work h.tracing mark in (
-      omega (arith, size, on.room),
-      elim (h.work.tree v h.tracing.small h.tracing.fell) [ inl root ↦ absurd (mark root.mark) | inr hung ↦ hung.which ],
-    )
-
-pub trace_small : (bounds : List Bound) (new : Edge) (p : PlacementForm) (count v : ℕ) → Tracing bounds new p count v → v < length p.via
-trace_small bounds new p count v (ranks, done, h) = omega (arith, h.tracing.small, h.work.via_size)
-
+-- where the walk comes back to the new bound, it is closed
 pub trace_ends : (bounds : List Bound) (new : Edge) (p : PlacementForm) (count v : ℕ) →
     Tracing bounds new p count v → get_or p.via v 0 ≡ length bounds → IsClosed bounds new p.walk count
 trace_ends bounds new p count v (ranks, done, h) mark =

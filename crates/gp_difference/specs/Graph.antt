@@ -29,7 +29,7 @@ abbrev pub all_edges : GraphForm → List Edge
 all_edges graph = edges_of (bounds_of graph)
 
 -- what holds of every graph: each point has a place, and the places keep all edges and bounds
-pub record IsFeasible (graph : GraphForm) : Type 0 where
+pub record HasPlaces (graph : GraphForm) : Type 0 where
   pub placed : length graph.places ≡ graph.points
   pub keeps : KeepsAll graph.places (all_edges graph)
   pub no_cycle : HasNegativeCycle (all_edges graph) → ⊥
@@ -40,7 +40,7 @@ pub record IsNew (number : ℕ) (fixed : List Edge) (graph : GraphForm) : Type 0
   pub edges : graph.edges ≡ fixed
   pub kept : graph.kept ≡ []
   pub fresh : AreFresh graph.places
-  pub feasible : IsFeasible graph
+  pub feasible : HasPlaces graph
 
 -- what making a graph gives: a new one where the edges hold no negative cycle, and else the fault says so
 abbrev pub NewGives : ℕ → List Edge → Result GraphForm GraphFault → Type 0
@@ -64,7 +64,7 @@ pub record MovesPlaces (old : GraphForm) (edge : Edge) (places : List ℤ) : Typ
 -- the bound is added at the end and takes one from the room, and the places keep all
 pub record IsKept (old : GraphForm) (bound : Bound) (new : GraphForm) : Type 0 where
   pub added : new ≡ record old { kept = old.kept ++ bound ∷ []; room = old.room - 1; places = new.places }
-  pub feasible : IsFeasible new
+  pub feasible : HasPlaces new
   pub moves : MovesPlaces old bound.edge new.places
 
 -- the edges and bounds hold a negative cycle with the new one, whose tags are told, and the graph is unchanged
@@ -92,4 +92,4 @@ FixGives old edge new (Err Memory) = Unit {0}
 pub record FreshGives (old new : GraphForm) : Type 0 where
   pub same : new ≡ record old { places = new.places }
   pub fresh : AreFresh new.places
-  pub feasible : IsFeasible new
+  pub feasible : HasPlaces new

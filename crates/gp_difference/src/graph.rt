@@ -51,7 +51,7 @@ impl Graph {
     ghost use Rattle.gp_difference.specs.Places.{IsEdgeOf, AreFresh};
     ghost use Rattle.gp_difference.specs.Bounds.{tagged};
     ghost use Rattle.gp_clause.specs.Walk.{HasNegativeCycle};
-    ghost use Rattle.gp_difference.specs.Graph.{IsFeasible, bare_graph, NewGives, FixGives, FreshGives, AddGives, all_edges};
+    ghost use Rattle.gp_difference.specs.Graph.{HasPlaces, bare_graph, NewGives, FixGives, FreshGives, AddGives, all_edges};
 
     /// A graph of these points and fixed edges, with no bound kept and no room for one. The fault is a negative cycle
     /// of fixed edges, or want of memory.
@@ -136,7 +136,7 @@ impl Graph {
     /// A place for each point, which keep all fixed edges and kept bounds.
     pub fn places(&self) -> &[i64]
         ensures places { result.now ≡ self.now.places }
-        ensures feasible { IsFeasible self.now }
+        ensures feasible { HasPlaces self.now }
     {
         self.placement.places()
     }

@@ -1,7 +1,8 @@
 use Rattle.std.proofs.Common.{nat_lt, rules}
 use Rattle.std.proofs.lemmas.List.Sorted.{answers_always}
-use Rattle.gp_clause.specs.OccurrenceLaws.{rises_from_tests}
+use Rattle.gp_base.specs.CountLaws.{rises_from_tests}
+use Rattle.gp_clause.specs.declared.lit.Lit.{Lit}
 use Rattle.gp_clause.proofs.clause.is_rising.Goals as goal
 
 pub returns : goal.returns
-returns c = rises_from_tests _ _ (c.is_sorted_by.ensures.cases (λ a b. nat_lt a.variable b.variable) (answers_always _ _ _ (λ f a r g called. search rules)))
+returns c = rises_from_tests (λ (l : Lit). l.variable) _ _ (c.is_sorted_by.ensures.cases (λ a b. nat_lt a.variable b.variable) (answers_always _ _ _ (λ f a r g called. search rules)))

@@ -1,8 +1,9 @@
 use Rattle.std.proofs.Common.{◌≡◌, ℕ, ◌<◌, Some, List, [], ◌∷◌, ◌++◌, length, get_or, refl, sym, ◌∙◌, ap, subst, arith, rules}
 use Rattle.std.specs.List.{slice_get}
 use Rattle.std.proofs.lemmas.Option.{slice_get_read}
-use Rattle.gp_derivation.specs.declared.step.Step.{Step}
-use Rattle.gp_derivation.specs.Numbering.{IsNumbered, number_beside, renumbered, with_hints}
+use Rattle.gp_certificate.specs.declared.step.Step.{Step}
+use Rattle.gp_derivation.specs.Numbering.{IsNumbered, number_beside}
+use Rattle.gp_derivation.specs.Cones.{cone_step}
 use Rattle.gp_derivation.proofs.Drafts.{AreKept, among, draft_more, draft_room}
 use Rattle.gp_derivation.proofs.ConeParts.{LiesOver, IsNext, lies_over, reached_kept, next_entry, last_numbered, cone_drafted}
 use Rattle.gp_derivation.proofs.cones.cone_over.Goals as goal
@@ -41,8 +42,8 @@ loop-place-preserved c =
     draft_more c.args.base_clauses (among c.args.places.now) c.args.log.now c.args.places.now c.loop-place.place-index c.loop-place.draft.steps c.loop-place.draft.numbers c.index-log-place.result c.pass.new.self.steps c.pass.new.self.numbers
     kept c.loop-place-test.true got next.agree c.in_ok-pass.ensures.steps c.in_ok-pass.ensures.numbers c.loop-place.invariant
 
-pub renumber-requires-clause-numbered : goal.renumber-requires-clause-numbered
-renumber-requires-clause-numbered c =
+pub learned_step-requires-clause-numbered : goal.learned_step-requires-clause-numbered
+learned_step-requires-clause-numbered c =
     let are : LiesOver c.args.base_clauses c.args.log.now c.args.last.now c.args.places.now = lies_over c.args.base_clauses c.args.log.now c.args.last.now c.args.places.now c.requires.numbered c.requires.reached in
     let end : c.loop-place.place-index ≡ length c.args.places.now = omega arith in
     subst (λ (ns : List ℕ). (k : ℕ) (d : ℕ) → k < length c.args.last.now.hints → IsNumbered c.args.base_clauses c.args.places.now ns (get_or c.args.last.now.hints k d)) (sym c.as_slice.ensures)
@@ -52,8 +53,8 @@ pub returns : goal.returns
 returns c =
     let are : LiesOver c.args.base_clauses c.args.log.now c.args.last.now c.args.places.now = lies_over c.args.base_clauses c.args.log.now c.args.last.now c.args.places.now c.requires.numbered c.requires.reached in
     let end : c.loop-place.place-index ≡ length c.args.places.now = omega arith in
-    let renumbering : c.in_ok-step.step ≡ with_hints (renumbered c.args.base_clauses (number_beside c.args.places.now c.loop-place.draft.numbers)) c.args.last.now =
-    subst (λ (ns : List ℕ). c.in_ok-step.step ≡ with_hints (renumbered c.args.base_clauses (number_beside c.args.places.now ns)) c.args.last.now) c.as_slice.ensures c.in_ok-step.ensures in
+    let renumbering : c.in_ok-step.step ≡ cone_step c.args.base_clauses (number_beside c.args.places.now c.loop-place.draft.numbers) c.args.last.now =
+    subst (λ (ns : List ℕ). c.in_ok-step.step ≡ cone_step c.args.base_clauses (number_beside c.args.places.now ns) c.args.last.now) c.as_slice.ensures c.in_ok-step.ensures in
     let pushed : c.push.new.self ≡ c.loop-place.draft.steps ++ c.in_ok-step.step ∷ [] = search rules in
     cone_drafted c.args.base_clauses c.args.log.now c.args.last.now c.args.places.now c.loop-place.place-index c.loop-place.draft.steps c.loop-place.draft.numbers c.push.new.self are end c.loop-place.invariant
     (pushed ∙ ap (λ (s : Step). c.loop-place.draft.steps ++ s ∷ []) renumbering)

@@ -2,9 +2,9 @@ use Rattle.std.proofs.Common.{◌≡◌, ◌+◌, ◌<◌, ◌≤◌, rules, Boo
 use Rattle.std.specs.Prelude.{MatchBool}
 use Rattle.std.specs.List.{remove}
 use Rattle.gp_clause.specs.declared.lit.Lit.{Lit}
-use Rattle.gp_clause.specs.OccurrenceLaws.{once_from_rising}
-use Rattle.gp_derivation.specs.Step.{Passes}
-use Rattle.gp_derivation.specs.Bench.{BenchForm}
+use Rattle.gp_base.specs.CountLaws.{once_from_rising}
+use Rattle.gp_certificate.specs.Step.{Passes}
+use Rattle.gp_certificate.specs.Bench.{BenchForm}
 use Rattle.gp_derivation.specs.Tight.{IsTight}
 use Rattle.gp_derivation.proofs.LeavingOut.{IsTightTo, tight_none, tight_dropped, tight_kept, tight_all}
 use Rattle.gp_derivation.proofs.tester.left_over.Goals as goal
@@ -13,7 +13,7 @@ pub loop-index-init : goal.loop-index-init
 loop-index-init c =
     let P : List Lit → Type 0 = λ lits. IsTightTo c.args.bench.now.edges c.args.bench.now.kinds c.args.bench.now.loaded c.args.clause lits 0 in (
       subst P (sym c.into_vec-lits.ensures.lits)
-          (tight_none c.args.bench.now.edges c.args.bench.now.kinds c.args.bench.now.loaded c.args.clause (λ variable. once_from_rising variable c.args.clause c.into_vec-lits.ensures.rising) c.requires),
+          (tight_none c.args.bench.now.edges c.args.bench.now.kinds c.args.bench.now.loaded c.args.clause (λ variable. once_from_rising (λ (l : Lit). l.variable) variable c.args.clause c.into_vec-lits.ensures.rising) c.requires),
       refl,
     )
 

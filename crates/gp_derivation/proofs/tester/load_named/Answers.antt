@@ -1,9 +1,9 @@
 use Rattle.std.proofs.Common.{◌≡◌, List, [], ◌∷◌, ◌++◌, length, sym, subst}
 use Rattle.gp_clause.specs.declared.lit.Lit.{Lit}
 use Rattle.gp_clause.specs.Clause.{NamesBelow}
-use Rattle.gp_derivation.specs.Bench.{BenchForm}
+use Rattle.gp_certificate.specs.Bench.{BenchForm}
 use Rattle.gp_derivation.specs.Log.{logged}
-use Rattle.gp_derivation.proofs.Naming.{loaded_more, loaded_none, named_one}
+use Rattle.gp_certificate.specs.LoadingLaws.{loaded_more, loaded_none, named_one}
 use Rattle.gp_derivation.proofs.tester.load_named.Goals as goal
 use Rattle.gp_derivation.proofs.tester.load_named.Goals.{in-Some+in_ok-clone+in_ok-load, in_default}
 

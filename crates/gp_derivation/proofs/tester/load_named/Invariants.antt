@@ -1,6 +1,6 @@
 use Rattle.std.proofs.Common.{◌≡◌, take}
 use Rattle.gp_derivation.specs.Log.{logged}
-use Rattle.gp_derivation.specs.Step.{named}
+use Rattle.gp_certificate.specs.Step.{named}
 use Rattle.gp_derivation.proofs.tester.load_named.Given as goal
 
 abbrev pub invariant-loop-hint : goal.invariant-loop-hint

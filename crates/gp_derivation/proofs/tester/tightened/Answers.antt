@@ -1,8 +1,8 @@
 use Rattle.std.proofs.Common.{Contains, refl, subst}
 use Rattle.std.proofs.lemmas.List.Sorted.{All-permutation}
-use Rattle.gp_derivation.specs.Bench.{BenchForm}
+use Rattle.gp_certificate.specs.Bench.{BenchForm}
 use Rattle.gp_derivation.specs.Log.{logged}
-use Rattle.gp_derivation.specs.Step.{Passes, named}
+use Rattle.gp_certificate.specs.Step.{Passes, named}
 use Rattle.gp_derivation.specs.Tight.{IsTight}
 use Rattle.gp_derivation.proofs.LeavingOut.{passes_sorted, tight_sorted, not_twice}
 use Rattle.gp_derivation.proofs.tester.tightened.Goals as goal

@@ -3,7 +3,7 @@ use Rattle.std.proofs.lemmas.List.{length-append}
 use Rattle.gp_clause.specs.declared.kind.Kind.{Kind}
 use Rattle.gp_clause.specs.Clause.{NamesBelow}
 use Rattle.gp_derivation.specs.Log.{logged}
-use Rattle.gp_derivation.specs.Step.{named}
+use Rattle.gp_certificate.specs.Step.{named}
 use Rattle.gp_derivation.specs.Tester.{TesterForm}
 use Rattle.gp_derivation.specs.Tight.{IsTight}
 use Rattle.gp_derivation.proofs.tightening.tight.Goals as goal

@@ -1,6 +1,6 @@
 use Rattle.std.proofs.Common.{List, [], ◌∷◌, take, drop, sym, subst, ◌+◌, rules}
 use Rattle.gp_clause.specs.declared.lit.Lit.{Lit}
-use Rattle.gp_derivation.specs.Certificate.{clauses_of}
+use Rattle.gp_certificate.specs.Certificate.{clauses_of}
 use Rattle.gp_derivation.specs.Room.{HasPlace, Leaves}
 use Rattle.gp_derivation.proofs.Rooms.{leaves_more, next_clause, parted_clauses, place_next}
 use Rattle.gp_derivation.proofs.room.Room.after_steps.Goals as goal

@@ -1,5 +1,5 @@
 use Rattle.std.proofs.Common.{take}
-use Rattle.gp_derivation.specs.Certificate.{clauses_of}
+use Rattle.gp_certificate.specs.Certificate.{clauses_of}
 use Rattle.gp_derivation.specs.Room.{Leaves}
 use Rattle.gp_derivation.proofs.room.Room.after_steps.Given as goal
 

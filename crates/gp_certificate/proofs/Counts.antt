@@ -1,0 +1,215 @@
+-- Counts of the literals of a clause that did not fall.
+use Rattle.std.proofs.Common.{◌≡◌, ◌≢◌, ℕ, ◌+◌, ◌≤◌, zero, suc, Bool, true, false, not, ◌||◌, cond, None, List, [], ◌∷◌, ◌++◌, length, get_or, All, Any, Contains, ◌⊎◌, inl, inr, refl, ap, sym, ◌∙◌, subst, arith, ◌==◌, eq-eqb}
+use Rattle.std.proofs.lemmas.Bool.{false≢true}
+use Rattle.std.proofs.lemmas.List.Elements.{All-contains}
+use Rattle.std.proofs.lemmas.List.Sums.{sum_by-cons}
+use Rattle.gp_clause.specs.declared.lit.Lit.{Lit}
+use Rattle.gp_clause.specs.Clause.{NamesOnce, occurrences}
+use Rattle.gp_clause.specs.Closure.{IsTrueIn, IsFalseIn}
+use Rattle.gp_clause.specs.Lit.{lit_eq, opposite}
+use Rattle.gp_clause.specs.LitLaws.{lit_eq_decides}
+use Rattle.gp_base.specs.CountLaws.{twice_from_places}
+use Rattle.gp_certificate.specs.declared.assignment.Assignment.{Assignment}
+use Rattle.gp_certificate.specs.Assignment.{value_of, IsOpen, HasTwo, IsKept}
+use Rattle.gp_certificate.specs.Counting.{fell, spared, standing, IsCounted}
+use Rattle.gp_base.specs.ListLaws.{here, there}
+use Rattle.gp_certificate.proofs.Standing.{same_or_not, some_clash, open_by_true, opposite_twice}
+
+-- what fell before fell, and so did the new one
+fell_more : (fallen : List Lit) (one lit : Lit) → fell (fallen ++ one ∷ []) lit ≡ (fell fallen lit || lit_eq one (opposite lit))
+fell_more [] one lit = at (lit_eq one (opposite lit))
+  where
+    at : (b : Bool) → (b || false) ≡ (false || b)
+    at true = refl
+    at false = refl
+fell_more (other ∷ fallen) one lit = at (lit_eq other (opposite lit)) (fell (fallen ++ one ∷ []) lit) (fell fallen lit) (lit_eq one (opposite lit)) (fell_more fallen one lit)
+  where
+    at : (b x y z : Bool) → x ≡ (y || z) → (b || x) ≡ ((b || y) || z)
+    at true x y z is = refl
+    at false x y z is = is
+
+-- a literal fell exactly where its negation is among the fallen ones
+pub fell_contains : (fallen : List Lit) (lit : Lit) → fell fallen lit ≡ true → Contains fallen (opposite lit)
+fell_contains [] lit told = absurd (false≢true told)
+fell_contains (other ∷ fallen) lit told = at (lit_eq other (opposite lit)) refl told (λ later. fell_contains fallen lit later)
+  where
+    at : (b : Bool) → lit_eq other (opposite lit) ≡ b → (b || fell fallen lit) ≡ true → (fell fallen lit ≡ true → Contains fallen (opposite lit)) → Contains (other ∷ fallen) (opposite lit)
+    at true is _ rest = let P : Lit → Type 0 = λ l. Contains (other ∷ fallen) l in subst P ((lit_eq_decides other (opposite lit)).0 is) (here other fallen)
+    at false is later rest = there other fallen (opposite lit) (rest later)
+
+pub contains_fell : (fallen : List Lit) (lit : Lit) → Contains fallen (opposite lit) → fell fallen lit ≡ true
+contains_fell [] lit (k, within, is) = absurd (omega arith)
+contains_fell (other ∷ fallen) lit (zero, within, is) = rw ((lit_eq_decides other (opposite lit)).1 is) refl
+contains_fell (other ∷ fallen) lit (suc k, within, is) = at (lit_eq other (opposite lit)) (fell fallen lit) (contains_fell fallen lit (k, omega arith, is))
+  where
+    at : (b x : Bool) → x ≡ true → (b || x) ≡ true
+    at true x is = refl
+    at false x is = is
+
+standing_cons : (fallen : List Lit) (lit : Lit) (clause : List Lit) → standing fallen (lit ∷ clause) ≡ spared fallen lit + standing fallen clause
+standing_cons fallen lit clause = sum_by-cons (spared fallen) lit clause
+
+one_more : (fallen : List Lit) (one lit : Lit) → spared fallen lit ≤ spared (fallen ++ one ∷ []) lit + cond (lit_eq one (opposite lit)) 1 0
+one_more fallen one lit = rw (fell_more fallen one lit) (at (fell fallen lit) (lit_eq one (opposite lit)))
+  where
+    at : (b c : Bool) → cond b 0 1 ≤ cond (b || c) 0 1 + cond c 1 0
+    at true true = omega arith
+    at true false = omega arith
+    at false true = omega arith
+    at false false = omega arith
+
+eqb_same : (n : ℕ) → (n == n) ≡ true
+eqb_same n = eq-eqb n n refl
+
+-- a literal is the negation of another at most as often as its variable stands there
+one_variable : (one lit : Lit) → cond (lit_eq one (opposite lit)) 1 0 ≤ cond (lit.variable == one.variable) 1 0
+one_variable one lit = at (lit_eq one (opposite lit)) refl
+  where
+    at : (b : Bool) → lit_eq one (opposite lit) ≡ b → cond b 1 0 ≤ cond (lit.variable == one.variable) 1 0
+    at true is =
+        let same : one ≡ opposite lit = (lit_eq_decides one (opposite lit)).0 is in
+        let variables : lit.variable ≡ one.variable = sym (ap (λ (l : Lit). l.variable) same) in
+        rw variables (rw (eqb_same one.variable) (omega arith))
+    at false is = omega arith
+
+lowered_by : (fallen : List Lit) (one : Lit) (clause : List Lit) → standing fallen clause ≤ standing (fallen ++ one ∷ []) clause + occurrences one.variable clause
+lowered_by fallen one [] = omega arith
+lowered_by fallen one (lit ∷ clause) =
+    let first = standing_cons fallen lit clause in
+    let second = standing_cons (fallen ++ one ∷ []) lit clause in
+    let third : occurrences one.variable (lit ∷ clause) ≡ cond (lit.variable == one.variable) 1 0 + occurrences one.variable clause =
+    sum_by-cons (λ (l : Lit). cond (l.variable == one.variable) 1 0) lit clause in
+    omega (arith, first, second, third, one_more fallen one lit, one_variable one lit, lowered_by fallen one clause)
+
+-- where one more falls, the count falls by at most one
+pub lowered_once : (fallen : List Lit) (one : Lit) (clause : List Lit) → NamesOnce clause → standing fallen clause ≤ standing (fallen ++ one ∷ []) clause + 1
+lowered_once fallen one clause once =
+    let few : occurrences one.variable clause ≤ 1 = once one.variable in
+    omega (arith, lowered_by fallen one clause, few)
+
+-- and by none where its negation does not stand there
+pub lowered_not : (fallen : List Lit) (one : Lit) (clause : List Lit) → (standing fallen clause ≤ standing (fallen ++ one ∷ []) clause) ⊎ Contains clause (opposite one)
+lowered_not fallen one [] = inl (omega arith)
+lowered_not fallen one (lit ∷ clause) = at (lit_eq one (opposite lit)) refl (lowered_not fallen one clause)
+  where
+    flipped : one ≡ opposite lit → lit ≡ opposite one
+    flipped same = sym (opposite_twice lit) ∙ ap opposite (sym same)
+
+    at : (b : Bool) → lit_eq one (opposite lit) ≡ b → (standing fallen clause ≤ standing (fallen ++ one ∷ []) clause) ⊎ Contains clause (opposite one)
+        → (standing fallen (lit ∷ clause) ≤ standing (fallen ++ one ∷ []) (lit ∷ clause)) ⊎ Contains (lit ∷ clause) (opposite one)
+    at b is (inr later) = inr (there lit clause (opposite one) later)
+    at true is (inl less) = inr (let P : Lit → Type 0 = λ l. Contains (lit ∷ clause) l in subst P (flipped ((lit_eq_decides one (opposite lit)).0 is)) (here lit clause))
+    at false is (inl less) =
+        let same : cond {A = ℕ} (lit_eq one (opposite lit)) 1 0 ≡ 0 = ap (λ b. cond {A = ℕ} b 1 0) is in
+        inl (omega (arith, standing_cons fallen lit clause, standing_cons (fallen ++ one ∷ []) lit clause, one_more fallen one lit, less, same))
+
+-- nothing fell at first
+pub all_stand : (clause : List Lit) → standing [] clause ≡ length clause
+all_stand [] = refl
+all_stand (lit ∷ clause) = omega (arith, standing_cons [] lit clause, all_stand clause)
+
+-- a literal that did not fall counts
+one_stands : (fallen : List Lit) (clause : List Lit) (lit : Lit) → Contains clause lit → fell fallen lit ≡ false → 1 ≤ standing fallen clause
+one_stands fallen [] lit (k, within, is) stays = absurd (omega arith)
+one_stands fallen (first ∷ clause) lit (zero, within, is) stays =
+    let counts : spared fallen first ≡ 1 = ap (λ l. spared fallen l) is ∙ ap (λ b. cond b 0 1) stays in
+    omega (arith, standing_cons fallen first clause, counts)
+one_stands fallen (first ∷ clause) lit (suc k, within, is) stays =
+    omega (arith, standing_cons fallen first clause, one_stands fallen clause lit (k, omega arith, is) stays)
+
+pub two_stand : (fallen : List Lit) (clause : List Lit) (a b : Lit) → a ≢ b → Contains clause a → Contains clause b → fell fallen a ≡ false → fell fallen b ≡ false → 2 ≤ standing fallen clause
+two_stand fallen [] a b apart (k, within, is) other stays stays_too = absurd (omega arith)
+two_stand fallen (first ∷ clause) a b apart (zero, within, is) (zero, within', is') stays stays_too = absurd (apart (sym is ∙ is'))
+two_stand fallen (first ∷ clause) a b apart (zero, within, is) (suc k, within', is') stays stays_too =
+    let counts : spared fallen first ≡ 1 = ap (λ l. spared fallen l) is ∙ ap (λ t. cond t 0 1) stays in
+    omega (arith, standing_cons fallen first clause, counts, one_stands fallen clause b (k, omega arith, is') stays_too)
+two_stand fallen (first ∷ clause) a b apart (suc k, within, is) (zero, within', is') stays stays_too =
+    let counts : spared fallen first ≡ 1 = ap (λ l. spared fallen l) is' ∙ ap (λ t. cond t 0 1) stays_too in
+    omega (arith, standing_cons fallen first clause, counts, one_stands fallen clause a (k, omega arith, is) stays)
+two_stand fallen (first ∷ clause) a b apart (suc k, within, is) (suc j, within', is') stays stays_too =
+    omega (arith, standing_cons fallen first clause, two_stand fallen clause a b apart (k, omega arith, is) (j, omega arith, is') stays stays_too)
+
+-- where one counts, one stands
+stands_one : (fallen clause : List Lit) → 1 ≤ standing fallen clause → (lit : Lit) × Contains clause lit × (fell fallen lit ≡ false)
+stands_one fallen [] some = absurd (omega arith)
+stands_one fallen (first ∷ clause) some = at (fell fallen first) refl (λ rest. stands_one fallen clause rest)
+  where
+    at : (b : Bool) → fell fallen first ≡ b → (1 ≤ standing fallen clause → (lit : Lit) × Contains clause lit × (fell fallen lit ≡ false)) → (lit : Lit) × Contains (first ∷ clause) lit × (fell fallen lit ≡ false)
+    at false is later = (first, here first clause, is)
+    at true is later =
+        let none : spared fallen first ≡ 0 = ap (λ b. cond b 0 1) is in
+        let rest = later (omega (arith, standing_cons fallen first clause, none, some)) in
+        (rest.0, there first clause rest.0 rest.1, rest.2)
+
+two_in_one : (n : ℕ) → 2 ≤ n → n ≤ 1 → ⊥
+two_in_one n more less = omega arith
+
+-- where two count, two of different variables stand
+pub stand_two : (fallen clause : List Lit) → NamesOnce clause → 2 ≤ standing fallen clause
+    → (a b : Lit) × Contains clause a × Contains clause b × (a.variable ≢ b.variable) × (fell fallen a ≡ false) × (fell fallen b ≡ false)
+stand_two fallen [] once some = absurd (omega arith)
+stand_two fallen (first ∷ clause) once some = at (fell fallen first) refl (λ rest few. stand_two fallen clause rest few)
+  where
+    rest_once : NamesOnce clause
+    rest_once variable =
+        let whole : occurrences variable (first ∷ clause) ≡ cond (first.variable == variable) 1 0 + occurrences variable clause = sum_by-cons (λ (l : Lit). cond (l.variable == variable) 1 0) first clause in
+        let few : occurrences variable (first ∷ clause) ≤ 1 = once variable in
+        omega (arith, whole, few)
+
+    differ : (lit : Lit) → Contains clause lit → first.variable ≢ lit.variable
+    differ lit (k, within, is) same =
+        let v : ℕ = (get_or clause k lit).variable in
+        let equal : first.variable ≡ (get_or clause k lit).variable = same ∙ sym (ap (λ (l : Lit). l.variable) is) in
+        let twice : 2 ≤ occurrences v (first ∷ clause) = twice_from_places (λ (l : Lit). l.variable) (first ∷ clause) 0 (suc k) lit (omega arith) (omega arith) equal in
+        let few : occurrences v (first ∷ clause) ≤ 1 = once v in
+        two_in_one (occurrences v (first ∷ clause)) twice few
+
+    at : (t : Bool) → fell fallen first ≡ t
+        → (NamesOnce clause → 2 ≤ standing fallen clause → (a b : Lit) × Contains clause a × Contains clause b × (a.variable ≢ b.variable) × (fell fallen a ≡ false) × (fell fallen b ≡ false))
+        → (a b : Lit) × Contains (first ∷ clause) a × Contains (first ∷ clause) b × (a.variable ≢ b.variable) × (fell fallen a ≡ false) × (fell fallen b ≡ false)
+    at false is later =
+        let one : spared fallen first ≡ 1 = ap (λ b. cond b 0 1) is in
+        let rest = stands_one fallen clause (omega (arith, standing_cons fallen first clause, one, some)) in
+        (first, rest.0, here first clause, there first clause rest.0 rest.1, differ rest.0 rest.1, is, rest.2)
+    at true is later =
+        let none : spared fallen first ≡ 0 = ap (λ b. cond b 0 1) is in
+        let rest = later rest_once (omega (arith, standing_cons fallen first clause, none, some)) in
+        (rest.0, rest.1, there first clause rest.0 rest.2, there first clause rest.1 rest.3, rest.4, rest.5, rest.6)
+
+-- what has no value did not fall
+pub stays : (assignment : Assignment) (fallen : List Lit) (lit : Lit) → IsKept assignment → All (Contains assignment.trail.items) fallen → value_of assignment.values.items lit.variable ≡ None → fell fallen lit ≡ false
+stays assignment fallen lit kept among none = at (fell fallen lit) refl
+  where
+    at : (b : Bool) → fell fallen lit ≡ b → fell fallen lit ≡ false
+    at false is = is
+    at true is =
+        let trailed : Contains assignment.trail.items (opposite lit) = All-contains (Contains assignment.trail.items) fallen (opposite lit) among (fell_contains fallen lit is) in
+        let holds : IsTrueIn (value_of assignment.values.items) (opposite lit) = All-contains (IsTrueIn (value_of assignment.values.items)) assignment.trail.items (opposite lit) kept.noted trailed in
+        absurd (some_clash (value_of assignment.values.items lit.variable) (not lit.positive) holds none)
+
+-- a clause that stays open is counted again
+pub counted_open : (assignment : Assignment) (clause fallen : List Lit) → IsKept assignment → All (Contains assignment.trail.items) fallen
+    → Any (IsTrueIn (value_of assignment.values.items)) clause ⊎ HasTwo assignment.values.items clause → IsCounted fallen assignment.values.items clause 2
+counted_open assignment clause fallen kept among (inl holds) = inl holds
+counted_open assignment clause fallen kept among (inr (first, within, none, (k, second, inside, is, (apart, second_none)))) =
+    inr (
+      omega arith,
+      two_stand fallen clause first second (λ same. apart (sym same)) within (k, inside, is) (stays assignment fallen first kept among none) (stays assignment fallen second kept among second_none),
+    )
+
+-- where all that is true fell, a counted clause is open
+pub open_counted : (assignment : Assignment) (clause : List Lit) (left : ℕ) → IsKept assignment → NamesOnce clause → IsCounted assignment.trail.items assignment.values.items clause left
+    → IsOpen assignment.values.items clause
+open_counted assignment clause left kept once (inl holds) = open_by_true assignment.values.items clause holds
+open_counted assignment clause left kept once (inr (two, few)) = at (stand_two assignment.trail.items clause once (omega (arith, two, few)))
+  where
+    not_false : (lit : Lit) → fell assignment.trail.items lit ≡ false → IsFalseIn (value_of assignment.values.items) lit → ⊥
+    not_false lit stands false_in = false≢true (sym stands ∙ contains_fell assignment.trail.items lit (kept.trailed (opposite lit) false_in))
+
+    at : (a b : Lit) × Contains clause a × Contains clause b × (a.variable ≢ b.variable) × (fell assignment.trail.items a ≡ false) × (fell assignment.trail.items b ≡ false) → IsOpen assignment.values.items clause
+    at (a, b, a_in, b_in, apart, a_stands, b_stands) = record {
+      no_false = λ all. not_false a a_stands (All-contains (IsFalseIn (value_of assignment.values.items)) clause a all a_in);
+      no_due = λ lit due. same_or_not ⊥ a lit
+          (λ same. not_false b b_stands (due.others b b_in (λ e. apart (ap (λ (l : Lit). l.variable) (same ∙ sym e)))))
+          (λ other. not_false a a_stands (due.others a a_in other));
+    }

@@ -1,0 +1,13 @@
+pub mod Passing
+pub mod Checking
+pub mod Standing
+pub mod Settling
+pub mod BoundsAt
+pub mod Bounding
+pub mod Trying
+pub mod Sharing
+pub mod Owning
+pub mod Counts
+pub mod Falling
+pub mod Listing
+pub mod Readying

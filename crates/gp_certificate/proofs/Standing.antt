@@ -1,0 +1,181 @@
+-- How clauses stand under an assignment, and what making a literal true changes.
+use Rattle.std.proofs.Common.{◌≡◌, ◌≢◌, ℕ, ◌+◌, ◌<◌, ◌≤◌, Bool, true, false, not, Option, None, Some, List, [], ◌∷◌, ◌++◌, length, get_or, set, vec_capacity, All, Any, Contains, ◌⊎◌, inl, inr, refl, ap, sym, ◌∙◌, subst, arith}
+use Rattle.std.proofs.lemmas.Bool.{cases_eq, cases_lt, false≢true}
+use Rattle.std.proofs.lemmas.List.{length-set, length_push, get_or-set_same, get_or-set_other, get_or_past}
+use Rattle.std.proofs.lemmas.List.Elements.{All-contains, All-weaker, All-push, Contains-push, Contains-append_left}
+use Rattle.std.proofs.lemmas.List.Sums.{sum_by-set}
+use Rattle.std.proofs.lemmas.Option.{same_Some, none-some}
+use Rattle.gp_clause.specs.declared.lit.Lit.{Lit}
+use Rattle.gp_clause.specs.Closure.{Derived, Conflicts, IsTrueIn, IsFalseIn, LeavesNone}
+use Rattle.gp_clause.specs.Closure.Derived.{forced}
+use Rattle.gp_clause.specs.Lit.{lit_eq, opposite}
+use Rattle.gp_clause.specs.LitLaws.{lit_eq_decides}
+use Rattle.gp_certificate.specs.declared.assignment.Assignment.{Assignment}
+use Rattle.gp_certificate.specs.Assignment.{value_of, IsDue, IsOpen, spare, unassigned, IsKept, IsClosing}
+use Rattle.gp_base.specs.ListLaws.{all_from_contains}
+
+not_itself : (b : Bool) → b ≡ not b → ⊥
+not_itself true e = false≢true (sym e)
+not_itself false e = false≢true e
+
+not_not : (b : Bool) → not (not b) ≡ b
+not_not true = refl
+not_not false = refl
+
+pub same_lits : (a b : Lit) → a.variable ≡ b.variable → a.positive ≡ b.positive → a ≡ b
+same_lits a b variables signs = λ i. record { variable = variables i; positive = signs i }
+
+pub some_clash : (o : Option Bool) (b : Bool) → o ≡ Some b → o ≡ None → ⊥
+some_clash o b some none = none-some b (sym none ∙ some)
+
+pub sign_clash : (o : Option Bool) (b : Bool) → o ≡ Some b → o ≡ Some (not b) → ⊥
+sign_clash o b some other = not_itself b (same_Some b (not b) (sym some ∙ other))
+
+-- what holds of a literal by its value
+by_value : (P : Type 0) (o : Option Bool) (sign : Bool) → (o ≡ None → P) → (o ≡ Some sign → P) → (o ≡ Some (not sign) → P) → P
+by_value P None sign none same other = none refl
+by_value P (Some true) true none same other = same refl
+by_value P (Some true) false none same other = other refl
+by_value P (Some false) true none same other = other refl
+by_value P (Some false) false none same other = same refl
+
+-- two literals are the same, or they are not
+pub same_or_not : (P : Type 0) (a b : Lit) → (a ≡ b → P) → (a ≢ b → P) → P
+same_or_not P a b same apart = at (lit_eq a b) refl
+  where
+    at : (t : Bool) → lit_eq a b ≡ t → P
+    at true is = same ((lit_eq_decides a b).0 is)
+    at false is = apart (λ e. false≢true (sym is ∙ (lit_eq_decides a b).1 e))
+
+pub open_by_true : (values : List (Option Bool)) (clause : List Lit) → Any (IsTrueIn (value_of values)) clause → IsOpen values clause
+open_by_true values clause (k, t, within, is, holds) = record {
+  no_false = λ all. sign_clash (value_of values t.variable) t.positive holds (All-contains (IsFalseIn (value_of values)) clause t all (k, within, is));
+  no_due = λ lit due.
+      let apart : t ≢ lit = λ same. some_clash (value_of values t.variable) t.positive holds (ap (λ (l : Lit). value_of values l.variable) same ∙ due.unassigned) in
+      sign_clash (value_of values t.variable) t.positive holds (due.others t (k, within, is) apart);
+}
+
+pub open_by_two : (values : List (Option Bool)) (clause : List Lit) (first : Lit) → Contains clause first → value_of values first.variable ≡ None
+    → Any (λ (lit : Lit). (lit ≢ first) × (value_of values lit.variable ≡ None)) clause → IsOpen values clause
+open_by_two values clause first within none (k, second, second_within, is, (apart, second_none)) = record {
+  no_false = λ all. some_clash (value_of values first.variable) (not first.positive) (All-contains (IsFalseIn (value_of values)) clause first all within) none;
+  no_due = λ lit due. same_or_not ⊥ first lit
+      (λ same. some_clash (value_of values second.variable) (not second.positive) (due.others second (k, second_within, is) (λ e. apart (e ∙ sym same))) second_none)
+      (λ other. some_clash (value_of values first.variable) (not first.positive) (due.others first within other) none);
+}
+
+pub false_by : (values : List (Option Bool)) (clause : List Lit) → (Any (IsTrueIn (value_of values)) clause → ⊥) → All (λ (lit : Lit). value_of values lit.variable ≢ None) clause
+    → All (IsFalseIn (value_of values)) clause
+false_by values clause none_true all = all_from_contains (IsFalseIn (value_of values)) clause each
+  where
+    each : (lit : Lit) → Contains clause lit → IsFalseIn (value_of values) lit
+    each lit (k, within, is) = by_value (IsFalseIn (value_of values) lit) (value_of values lit.variable) lit.positive
+        (λ none. absurd (All-contains (λ (lit : Lit). value_of values lit.variable ≢ None) clause lit all (k, within, is) none))
+        (λ holds. absurd (none_true (k, lit, within, is, holds))) (λ other. other)
+
+pub due_by : (values : List (Option Bool)) (clause : List Lit) (first : Lit) → (Any (IsTrueIn (value_of values)) clause → ⊥) → Contains clause first → value_of values first.variable ≡ None
+    → (Any (λ (lit : Lit). (lit ≢ first) × (value_of values lit.variable ≡ None)) clause → ⊥) → IsDue values clause first
+due_by values clause first none_true within none none_other = record { within = within; unassigned = none; others = each }
+  where
+    each : (lit : Lit) → Contains clause lit → lit ≢ first → IsFalseIn (value_of values) lit
+    each lit (k, inside, is) apart = by_value (IsFalseIn (value_of values) lit) (value_of values lit.variable) lit.positive
+        (λ empty. absurd (none_other (k, lit, inside, is, (apart, empty))))
+        (λ holds. absurd (none_true (k, lit, inside, is, holds))) (λ other. other)
+
+-- a literal that is true has a variable that there is
+pub true_within : (values : List (Option Bool)) (lit : Lit) → IsTrueIn (value_of values) lit → lit.variable < length values
+true_within values lit holds = at (cases_lt lit.variable (length values))
+  where
+    at : (lit.variable < length values) ⊎ (length values ≤ lit.variable) → lit.variable < length values
+    at (inl within) = within
+    at (inr past) = absurd (some_clash (value_of values lit.variable) lit.positive holds (get_or_past values lit.variable None past))
+
+-- one more variable has a value
+pub unassigned_less : (values : List (Option Bool)) (variable : ℕ) (sign : Bool) → variable < length values → value_of values variable ≡ None
+    → unassigned (set values variable (Some sign)) + 1 ≡ unassigned values
+unassigned_less values variable sign within none =
+    let old : spare (value_of values variable) ≡ 1 = ap spare none in
+    omega (arith, sum_by-set spare values variable (Some sign) None within, old)
+
+-- a literal that is true in more is the new one or was true before
+true_before : (values : List (Option Bool)) (lit : Lit) → lit.variable < length values → (other : Lit) → IsTrueIn (value_of (set values lit.variable (Some lit.positive))) other
+    → IsTrueIn (value_of values) other ⊎ (lit ≡ other)
+true_before values lit within other holds = at (cases_eq other.variable lit.variable)
+  where
+    at : (other.variable ≡ lit.variable) ⊎ (other.variable ≡ lit.variable → ⊥) → IsTrueIn (value_of values) other ⊎ (lit ≡ other)
+    at (inl same) =
+        let put : value_of (set values lit.variable (Some lit.positive)) other.variable ≡ Some lit.positive =
+        ap (λ v. value_of (set values lit.variable (Some lit.positive)) v) same ∙ get_or-set_same values lit.variable (Some lit.positive) None within in
+        inr (same_lits lit other (sym same) (same_Some lit.positive other.positive (sym put ∙ holds)))
+    at (inr apart) = inl (sym (get_or-set_other values lit.variable other.variable (Some lit.positive) None apart) ∙ holds)
+
+-- what was true stays so
+pub true_after : (values : List (Option Bool)) (lit : Lit) → value_of values lit.variable ≡ None → (other : Lit) → IsTrueIn (value_of values) other
+    → IsTrueIn (value_of (set values lit.variable (Some lit.positive))) other
+true_after values lit none other holds =
+    let apart : other.variable ≢ lit.variable = λ same. some_clash (value_of values other.variable) other.positive holds (ap (λ v. value_of values v) same ∙ none) in
+    get_or-set_other values lit.variable other.variable (Some lit.positive) None apart ∙ holds
+
+pub kept_more : (old new : Assignment) (lit : Lit) → IsKept old → lit.variable < length old.values.items → value_of old.values.items lit.variable ≡ None
+    → new.values.items ≡ set old.values.items lit.variable (Some lit.positive) → new.trail.items ≡ old.trail.items ++ lit ∷ [] → vec_capacity new.trail ≡ vec_capacity old.trail → IsKept new
+kept_more old new lit kept within none values trail capacity =
+    let size : length new.values.items ≡ length old.values.items = ap (λ (vs : List (Option Bool)). length vs) values ∙ length-set old.values.items lit.variable (Some lit.positive) in
+    let longer : length new.trail.items ≡ length old.trail.items + 1 = ap (λ (ls : List Lit). length ls) trail ∙ length_push old.trail.items lit in
+    let less : unassigned new.values.items + 1 ≡ unassigned old.values.items = ap (λ vs. unassigned vs + 1) values ∙ unassigned_less old.values.items lit.variable lit.positive within none in
+    record {
+      room = omega (arith, kept.room, size, capacity);
+      count = omega (arith, kept.count, size, longer, less);
+      trailed = λ other holds.
+          let moved : IsTrueIn (value_of (set old.values.items lit.variable (Some lit.positive))) other = ap (λ vs. value_of vs other.variable) (sym values) ∙ holds in
+          let P : List Lit → Type 0 = λ ls. Contains ls other in
+          subst P (sym trail) (at other (true_before old.values.items lit within other moved));
+      noted =
+          let new_true : get_or (set old.values.items lit.variable (Some lit.positive)) lit.variable None ≡ Some lit.positive = get_or-set_same old.values.items lit.variable (Some lit.positive) None within in
+          let P : List Lit → Type 0 = λ ls. All (IsTrueIn (value_of new.values.items)) ls in
+          let Q : List (Option Bool) → Type 0 = λ vs. All (IsTrueIn (value_of vs)) (old.trail.items ++ lit ∷ []) in
+          subst P (sym trail) (subst Q (sym values)
+          (All-push (IsTrueIn (value_of (set old.values.items lit.variable (Some lit.positive)))) old.trail.items lit
+          (All-weaker (IsTrueIn (value_of old.values.items)) (IsTrueIn (value_of (set old.values.items lit.variable (Some lit.positive)))) (true_after old.values.items lit none) old.trail.items kept.noted)
+          new_true));
+    }
+  where
+    at : (other : Lit) → IsTrueIn (value_of old.values.items) other ⊎ (lit ≡ other) → Contains (old.trail.items ++ lit ∷ []) other
+    at other (inl before) = Contains-append_left old.trail.items (lit ∷ []) other (kept.trailed other before)
+    at other (inr same) = let P : Lit → Type 0 = λ l. Contains (old.trail.items ++ lit ∷ []) l in subst P same (Contains-push old.trail.items lit)
+
+-- a literal that is due is derived, and a false clause is a conflict
+pub opposite_twice : (lit : Lit) → opposite (opposite lit) ≡ lit
+opposite_twice lit = λ i. record { variable = lit.variable; positive = not_not lit.positive i }
+
+pub false_derived : (start : List Lit) (clauses : List (List Lit)) (assignment : Assignment) (lit : Lit) → IsClosing start clauses assignment → IsFalseIn (value_of assignment.values.items) lit
+    → Derived start clauses (opposite lit)
+false_derived start clauses assignment lit closing false_in =
+    All-contains (Derived start clauses) assignment.trail.items (opposite lit) closing.derived (closing.kept.trailed (opposite lit) false_in)
+
+pub conflicts : (start : List Lit) (clauses : List (List Lit)) (assignment : Assignment) (clause : List Lit) → IsClosing start clauses assignment → Contains clauses clause
+    → All (IsFalseIn (value_of assignment.values.items)) clause → Conflicts start clauses
+conflicts start clauses assignment clause closing one all =
+    (clause, one, λ lit is. false_derived start clauses assignment lit closing (All-contains (IsFalseIn (value_of assignment.values.items)) clause lit all is))
+
+pub closing_more : (start : List Lit) (clauses : List (List Lit)) (old new : Assignment) (clause : List Lit) (lit : Lit) → IsClosing start clauses old → IsKept new → Contains clauses clause
+    → IsDue old.values.items clause lit → new.trail.items ≡ old.trail.items ++ lit ∷ [] → IsClosing start clauses new
+closing_more start clauses old new clause lit closing kept one due trail =
+    let new_derived : Derived start clauses lit = forced clause lit one due.within (λ other is apart. false_derived start clauses old other closing (due.others other is apart)) in
+    let P : List Lit → Type 0 = λ ls. All (Derived start clauses) ls in
+    let Q : List Lit → Type 0 = λ ls. All (Contains ls) start in
+    record {
+      kept = kept;
+      derived = subst P (sym trail) (All-push (Derived start clauses) old.trail.items lit closing.derived new_derived);
+      starts = subst Q (sym trail) (All-weaker (Contains old.trail.items) (Contains (old.trail.items ++ lit ∷ [])) (λ l is. Contains-append_left old.trail.items (lit ∷ []) l is) start closing.starts);
+    }
+
+-- an assignment that leaves all clauses open leaves none
+pub leaves_none : (values : List (Option Bool)) (clauses : List (List Lit)) → All (IsOpen values) clauses → LeavesNone (value_of values) clauses
+leaves_none values clauses all = record {
+  no_false = λ clause one each.
+      let stands : IsOpen values clause = All-contains (IsOpen values) clauses clause all one in
+      stands.no_false (all_from_contains (IsFalseIn (value_of values)) clause each);
+  no_unit = λ clause lit one within others none.
+      let stands : IsOpen values clause = All-contains (IsOpen values) clauses clause all one in
+      stands.no_due lit (record { within = within; unassigned = none; others = others });
+}

@@ -1,0 +1,96 @@
+-- Where what is derived was made true, a negative cycle with its bounds is all that refutes.
+use Rattle.std.proofs.Common.{◌≡◌, ℕ, ◌<◌, ◌≤◌, Bool, Option, None, Some, List, ◌++◌, length, All, Contains, ◌↔◌, inl, inr, refl, ap, sym, ◌∙◌, subst, arith}
+use Rattle.std.specs.Prelude.{MatchBool}
+use Rattle.std.specs.List.{slice_get}
+use Rattle.gp_difference.specs.Graph.{GraphForm}
+use Rattle.std.proofs.lemmas.List.Elements.{All-contains, All-weaker}
+use Rattle.std.proofs.lemmas.Option.{none-some}
+use Rattle.gp_clause.specs.declared.edge.Edge.{Edge}
+use Rattle.gp_clause.specs.declared.kind.Kind.{Kind}
+use Rattle.gp_clause.specs.declared.lit.Lit.{Lit}
+use Rattle.gp_clause.specs.Clause.{NamesBelow}
+use Rattle.gp_clause.specs.Closure.{Derived, ClosureIsLeast, IsTrueIn}
+use Rattle.gp_clause.specs.Closure.Derived.{given}
+use Rattle.gp_clause.specs.Kind.{bound_of, bound_at, bound_in}
+use Rattle.gp_clause.specs.Walk.{HasNegativeCycle}
+use Rattle.gp_certificate.specs.declared.assignment.Assignment.{Assignment}
+use Rattle.gp_certificate.specs.declared.places.Places.{Places}
+use Rattle.gp_certificate.specs.Assignment.{value_of, IsOpen, IsKept, IsClosing}
+use Rattle.gp_certificate.specs.Places.{AreBare, bounds_at}
+use Rattle.gp_certificate.specs.Step.{IsDerivedBound, LeadsToConflict}
+use Rattle.gp_certificate.proofs.BoundsAt.{cycle_beside, bound_among, bounds_from}
+use Rattle.gp_base.specs.ListLaws.{all_from_contains}
+use Rattle.gp_certificate.proofs.Standing.{leaves_none, true_within}
+
+-- a start is on the way to its closure
+pub closing_start : (clauses : List (List Lit)) (assignment : Assignment) → IsKept assignment → IsClosing assignment.trail.items clauses assignment
+closing_start clauses assignment kept = record {
+  kept = kept;
+  derived = all_from_contains (Derived assignment.trail.items clauses) assignment.trail.items (λ lit is. given lit is);
+  starts = all_from_contains (Contains assignment.trail.items) assignment.trail.items (λ lit is. is);
+}
+
+-- each literal that is true has a variable that there is, and there are no more of them than variables
+pub trail_within : (assignment : Assignment) (n : ℕ) → IsKept assignment → length assignment.values.items ≡ n → NamesBelow n assignment.trail.items
+trail_within assignment n kept size =
+    All-weaker (IsTrueIn (value_of assignment.values.items)) (λ (lit : Lit). lit.variable < n)
+    (λ lit holds. let within : lit.variable < length assignment.values.items = true_within assignment.values.items lit holds in omega (arith, within, size))
+    assignment.trail.items kept.noted
+
+pub trail_few : (assignment : Assignment) (n : ℕ) → IsKept assignment → length assignment.values.items ≡ n → length assignment.trail.items ≤ n
+trail_few assignment n kept size = omega (arith, kept.count, size)
+
+pub bare_fewer : (n m : ℕ) (places : Places) → m ≤ n → AreBare n places → AreBare m places
+bare_fewer n m places fewer bare = record { none = bare.none; room = omega (arith, fewer, bare.room); edges = bare.edges }
+
+-- what a bound of a literal is made of
+bound_parts : (P : Type 0) (kinds : List Kind) (lit : Lit) (edge : Edge) → bound_at kinds lit ≡ Some edge
+    → ((kind : Kind) → slice_get kinds lit.variable ≡ Some kind → bound_of kind lit.positive ≡ Some edge → P) → P
+bound_parts P kinds lit edge some use_parts = at (slice_get kinds lit.variable) refl
+  where
+    at : (o : Option Kind) → slice_get kinds lit.variable ≡ o → P
+    at None none = absurd (none-some edge (sym (ap (λ o. bound_in o lit.positive) none) ∙ some))
+    at (Some kind) is = use_parts kind is (sym (ap (λ o. bound_in o lit.positive) is) ∙ some)
+
+derived_bound : (start : List Lit) (clauses : List (List Lit)) (kinds : List Kind) (assignment : Assignment) → IsClosing start clauses assignment
+    → (lit : Lit) (edge : Edge) → Contains assignment.trail.items lit → bound_at kinds lit ≡ Some edge → IsDerivedBound kinds clauses start edge
+derived_bound start clauses kinds assignment closing lit edge is some =
+    bound_parts (IsDerivedBound kinds clauses start edge) kinds lit edge some
+    (λ kind at bound. (lit, kind, All-contains (Derived start clauses) assignment.trail.items lit closing.derived is, at, bound))
+
+-- where all clauses are open, a cycle with the bounds of what is true is all that refutes
+pub closed_refutes : ClosureIsLeast → (edges : List Edge) (kinds : List Kind) (start : List Lit) (clauses : List (List Lit)) (assignment : Assignment) → IsClosing start clauses assignment
+    → All (IsOpen assignment.values.items) clauses → HasNegativeCycle (edges ++ bounds_at kinds assignment.trail.items) ↔ LeadsToConflict edges kinds clauses start
+closed_refutes least edges kinds start clauses assignment closing all = (
+  λ cycle. inr (bounds_at kinds assignment.trail.items, bounds_from (IsDerivedBound kinds clauses start) kinds assignment.trail.items (derived_bound start clauses kinds assignment closing), cycle),
+  from,
+)
+  where
+    starts : All (IsTrueIn (value_of assignment.values.items)) start
+    starts = All-weaker (Contains assignment.trail.items) (IsTrueIn (value_of assignment.values.items))
+        (λ lit is. All-contains (IsTrueIn (value_of assignment.values.items)) assignment.trail.items lit closing.kept.noted is) start closing.starts
+
+    among : (edge : Edge) → IsDerivedBound kinds clauses start edge → Contains (bounds_at kinds assignment.trail.items) edge
+    among edge (lit, kind, derived, at, bound) =
+        let holds : IsTrueIn (value_of assignment.values.items) lit = least.true_too start clauses (value_of assignment.values.items) starts (leaves_none assignment.values.items clauses all) lit derived in
+        bound_among kinds assignment.trail.items lit edge (closing.kept.trailed lit holds) (ap (λ o. bound_in o lit.positive) at ∙ bound)
+
+    from : LeadsToConflict edges kinds clauses start → HasNegativeCycle (edges ++ bounds_at kinds assignment.trail.items)
+    from (inl conflict) = absurd (least.no_conflict start clauses (value_of assignment.values.items) starts (leaves_none assignment.values.items clauses all) conflict)
+    from (inr (bounds, derived, cycle)) =
+        cycle_beside edges bounds (bounds_at kinds assignment.trail.items) (All-weaker (IsDerivedBound kinds clauses start) (Contains (bounds_at kinds assignment.trail.items)) among bounds derived) cycle
+
+-- places whose bounds were taken back are bare again
+pub bare_again : (n : ℕ) (old new : Places) → new ≡ record old { graph = new.graph } → new.graph ≡ record old.graph { places = new.graph.places; cycle = new.graph.cycle } → AreBare n old → AreBare n new
+bare_again n old new same graph bare =
+    let Q : Bool → List Edge → List Edge → Type 0 = λ cyclic edges held. MatchBool cyclic (HasNegativeCycle edges) ((held ≡ edges) × (HasNegativeCycle edges → ⊥)) in
+    let roomy : new.graph.room ≡ old.graph.room = λ i. (graph i).room in
+    record {
+      none = (λ i. (graph i).kept) ∙ bare.none;
+      room = omega (arith, roomy, bare.room);
+      edges =
+          let cyclic : old.cyclic ≡ new.cyclic = ap (λ (p : Places). p.cyclic) (sym same) in
+          let edges : old.edges ≡ new.edges = ap (λ (p : Places). p.edges) (sym same) in
+          let held : old.graph.edges ≡ new.graph.edges = ap (λ (g : GraphForm). g.edges) (sym graph) in
+          subst (λ b. Q b new.edges new.graph.edges) cyclic (subst (λ es. Q old.cyclic es new.graph.edges) edges (subst (λ es. Q old.cyclic old.edges es) held bare.edges));
+    }

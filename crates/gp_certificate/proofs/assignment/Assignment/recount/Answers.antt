@@ -1,0 +1,10 @@
+use Rattle.gp_certificate.proofs.Counts.{counted_open}
+use Rattle.gp_certificate.proofs.Standing.{closing_more}
+use Rattle.gp_certificate.proofs.assignment.Assignment.recount.Goals as goal
+
+pub returns-in-Open-clause-gives : goal.returns-in-Open-clause-gives
+returns-in-Open-clause-gives c = λ fallen among few. counted_open c.args.self.now c.args.clause.now fallen c.requires.kept among c.in-Open.ensures
+
+pub returns-in-Due-clause-closing : goal.returns-in-Due-clause-closing
+returns-in-Due-clause-closing c = λ clauses one start closing.
+    closing_more start clauses c.args.self.now c.assign.new.self c.args.clause.now c.in-Due.lit closing c.assign.ensures.kept one c.in-Due.ensures c.assign.ensures.trail

@@ -1,0 +1,13 @@
+pub mod Places
+pub mod Step
+pub mod Assignment
+pub mod Counting
+pub mod Certificate
+pub mod Shared
+pub mod Bench
+pub mod Judge
+pub mod PassingLaws
+pub mod NamedLaws
+pub mod LoadingLaws
+pub mod CheckingLaws
+pub mod SharedLaws

@@ -1,6 +1,0 @@
-use Rattle.std.proofs.Common.{[]}
-use Rattle.gp_derivation.proofs.Rehinting.{check_bare}
-use Rattle.gp_derivation.proofs.certificate.checks_without_locals.Goals as goal
-
-pub returns : goal.returns
-returns c = λ problem query certificate valid checks below. check_bare problem query.locals [] problem.clauses certificate.steps valid.clauses below checks

@@ -1,6 +1,0 @@
-use Rattle.std.proofs.Common.{sym, ◌∙◌}
-use Rattle.gp_derivation.proofs.Owning.{own_number}
-use Rattle.gp_derivation.proofs.check.numbered.Goals as goal
-
-pub returns : goal.returns
-returns c = c.clause_at.ensures ∙ sym (own_number c.args.base.now c.args.shared.now c.args.own.now c.args.number c.if-number-base.false c.if-place-shared.false)

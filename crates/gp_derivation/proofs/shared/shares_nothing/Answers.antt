@@ -1,5 +1,0 @@
-use Rattle.gp_derivation.proofs.Sharing.{sharing_nothing}
-use Rattle.gp_derivation.proofs.shared.shares_nothing.Goals as goal
-
-pub returns : goal.returns
-returns c = sharing_nothing

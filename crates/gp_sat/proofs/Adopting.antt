@@ -5,6 +5,7 @@ use Rattle.std.specs.List.{swap_remove}
 use Rattle.std.proofs.lemmas.Bool.{cases_eq, cases_lt}
 use Rattle.std.proofs.lemmas.List.{get_or-set_same, get_or-set_other, length-set, length_push, get_or_default}
 use Rattle.std.proofs.lemmas.List.Elements.{Contains-get_or}
+use Rattle.gp_base.specs.ListLaws.{here, there}
 use Rattle.gp_clause.specs.declared.lit.Lit.{Lit}
 use Rattle.gp_sat.specs.declared.assigned.Assigned.{Assigned}
 use Rattle.gp_sat.specs.Stored.{Stored}
@@ -12,7 +13,7 @@ use Rattle.gp_sat.specs.declared.watches.Slot.{Slot}
 use Rattle.gp_sat.specs.State.{SolverForm, assigned, clause_at, IsAttached, with_literal}
 use Rattle.gp_sat.specs.Sound.{IsSound}
 use Rattle.gp_sat.specs.Standing.{IsFalse, EachOther}
-use Rattle.gp_sat.specs.Links.{IsIn, put, AreLinked, IsLoose}
+use Rattle.gp_sat.specs.Links.{put, AreLinked, IsLoose}
 use Rattle.gp_sat.specs.WatchesForm.{WatchesForm}
 use Rattle.gp_sat.specs.Watching.{ArePartners, IsSafe, IsHeld, IsLong, IsSettled, Watches, AreLooked, AreWatched, code, link_at, next_at, watch_at, no_slot}
 use Rattle.gp_sat.specs.Linked.{IsMember, IsOf, IsLinked, at_front, passed, adopted}
@@ -89,14 +90,14 @@ two_long clause one two (k, below, is) (j, under, at) apart = elim (cases_lt (le
 ]
 
 -- what is in a list stays in it where one list has one more
-push_keeps : (lists : ℕ → List ℕ) (m x l z : ℕ) → IsIn z (lists l) → IsIn z (put lists m (x ∷ lists m) l)
+push_keeps : (lists : ℕ → List ℕ) (m x l z : ℕ) → Contains (lists l) z → Contains (put lists m (x ∷ lists m) l) z
 push_keeps lists m x l z among = elim (cases_eq l m) [
-  | inl same ↦ subst (λ (ys : List ℕ). IsIn z ys) (sym (put_here lists m (x ∷ lists m) l same)) (inr (subst (λ (n : ℕ). IsIn z (lists n)) same among))
-  | inr differ ↦ subst (λ (ys : List ℕ). IsIn z ys) (sym (put_other lists m (x ∷ lists m) l differ)) among
+  | inl same ↦ subst (λ (ys : List ℕ). Contains ys z) (sym (put_here lists m (x ∷ lists m) l same)) (there _ _ _ (subst (λ (n : ℕ). Contains (lists n) z) same among))
+  | inr differ ↦ subst (λ (ys : List ℕ). Contains ys z) (sym (put_other lists m (x ∷ lists m) l differ)) among
 ]
 
-push_first : (lists : ℕ → List ℕ) (m x : ℕ) → IsIn x (put lists m (x ∷ lists m) m)
-push_first lists m x = subst (λ (ys : List ℕ). IsIn x ys) (sym (put_here lists m (x ∷ lists m) m refl)) (inl refl)
+push_first : (lists : ℕ → List ℕ) (m x : ℕ) → Contains (put lists m (x ∷ lists m) m) x
+push_first lists m x = subst (λ (ys : List ℕ). Contains ys x) (sym (put_here lists m (x ∷ lists m) m refl)) (here _ _)
 
 front_watch : (w : WatchesForm) (x : ℕ) (lit : Lit) → x < length w.slots → watch_at (at_front w x lit).slots x ≡ lit
 front_watch w x lit within = ap (λ (s : Slot). s.lit) (get_or-set_same w.slots x (record { lit = lit; next = link_at w.heads (code lit) }) no_slot within)
@@ -134,7 +135,7 @@ adopted_links clauses variables w fallen lists one two within named_one named_tw
         let below : z < 2 * w.linked = partner_within number z v w.linked partners (omega (arith, held.1, differ)) in
         elim (old.listed number z v (held.0, omega (arith, held.1, differ)) long_z partners) [
           | inl work ↦ inl (grows 0 z work)
-          | inr there ↦ inr (subst (λ (l : Lit). IsIn z (adopted_lists lists w.linked one two (code l))) (sym (same_watch z below)) (grows (code (watch_at w.slots z)) z there))
+          | inr there ↦ inr (subst (λ (l : Lit). Contains (adopted_lists lists w.linked one two (code l)) z) (sym (same_watch z below)) (grows (code (watch_at w.slots z)) z there))
         ]
   ];
   members = λ l z among. elim (pushed_cases lists1 (code two) y l z among) [
@@ -195,16 +196,16 @@ adopted_links clauses variables w fallen lists one two within named_one named_tw
     same_watch : (z : ℕ) → z < 2 * w.linked → watch_at (adopted w one two).slots z ≡ watch_at w.slots z
     same_watch z below = front_other w1 y two z (λ e. omega (arith, e, below)) ∙ front_other w x one z (λ e. omega (arith, e, below))
 
-    grows : (l z : ℕ) → IsIn z (lists l) → IsIn z (adopted_lists lists w.linked one two l)
+    grows : (l z : ℕ) → Contains (lists l) z → Contains (adopted_lists lists w.linked one two l) z
     grows l z among = push_keeps lists1 (code two) y l z (push_keeps lists (code one) x l z among)
 
-    at_x : (z : ℕ) → z ≡ x → IsIn z (adopted_lists lists w.linked one two (code (watch_at (adopted w one two).slots z)))
-    at_x z same = subst (λ (n : ℕ). IsIn n (adopted_lists lists w.linked one two (code (watch_at (adopted w one two).slots n)))) (sym same)
-        (subst (λ (l : Lit). IsIn x (adopted_lists lists w.linked one two (code l))) (sym watch_x) (push_keeps lists1 (code two) y (code one) x (push_first lists (code one) x)))
+    at_x : (z : ℕ) → z ≡ x → Contains (adopted_lists lists w.linked one two (code (watch_at (adopted w one two).slots z))) z
+    at_x z same = subst (λ (n : ℕ). Contains (adopted_lists lists w.linked one two (code (watch_at (adopted w one two).slots n))) n) (sym same)
+        (subst (λ (l : Lit). Contains (adopted_lists lists w.linked one two (code l)) x) (sym watch_x) (push_keeps lists1 (code two) y (code one) x (push_first lists (code one) x)))
 
-    at_y : (z : ℕ) → z ≡ y → IsIn z (adopted_lists lists w.linked one two (code (watch_at (adopted w one two).slots z)))
-    at_y z same = subst (λ (n : ℕ). IsIn n (adopted_lists lists w.linked one two (code (watch_at (adopted w one two).slots n)))) (sym same)
-        (subst (λ (l : Lit). IsIn y (adopted_lists lists w.linked one two (code l))) (sym watch_y) (push_first lists1 (code two) y))
+    at_y : (z : ℕ) → z ≡ y → Contains (adopted_lists lists w.linked one two (code (watch_at (adopted w one two).slots z))) z
+    at_y z same = subst (λ (n : ℕ). Contains (adopted_lists lists w.linked one two (code (watch_at (adopted w one two).slots n))) n) (sym same)
+        (subst (λ (l : Lit). Contains (adopted_lists lists w.linked one two (code l)) y) (sym watch_y) (push_first lists1 (code two) y))
 
 -- a pair to watch
 pub record IsGoodPair (s : SolverForm) (number cursor : ℕ) (one two : Lit) : Type 0 where

@@ -48,16 +48,6 @@ best_more f front one two lit apart more old = record {
   ];
 }
 
-pub best_kept : (f : ℕ → Option Assigned) (front : List Lit) (one two lit : Lit) → level_of (f lit.variable) ≤ level_of (f two.variable) → IsHighest f front one two → IsHighest f (front ++ lit ∷ []) one two
-best_kept f front one two lit less old = record {
-  within = Contains-append_left front (lit ∷ []) two old.within;
-  apart = old.apart;
-  highest = λ other among differ. elim (Contains-push_cases front lit other among) [
-    | inl before ↦ old.highest other before differ
-    | inr here ↦ let same : level_of (f lit.variable) ≡ level_of (f other.variable) = ap (λ (l : Lit). level_of (f l.variable)) here in omega (arith, same, less)
-  ];
-}
-
 pub best_step : (f : ℕ → Option Assigned) (lits : List Lit) (i : ℕ) (d one : Lit) (best : Option Lit) → i < length lits → IsBest f (take i lits ++ get_or lits i d ∷ []) one best → IsBest f (take (i + 1) lits) one best
 best_step f lits i d one best within is = subst (λ (xs : List Lit). IsBest f xs one best) (sym (take_more lits i d within)) is
 

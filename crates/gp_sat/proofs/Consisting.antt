@@ -19,7 +19,7 @@ use Rattle.gp_sat.specs.Deciding.{IsPassed, IsPlaced, IsNextFree, IsFull}
 use Rattle.gp_sat.specs.Consistent.{IsConsistent}
 use Rattle.gp_sat.proofs.Adding.{sound_more, laid_is}
 use Rattle.gp_sat.proofs.Cutting.{Cuts, cuts_at, kept_all, sound_cut, front_low, rest_high}
-use Rattle.gp_sat.proofs.Storing.{sound_ordered, sound_empty, all_unassigned}
+use Rattle.gp_sat.proofs.Storing.{sound_empty, all_unassigned}
 use Rattle.gp_sat.specs.SolverLaws.{Adds, added, added_cases, added_stays, adds_literal, kept_was, kept_stays, free_at, room_left, within_values}
 
 -- the front of the order is a place in it
@@ -281,19 +281,6 @@ consistent_clauses s clauses starts place trail_room starts_room sound old = rec
   placed = old.placed;
   ordered = old.ordered;
   used_in = old.used_in;
-  trail_has = old.trail_has;
-  starts_has = old.starts_has;
-}
-
--- the same solver with another order, or other variables in use, and the place at the front
-pub consistent_ordered : (s : SolverForm) (order : List ℕ) (used : ℕ) (starts : List ℕ) (place next : Option ℕ) (trail_room starts_room : ℕ) → length order ≡ length s.order → used ≤ length s.values → next ≡ slice_get order 0
-    → IsConsistent s starts place trail_room starts_room → IsConsistent (record s { order = order; used = used }) starts next trail_room starts_room
-consistent_ordered s order used starts place next trail_room starts_room size few front old = record {
-  sound = sound_ordered s order used old.sound;
-  starts_at = record { count = old.starts_at.count; ends = old.starts_at.ends };
-  placed = placed_front (assigned s) used order next front;
-  ordered = size ∙ old.ordered;
-  used_in = few;
   trail_has = old.trail_has;
   starts_has = old.starts_has;
 }

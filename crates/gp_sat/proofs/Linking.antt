@@ -1,7 +1,8 @@
 -- Slots that are taken from a list and linked into another.
-use Rattle.std.proofs.Common.{◌≡◌, ◌≢◌, refl, sym, ◌∙◌, subst, ℕ, ◌+◌, List, [], ◌∷◌, ◌⊎◌, inl, inr}
+use Rattle.std.proofs.Common.{◌≡◌, ◌≢◌, refl, sym, ◌∙◌, subst, ℕ, ◌+◌, List, [], ◌∷◌, ◌⊎◌, inl, inr, Contains, arith}
 use Rattle.std.proofs.lemmas.Bool.{cases_eq, eq-eqb, ne_eqb}
-use Rattle.gp_sat.specs.Links.{IsIn, IsOnce, IsChain, put, AreLinked, IsLoose}
+use Rattle.gp_base.specs.ListLaws.{first_or_rest, here, nothing_in, there}
+use Rattle.gp_sat.specs.Links.{IsOnce, IsChain, put, AreLinked, IsLoose}
 
 pub put_here : {A : Type 0} (f : ℕ → A) (at : ℕ) (value : A) (k : ℕ) → k ≡ at → put f at value k ≡ value
 put_here f at value k same = rw (eq-eqb k at same) refl
@@ -17,16 +18,16 @@ put_each {A} f at value P here other k = elim (cases_eq k at) [
 ]
 
 -- a chain does not see the links of slots that it does not lead over
-pub chain_same : (next new : ℕ → ℕ) (x : ℕ) (xs : List ℕ) (link : ℕ) → ((y : ℕ) → y ≢ x → new y ≡ next y) → (IsIn x xs → ⊥) → IsChain next link xs → IsChain new link xs
+pub chain_same : (next new : ℕ → ℕ) (x : ℕ) (xs : List ℕ) (link : ℕ) → ((y : ℕ) → y ≢ x → new y ≡ next y) → (Contains xs x → ⊥) → IsChain next link xs → IsChain new link xs
 chain_same next new x [] link same off chain = chain
 chain_same next new x (y ∷ xs) link same off chain =
-    let differ : y ≢ x = λ e. off (inl (sym e)) in
-    (chain.0, subst (λ (n : ℕ). IsChain new n xs) (sym (same y differ)) (chain_same next new x xs (next y) same (λ among. off (inr among)) chain.1))
+    let differ : y ≢ x = λ e. off (0, omega arith, e) in
+    (chain.0, subst (λ (n : ℕ). IsChain new n xs) (sym (same y differ)) (chain_same next new x xs (next y) same (λ among. off (there _ _ _ among)) chain.1))
 
 -- what is in the rest of a list is in the list
-pub in_before : (lists : ℕ → List ℕ) (l x : ℕ) (xs : List ℕ) → lists l ≡ x ∷ xs → (m y : ℕ) → IsIn y (put lists l xs m) → IsIn y (lists m)
-in_before lists l x xs is m y = put_each lists l xs (λ k ys. IsIn y ys → IsIn y (lists k))
-    (λ among. subst (λ (ys : List ℕ). IsIn y ys) (sym is) (inr among))
+pub in_before : (lists : ℕ → List ℕ) (l x : ℕ) (xs : List ℕ) → lists l ≡ x ∷ xs → (m y : ℕ) → Contains (put lists l xs m) y → Contains (lists m) y
+in_before lists l x xs is m y = put_each lists l xs (λ k ys. Contains ys y → Contains (lists k) y)
+    (λ among. subst (λ (ys : List ℕ). Contains ys y) (sym is) (there _ _ _ among))
     (λ k differ among. among) m
 
 -- the first slot of a list is taken from it
@@ -42,18 +43,18 @@ popped head new next lists l x xs linked is here other = record {
 
 -- and then stands in no list
 pub popped_loose : (head next : ℕ → ℕ) (lists : ℕ → List ℕ) (l x : ℕ) (xs : List ℕ) → AreLinked head next lists → lists l ≡ x ∷ xs → IsLoose x (put lists l xs)
-popped_loose head next lists l x xs linked is = put_each lists l xs (λ k ys. IsIn x ys → ⊥)
+popped_loose head next lists l x xs linked is = put_each lists l xs (λ k ys. Contains ys x → ⊥)
     (subst (λ (ys : List ℕ). IsOnce ys) is (linked.once l)).0
-    (λ k differ among. differ (linked.apart k l x among (subst (λ (ys : List ℕ). IsIn x ys) (sym is) (inl refl))))
+    (λ k differ among. differ (linked.apart k l x among (subst (λ (ys : List ℕ). Contains ys x) (sym is) (here _ _))))
 
 -- what is in a list that has one more is that one or was there
-pub pushed_cases : (lists : ℕ → List ℕ) (m x k y : ℕ) → IsIn y (put lists m (x ∷ lists m) k) → ((k ≡ m) × (y ≡ x)) ⊎ IsIn y (lists k)
+pub pushed_cases : (lists : ℕ → List ℕ) (m x k y : ℕ) → Contains (put lists m (x ∷ lists m) k) y → ((k ≡ m) × (y ≡ x)) ⊎ Contains (lists k) y
 pushed_cases lists m x k y among = elim (cases_eq k m) [
-  | inl same ↦ elim (let at : IsIn y (x ∷ lists m) = subst (λ (ys : List ℕ). IsIn y ys) (put_here lists m (x ∷ lists m) k same) among in at) [
-    | inl new ↦ inl (same, new)
-    | inr old ↦ inr (subst (λ (n : ℕ). IsIn y (lists n)) (sym same) old)
+  | inl same ↦ elim (first_or_rest _ _ _ (let at : Contains (x ∷ lists m) y = subst (λ (ys : List ℕ). Contains ys y) (put_here lists m (x ∷ lists m) k same) among in at)) [
+    | inl new ↦ inl (same, sym new)
+    | inr old ↦ inr (subst (λ (n : ℕ). Contains (lists n) y) (sym same) old)
   ]
-  | inr differ ↦ inr (subst (λ (ys : List ℕ). IsIn y ys) (put_other lists m (x ∷ lists m) k differ) among)
+  | inr differ ↦ inr (subst (λ (ys : List ℕ). Contains ys y) (put_other lists m (x ∷ lists m) k differ) among)
 ]
 
 -- a slot that stands in no list is linked to the front of one
@@ -67,10 +68,10 @@ pushed head new next links lists m x linked loose here other link others = recor
   apart = λ k j y one two. elim (pushed_cases lists m x k y one) [
     | inl new_one ↦ elim (pushed_cases lists m x j y two) [
       | inl new_two ↦ new_one.0 ∙ sym new_two.0
-      | inr old_two ↦ absurd (loose j (subst (λ (n : ℕ). IsIn n (lists j)) new_one.1 old_two))
+      | inr old_two ↦ absurd (loose j (subst (λ (n : ℕ). Contains (lists j) n) new_one.1 old_two))
     ]
     | inr old_one ↦ elim (pushed_cases lists m x j y two) [
-      | inl new_two ↦ absurd (loose k (subst (λ (n : ℕ). IsIn n (lists k)) new_two.1 old_one))
+      | inl new_two ↦ absurd (loose k (subst (λ (n : ℕ). Contains (lists k) n) new_two.1 old_one))
       | inr old_two ↦ linked.apart k j y old_one old_two
     ]
   ];
@@ -97,7 +98,7 @@ given head new next lists l m apart linked empty none moved other = record {
   ];
 }
   where
-    from : (j x : ℕ) → IsIn x (put (put lists l []) m (lists l) j) → ((j ≡ m) × IsIn x (lists l)) ⊎ ((j ≢ l) × IsIn x (lists j))
-    from j x = put_each (put lists l []) m (lists l) (λ k ys. IsIn x ys → ((k ≡ m) × IsIn x (lists l)) ⊎ ((k ≢ l) × IsIn x (lists k)))
+    from : (j x : ℕ) → Contains (put (put lists l []) m (lists l) j) x → ((j ≡ m) × Contains (lists l) x) ⊎ ((j ≢ l) × Contains (lists j) x)
+    from j x = put_each (put lists l []) m (lists l) (λ k ys. Contains ys x → ((k ≡ m) × Contains (lists l) x) ⊎ ((k ≢ l) × Contains (lists k) x))
         (λ among. inl (refl, among))
-        (λ k differ. put_each lists l [] (λ n ys. IsIn x ys → ((n ≡ m) × IsIn x (lists l)) ⊎ ((n ≢ l) × IsIn x (lists n))) (λ no. absurd no) (λ n not_l among. inr (not_l, among)) k) j
+        (λ k differ. put_each lists l [] (λ n ys. Contains ys x → ((n ≡ m) × Contains (lists l) x) ⊎ ((n ≢ l) × Contains (lists n) x)) (λ no. absurd (nothing_in _ no)) (λ n not_l among. inr (not_l, among)) k) j

@@ -3,6 +3,7 @@ use Rattle.std.proofs.Common.{◌≡◌, refl, sym, ◌∙◌, ap, subst, ℕ, �
 use Rattle.std.specs.Prelude.{slice_set, Contains, replicate}
 use Rattle.std.proofs.lemmas.Bool.{cases_eq, cases_lt}
 use Rattle.std.proofs.lemmas.List.{length-set, length_push, length-map, length-append, get_or_append_left, get_or-append-add, get_or-set_same, get_or-set_other, length-replicate, set_past}
+use Rattle.gp_base.specs.ListLaws.{nothing_in}
 use Rattle.gp_clause.specs.declared.lit.Lit.{Lit}
 use Rattle.gp_sat.specs.declared.assigned.Assigned.{Assigned}
 use Rattle.gp_sat.specs.Stored.{Stored}
@@ -10,7 +11,7 @@ use Rattle.gp_sat.specs.declared.watches.Slot.{Slot}
 use Rattle.gp_sat.specs.State.{SolverForm, assigned, clause_at, IsAttached, no_clause, kept_to, with_clause, without_clause, with_literal, cleared, blank, grown}
 use Rattle.gp_sat.specs.Sound.{IsSound, true_lit}
 use Rattle.gp_sat.specs.Changes.{Backjumps, IsUpTo, IsAbove}
-use Rattle.gp_sat.specs.Links.{IsIn, AreLinked}
+use Rattle.gp_sat.specs.Links.{AreLinked}
 use Rattle.gp_sat.specs.WatchesForm.{WatchesForm}
 use Rattle.gp_sat.specs.Watching.{IsHeld, IsLong, Watches, AreWatched, code, link_at, next_at, watch_at, no_slot}
 use Rattle.gp_sat.specs.Linked.{IsMember, IsOf, IsLinked, IsBlank}
@@ -37,10 +38,10 @@ idle_reset s w sound none heads slots linked cursor = record {
     links = record {
       chains = λ l. none l;
       once = λ l. tt;
-      apart = λ l m x one two. absurd one;
+      apart = λ l m x one two. absurd (nothing_in _ one);
     };
     listed = λ number x y held long partners. absurd (omega (arith, held.1, linked));
-    members = λ l x among. absurd among;
+    members = λ l x among. absurd (nothing_in _ among);
   };
   watched = record {
     long = λ number x y held long partners. absurd (omega (arith, held.1, linked));
@@ -146,7 +147,7 @@ idle_clauses s w clauses slots sound size more same clause attached idle = recor
     listed = λ number x y held long partners.
         elim (idle.linked.listed number x y (before number held) (long_before number (omega (arith, held.1, idle.linked.within)) long) partners) [
           | inl work ↦ inl work
-          | inr there ↦ inr (subst (λ (l : Lit). IsIn x (idle.lists (code l))) (sym (watch x)) there)
+          | inr there ↦ inr (subst (λ (l : Lit). Contains (idle.lists (code l)) x) (sym (watch x)) there)
         ];
     members = λ l x among.
         let was : IsMember s.clauses w.linked x × IsOf l (watch_at w.slots x) idle.fallen = idle.linked.members l x among in (
@@ -283,7 +284,7 @@ ready_blank variables w few is = record {
       (omega (arith, ap (λ (xs : List ℕ). length xs) is.heads, length-replicate {A = ℕ} (2 * variables + 2) 0, size)) (ap (λ (xs : List Slot). length xs) is.slots) is.linked is.cursor;
   short = record {
     all = λ number attached. absurd (omega (arith, attached_within [] number attached));
-    real = λ number among. absurd (none_among number (subst (λ (xs : List ℕ). Contains xs number) is.shorts among));
+    real = λ number among. absurd (nothing_in number (subst (λ (xs : List ℕ). Contains xs number) is.shorts among));
     settled = λ k below. absurd (omega (arith, below, is.looked));
     within = omega (arith, is.looked);
   };
@@ -294,9 +295,6 @@ ready_blank variables w few is = record {
 
     no_lit : (number : ℕ) (lit : Lit) → Contains (clause_at [] number) lit → ⊥
     no_lit number lit (k, below, is) = omega (arith, below)
-
-    none_among : (number : ℕ) → Contains {X = ℕ} [] number → ⊥
-    none_among number (k, below, is) = omega (arith, below)
 
 -- more lists that are empty change no link
 link_more : (heads : List ℕ) (count k : ℕ) → link_at (heads ++ replicate {A = ℕ} count 0) k ≡ link_at heads k

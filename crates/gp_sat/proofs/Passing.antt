@@ -4,7 +4,7 @@ use Rattle.std.specs.Prelude.{Contains, IsPermutation}
 use Rattle.std.proofs.lemmas.List.{length-map, get_or-map}
 use Rattle.std.proofs.lemmas.List.Sorted.{Contains-permutation, IsPermutation-sym}
 use Rattle.gp_clause.specs.declared.lit.Lit.{Lit}
-use Rattle.gp_clause.specs.Lit.{opposite}
+use Rattle.gp_clause.specs.Lit.{opposite, negations}
 use Rattle.gp_clause.specs.Closure.{Derived}
 use Rattle.gp_clause.specs.Closure.Derived.{given, forced}
 use Rattle.gp_sat.specs.declared.analysis.Stop.{Stop}
@@ -38,10 +38,10 @@ opposite_twice lit = λ i. record { variable = lit.variable; positive = not_not 
 -- each marked literal of the trail is derived
 derives : (s : SolverForm) (stop : Stop) (conflict clause : List Lit) (marks : List Bool) (lits : List Lit) (hints : List ℕ) → IsSound s → IsWalked s stop 0 marks lits hints
     → ((x : Lit) → Contains lits x → Contains clause x)
-    → (bound v : ℕ) (a : Assigned) → a.place < bound → assigned s v ≡ Some a → IsMarked marks v → Derived (map opposite clause) (conflict ∷ hinted s hints) (true_lit v a)
+    → (bound v : ℕ) (a : Assigned) → a.place < bound → assigned s v ≡ Some a → IsMarked marks v → Derived (negations clause) (conflict ∷ hinted s hints) (true_lit v a)
 derives s stop conflict clause marks lits hints sound walked among zero v a below is marked = absurd (omega (arith, below))
 derives s stop conflict clause marks lits hints sound walked among (suc bound) v a below is marked = elim (walked.handled v a is marked (omega arith)) [
-  | inl kept ↦ given (true_lit v a) (subst (λ (l : Lit). Contains (map opposite clause) l) (opposite_twice (true_lit v a))
+  | inl kept ↦ given (true_lit v a) (subst (λ (l : Lit). Contains (negations clause) l) (opposite_twice (true_lit v a))
       (contains_map opposite clause (opposite (true_lit v a)) (among (opposite (true_lit v a)) kept)))
   | inr followed ↦
       let forcing : IsForcing (assigned s) (clause_at s.clauses followed.number) (true_lit v a) a.place = (sound.explained.forced v a followed.number is followed.reason).1 in
@@ -50,7 +50,7 @@ derives s stop conflict clause marks lits hints sound walked among (suc bound) v
       forcing.within
       (λ other within apart.
       let fell : IsFalseBefore a.place (assigned s) other = forcing.others other within apart in
-      subst (λ (l : Lit). Derived (map opposite clause) (conflict ∷ hinted s hints) l) (λ i. record { variable = other.variable; positive = fell.2 i })
+      subst (λ (l : Lit). Derived (negations clause) (conflict ∷ hinted s hints) l) (λ i. record { variable = other.variable; positive = fell.2 i })
       (derives s stop conflict clause marks lits hints sound walked among bound other.variable fell.0 (omega (arith, fell.3, below)) fell.1 (followed.marked other within)))
 ]
 
@@ -63,7 +63,7 @@ learned s stop conflict clause marks lits hints sound walked all_false started s
     contains_first conflict (hinted s hints),
     λ lit is.
         let fell : IsFalse (assigned s) lit = all_false lit is in
-        subst (λ (l : Lit). Derived (map opposite clause) (conflict ∷ hinted s hints) l) (λ i. record { variable = lit.variable; positive = fell.2 i })
+        subst (λ (l : Lit). Derived (negations clause) (conflict ∷ hinted s hints) l) (λ i. record { variable = lit.variable; positive = fell.2 i })
         (derives s stop conflict clause marks lits hints sound walked (λ x within. Contains-permutation lits clause x sorted within) (fell.0.place + 1) lit.variable fell.0 (omega arith) fell.1 (started lit is)),
   );
   reasons = walked.reasons;

@@ -1,5 +1,5 @@
 -- Marks, and the queue of the places that a walk has still to visit.
-use Rattle.std.proofs.Common.{◌≡◌, ◌≢◌, refl, sym, ◌∙◌, ap, subst, ℕ, ◌+◌, ◌<◌, ◌≤◌, ◌==◌, Bool, true, false, cond, zero, suc, Some, List, [], ◌∷◌, ◌++◌, length, get_or, ◌⊎◌, inl, inr, arith}
+use Rattle.std.proofs.Common.{count_by, ◌≡◌, ◌≢◌, refl, sym, ◌∙◌, ap, subst, ℕ, ◌+◌, ◌<◌, ◌≤◌, ◌==◌, Bool, true, false, cond, Some, List, [], ◌∷◌, ◌++◌, length, get_or, ◌⊎◌, inl, inr, arith}
 use Rattle.std.specs.Prelude.{slice_set, Contains, All, IsPermutation}
 use Rattle.std.specs.BinaryHeap.{IsHeap, PopsGreatest, KeepsHeap}
 use Rattle.std.specs.Ordering.{nat_cmp}
@@ -13,7 +13,7 @@ use Rattle.gp_sat.specs.declared.assigned.Assigned.{Assigned}
 use Rattle.gp_sat.specs.State.{SolverForm, assigned}
 use Rattle.gp_sat.specs.Sound.{IsSound}
 use Rattle.gp_sat.specs.Marking.{IsMarked, Marks}
-use Rattle.gp_sat.specs.Queueing.{AreListed, AreQueued, IsAdded, IsMarkedAt, times}
+use Rattle.gp_sat.specs.Queueing.{AreListed, AreQueued, IsAdded, IsMarkedAt}
 use Rattle.gp_sat.proofs.Marked.{one_at, none_in_nil, marks_more}
 
 -- one, where a number is a place
@@ -27,7 +27,7 @@ place_other : (place p : ℕ) → p ≢ place → one_at_place place p ≡ 0
 place_other place p differ = ap (λ (b : Bool). cond b 1 0) (ne_eqb p place differ)
 
 -- what holds of each place holds of one that stands in a queue
-all_times : (P : ℕ → Type 0) (places : List ℕ) (place : ℕ) → All P places → 0 < times place places → P place
+all_times : (P : ℕ → Type 0) (places : List ℕ) (place : ℕ) → All P places → 0 < count_by (λ q. q == place) places → P place
 all_times P [] place all some = absurd (omega (arith, some))
 all_times P (p ∷ places) place all some = elim (cases_eq p place) [
   | inl same ↦ subst P same (All-head P p places all)
@@ -66,8 +66,8 @@ listed_only marks marked v within old = record {
 }
 
 -- nothing is queued
-pub times_none : (place : ℕ) (places : List ℕ) → places ≡ [] → times place places ≡ 0
-times_none place places none = ap (times place) none
+pub times_none : (place : ℕ) (places : List ℕ) → places ≡ [] → count_by (λ q. q == place) places ≡ 0
+times_none place places none = ap (count_by (λ q. q == place)) none
 
 pub queued_none : (s : SolverForm) (bound : ℕ) (marks : List Bool) (places : List ℕ) → places ≡ [] → IsHeap nat_cmp places → ((variable : ℕ) → IsMarked marks variable → ⊥) → AreQueued s bound marks places
 queued_none s bound marks places empty heap none = record {
@@ -83,7 +83,7 @@ pub queued_more : (s : SolverForm) (bound : ℕ) (marks : List Bool) (places aft
 queued_more s bound marks places after v a sound within is below unmarked moves keeps old = record {
   ordered = keeps old.ordered;
   once = λ p. elim (cases_eq a.place p) [
-    | inl same ↦ elim (cases_lt 0 (times p places)) [
+    | inl same ↦ elim (cases_lt 0 (count_by (λ q. q == p) places)) [
       | inl some ↦ absurd (was_not p same some)
       | inr none ↦ omega (arith, none, count p, place_same p a.place same)
     ]
@@ -104,10 +104,10 @@ queued_more s bound marks places after v a sound within is below unmarked moves 
   ];
 }
   where
-    count : (p : ℕ) → times p after ≡ one_at_place p a.place + times p places
+    count : (p : ℕ) → count_by (λ q. q == p) after ≡ one_at_place p a.place + count_by (λ q. q == p) places
     count p = sum_by_pushed (one_at_place p) a.place places after moves
 
-    was_not : (p : ℕ) → a.place ≡ p → 0 < times p places → ⊥
+    was_not : (p : ℕ) → a.place ≡ p → 0 < count_by (λ q. q == p) places → ⊥
     was_not p same some =
         let there : (p < bound) × IsMarkedAt s marks p = old.before p some in
         unmarked (subst (λ (n : ℕ). IsMarked marks n) (one_at s sound v there.1.0 a there.1.1 is there.1.2 (there.1.3 ∙ sym same)).1 there.1.4)
@@ -187,16 +187,16 @@ queued_taken s bound marks places rest place moves pops old = record {
   greatest = λ v a is marked below. let most : a.place ≤ place = at_most a.place (old.all v a is marked below) in omega (arith, most);
 }
   where
-    count : (p : ℕ) → times p rest + one_at_place p place ≡ times p places
+    count : (p : ℕ) → count_by (λ q. q == p) rest + one_at_place p place ≡ count_by (λ q. q == p) places
     count p = sum_by_popped (one_at_place p) place places rest moves
 
     here : (place < bound) × IsMarkedAt s marks place
     here = old.before place (omega (arith, count place, place_same place place refl))
 
-    at_most : (p : ℕ) → 0 < times p places → p ≤ place
+    at_most : (p : ℕ) → 0 < count_by (λ q. q == p) places → p ≤ place
     at_most p some = all_times (λ y. y ≤ place) places p (le_from_greatest place places (pops old.ordered).1) some
 
-    low : (p : ℕ) → 0 < times p rest → p < place
+    low : (p : ℕ) → 0 < count_by (λ q. q == p) rest → p < place
     low p some = elim (cases_eq p place) [
       | inl same ↦ absurd (omega (arith, old.once p, count p, place_same p place (sym same), some))
       | inr differ ↦ omega (arith, differ, at_most p (omega (arith, some, count p)))
@@ -211,16 +211,6 @@ pub nil_of : (xs : List ℕ) → length xs ≡ 0 → xs ≡ []
 nil_of [] none = refl
 nil_of (x ∷ xs) none = absurd (omega (arith, none))
 
--- nothing is marked, so the list of the marked is right as it is
-pub listed_none : (marks : List Bool) (marked : List ℕ) → ((variable : ℕ) → IsMarked marks variable → ⊥) → marked ≡ [] → AreListed marks marked
-listed_none marks marked none empty = record {
-  all = λ v is. absurd (none v is);
-  within = λ v is. absurd (no_number v (subst (λ (vs : List ℕ). Contains vs v) empty is));
-}
-  where
-    no_number : (v : ℕ) → Contains {X = ℕ} [] v → ⊥
-    no_number v (k, below, is) = omega (arith, below)
-
 -- the mark of one variable is taken back
 pub unmarked_one : (marks : List Bool) (v : ℕ) → IsMarked (slice_set marks v false) v → ⊥
 unmarked_one marks v is = elim (cases_lt v (length marks)) [
@@ -234,13 +224,6 @@ unmarked_kept marks v w is = elim (cases_eq w v) [
   | inl same ↦ absurd (unmarked_one marks v (subst (λ (n : ℕ). IsMarked (slice_set marks v false) n) same is))
   | inr differ ↦ sym (get_or-set_other marks v w false false differ) ∙ is
 ]
-
--- one variable more is not marked
-pub pushed_unmarked : (marks : List Bool) (v : ℕ) → IsMarked (marks ++ false ∷ []) v → IsMarked marks v
-pushed_unmarked [] zero is = is
-pushed_unmarked [] (suc v) is = is
-pushed_unmarked (x ∷ marks) zero is = is
-pushed_unmarked (x ∷ marks) (suc v) is = pushed_unmarked marks v is
 
 -- the marks of all listed variables were taken back
 pub all_unmarked : (old new : List Bool) (marked : List ℕ) → AreListed old marked → ((k : ℕ) → k < length marked → IsMarked new (get_or marked k 0) → ⊥) → ((v : ℕ) → IsMarked new v → IsMarked old v) → (v : ℕ) → IsMarked new v → ⊥

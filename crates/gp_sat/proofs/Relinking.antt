@@ -3,11 +3,12 @@ use Rattle.std.proofs.Common.{◌≡◌, ◌≢◌, refl, sym, ◌∙◌, ap, su
 use Rattle.std.specs.Prelude.{slice_set, Contains}
 use Rattle.std.proofs.lemmas.Bool.{cases_eq}
 use Rattle.std.proofs.lemmas.List.{length-set, get_or-set_same, get_or-set_other}
+use Rattle.gp_base.specs.ListLaws.{first_or_rest, here, nothing_in, there}
 use Rattle.gp_clause.specs.declared.lit.Lit.{Lit}
 use Rattle.gp_sat.specs.Stored.{Stored}
 use Rattle.gp_sat.specs.declared.watches.Slot.{Slot}
 use Rattle.gp_sat.specs.State.{SolverForm, assigned, clause_at, IsAttached}
-use Rattle.gp_sat.specs.Links.{IsIn, IsChain, put, AreLinked}
+use Rattle.gp_sat.specs.Links.{IsChain, put, AreLinked}
 use Rattle.gp_sat.specs.WatchesForm.{WatchesForm}
 use Rattle.gp_sat.specs.Watching.{ArePartners, IsSafe, IsHeld, Watches, AreWatched, code, sign_of, link_at, next_at, watch_at, no_slot}
 use Rattle.gp_sat.specs.Linked.{IsMember, IsOf, IsLinked}
@@ -91,14 +92,14 @@ dropped clauses variables w fallen lists x xs off is old = record {
       let apart : z ≢ x = λ e. off number y (subst (λ (n : ℕ). ArePartners number n y) e partners) held.0 in
       elim (old.listed number z y held long partners) [
         | inl work ↦ inl (rest z apart work)
-        | inr there ↦ inr (subst (λ (ys : List ℕ). IsIn z ys) (sym (put_other lists 0 xs (code (watch_at w.slots z)) (code_not_work (watch_at w.slots z)))) there)
+        | inr there ↦ inr (subst (λ (ys : List ℕ). Contains ys z) (sym (put_other lists 0 xs (code (watch_at w.slots z)) (code_not_work (watch_at w.slots z)))) there)
       ];
   members = λ l z among. old.members l z (in_before lists 0 x xs is l z among);
 }
   where
-    rest : (z : ℕ) → z ≢ x → IsIn z (lists 0) → IsIn z (put lists 0 xs 0)
-    rest z apart among = subst (λ (ys : List ℕ). IsIn z ys) (sym (put_here lists 0 xs 0 refl)) (elim (let at : IsIn z (x ∷ xs) = subst (λ (ys : List ℕ). IsIn z ys) is among in at) [
-      | inl first ↦ absurd (apart first)
+    rest : (z : ℕ) → z ≢ x → Contains (lists 0) z → Contains (put lists 0 xs 0) z
+    rest z apart among = subst (λ (ys : List ℕ). Contains ys z) (sym (put_here lists 0 xs 0 refl)) (elim (first_or_rest _ _ _ (let at : Contains (x ∷ xs) z = subst (λ (ys : List ℕ). Contains ys z) is among in at)) [
+      | inl first ↦ absurd (apart (sym first))
       | inr later ↦ later
     ])
 
@@ -119,27 +120,27 @@ relinked clauses variables w fallen lists x xs lit named is old = record {
       (popped_loose (link_at w.heads) (next_at w.slots) lists 0 x xs old.links is)
       (get_or-set_same (taken w x).heads (code lit) (x + 1) 0 (omega (arith, code_below lit variables named, length-set w.heads 0 (next_at w.slots x), old.heads_size)))
       (λ k differ. get_or-set_other (taken w x).heads (code lit) k (x + 1) 0 differ)
-      (ap (λ (s : Slot). s.next) here)
+      (ap (λ (s : Slot). s.next) at_x)
       (λ y differ. ap (λ (s : Slot). s.next) (other y differ));
   listed = λ number z y held long partners. elim (cases_eq z x) [
     | inl same ↦
-        let there : watch_at (slice_set w.slots x front) z ≡ lit = ap (λ (n : ℕ). watch_at (slice_set w.slots x front) n) same ∙ ap (λ (s : Slot). s.lit) here in
-        inr (subst (λ (l : Lit). IsIn z (relisted lists x xs lit (code l))) (sym there)
-        (subst (λ (ys : List ℕ). IsIn z ys) (sym (put_here (put lists 0 xs) (code lit) (x ∷ put lists 0 xs (code lit)) (code lit) refl)) (inl same)))
+        let there : watch_at (slice_set w.slots x front) z ≡ lit = ap (λ (n : ℕ). watch_at (slice_set w.slots x front) n) same ∙ ap (λ (s : Slot). s.lit) at_x in
+        inr (subst (λ (l : Lit). Contains (relisted lists x xs lit (code l)) z) (sym there)
+        (subst (λ (ys : List ℕ). Contains ys z) (sym (put_here (put lists 0 xs) (code lit) (x ∷ put lists 0 xs (code lit)) (code lit) refl)) (0, omega arith, sym same)))
     | inr differ ↦ elim (old.listed number z y held long partners) [
       | inl work ↦ inl (stays 0 z (rest z differ work))
-      | inr there ↦ inr (subst (λ (l : Lit). IsIn z (relisted lists x xs lit (code l))) (sym (ap (λ (s : Slot). s.lit) (other z differ)))
+      | inr there ↦ inr (subst (λ (l : Lit). Contains (relisted lists x xs lit (code l)) z) (sym (ap (λ (s : Slot). s.lit) (other z differ)))
           (stays (code (watch_at w.slots z)) z
-          (subst (λ (ys : List ℕ). IsIn z ys) (sym (put_other lists 0 xs (code (watch_at w.slots z)) (code_not_work (watch_at w.slots z)))) there)))
+          (subst (λ (ys : List ℕ). Contains ys z) (sym (put_other lists 0 xs (code (watch_at w.slots z)) (code_not_work (watch_at w.slots z)))) there)))
     ]
   ];
   members = λ l z among. elim (pushed_cases (put lists 0 xs) (code lit) x l z among) [
     | inl new ↦ (
       subst (λ (n : ℕ). IsMember clauses w.linked n) (sym new.1) member.0,
-      inr (ap code (ap (λ (n : ℕ). watch_at (slice_set w.slots x front) n) new.1 ∙ ap (λ (s : Slot). s.lit) here) ∙ sym new.0),
+      inr (ap code (ap (λ (n : ℕ). watch_at (slice_set w.slots x front) n) new.1 ∙ ap (λ (s : Slot). s.lit) at_x) ∙ sym new.0),
     )
     | inr was ↦
-        let differ : z ≢ x = λ e. popped_loose (link_at w.heads) (next_at w.slots) lists 0 x xs old.links is l (subst (λ (n : ℕ). IsIn n (put lists 0 xs l)) e was) in
+        let differ : z ≢ x = λ e. popped_loose (link_at w.heads) (next_at w.slots) lists 0 x xs old.links is l (subst (λ (n : ℕ). Contains (put lists 0 xs l) n) e was) in
         let before : IsMember clauses w.linked z × IsOf l (watch_at w.slots z) fallen = old.members l z (in_before lists 0 x xs is l z was) in
         (before.0, subst (λ (k : Lit). IsOf l k fallen) (sym (ap (λ (s : Slot). s.lit) (other z differ))) before.1)
   ];
@@ -149,28 +150,28 @@ relinked clauses variables w fallen lists x xs lit named is old = record {
     front = record { lit = lit; next = link_at (taken w x).heads (code lit) }
 
     member : IsMember clauses w.linked x × IsOf 0 (watch_at w.slots x) fallen
-    member = old.members 0 x (subst (λ (ys : List ℕ). IsIn x ys) (sym is) (inl refl))
+    member = old.members 0 x (subst (λ (ys : List ℕ). Contains ys x) (sym is) (here _ _))
 
     within : x < length w.slots
     within = omega (arith, old.slots_size, old.within, partner_within member.0.number x member.0.other w.linked member.0.partners member.0.before)
 
-    here : get_or (slice_set w.slots x front) x no_slot ≡ front
-    here = get_or-set_same w.slots x front no_slot within
+    at_x : get_or (slice_set w.slots x front) x no_slot ≡ front
+    at_x = get_or-set_same w.slots x front no_slot within
 
     other : (y : ℕ) → y ≢ x → get_or (slice_set w.slots x front) y no_slot ≡ get_or w.slots y no_slot
     other y differ = get_or-set_other w.slots x y front no_slot differ
 
-    rest : (z : ℕ) → z ≢ x → IsIn z (lists 0) → IsIn z (put lists 0 xs 0)
-    rest z apart among = subst (λ (ys : List ℕ). IsIn z ys) (sym (put_here lists 0 xs 0 refl)) (elim (let at : IsIn z (x ∷ xs) = subst (λ (ys : List ℕ). IsIn z ys) is among in at) [
-      | inl first ↦ absurd (apart first)
+    rest : (z : ℕ) → z ≢ x → Contains (lists 0) z → Contains (put lists 0 xs 0) z
+    rest z apart among = subst (λ (ys : List ℕ). Contains ys z) (sym (put_here lists 0 xs 0 refl)) (elim (first_or_rest _ _ _ (let at : Contains (x ∷ xs) z = subst (λ (ys : List ℕ). Contains ys z) is among in at)) [
+      | inl first ↦ absurd (apart (sym first))
       | inr later ↦ later
     ])
 
-    stays : (l z : ℕ) → IsIn z (put lists 0 xs l) → IsIn z (relisted lists x xs lit l)
+    stays : (l z : ℕ) → Contains (put lists 0 xs l) z → Contains (relisted lists x xs lit l) z
     stays l z among = elim (cases_eq l (code lit)) [
-      | inl same ↦ subst (λ (ys : List ℕ). IsIn z ys) (sym (put_here (put lists 0 xs) (code lit) (x ∷ put lists 0 xs (code lit)) l same))
-          (inr (subst (λ (n : ℕ). IsIn z (put lists 0 xs n)) same among))
-      | inr differ ↦ subst (λ (ys : List ℕ). IsIn z ys) (sym (put_other (put lists 0 xs) (code lit) (x ∷ put lists 0 xs (code lit)) l differ)) among
+      | inl same ↦ subst (λ (ys : List ℕ). Contains ys z) (sym (put_here (put lists 0 xs) (code lit) (x ∷ put lists 0 xs (code lit)) l same))
+          (there _ _ _ (subst (λ (n : ℕ). Contains (put lists 0 xs n) z) same among))
+      | inr differ ↦ subst (λ (ys : List ℕ). Contains ys z) (sym (put_other (put lists 0 xs) (code lit) (x ∷ put lists 0 xs (code lit)) l differ)) among
     ]
 
 -- the work list that is left
@@ -198,14 +199,14 @@ begins clauses variables w before fallen lists named empty old = record {
       (λ k not_l not_0. get_or-set_other (slice_set w.heads 0 (link_at w.heads (code fallen))) (code fallen) k 0 0 not_l
       ∙ get_or-set_other w.heads 0 k (link_at w.heads (code fallen)) 0 not_0);
   listed = λ number z y held long partners. elim (old.listed number z y held long partners) [
-    | inl work ↦ absurd (subst (λ (ys : List ℕ). IsIn z ys) empty work)
+    | inl work ↦ absurd (nothing_in _ (subst (λ (ys : List ℕ). Contains ys z) empty work))
     | inr there ↦ elim (cases_eq (code (watch_at w.slots z)) (code fallen)) [
-      | inl same ↦ inl (subst (λ (ys : List ℕ). IsIn z ys) (sym (put_here (put lists (code fallen) []) 0 (lists (code fallen)) 0 refl)) (subst (λ (n : ℕ). IsIn z (lists n)) same there))
-      | inr differ ↦ inr (subst (λ (ys : List ℕ). IsIn z ys)
+      | inl same ↦ inl (subst (λ (ys : List ℕ). Contains ys z) (sym (put_here (put lists (code fallen) []) 0 (lists (code fallen)) 0 refl)) (subst (λ (n : ℕ). Contains (lists n) z) same there))
+      | inr differ ↦ inr (subst (λ (ys : List ℕ). Contains ys z)
           (sym (put_other (put lists (code fallen) []) 0 (lists (code fallen)) (code (watch_at w.slots z)) (code_not_work (watch_at w.slots z)) ∙ put_other lists (code fallen) [] (code (watch_at w.slots z)) differ)) there)
     ]
   ];
-  members = λ l z. put_each (put lists (code fallen) []) 0 (lists (code fallen)) (λ k ys. IsIn z ys → IsMember clauses w.linked z × IsOf k (watch_at w.slots z) fallen)
+  members = λ l z. put_each (put lists (code fallen) []) 0 (lists (code fallen)) (λ k ys. Contains ys z → IsMember clauses w.linked z × IsOf k (watch_at w.slots z) fallen)
       (λ among.
       let was : IsMember clauses w.linked z × IsOf (code fallen) (watch_at w.slots z) before = old.members (code fallen) z among in (
         was.0,
@@ -214,7 +215,7 @@ begins clauses variables w before fallen lists named empty old = record {
           | inr there ↦ inl (refl, code_same (watch_at w.slots z) fallen there)
         ],
       ))
-      (λ k not_work. put_each lists (code fallen) [] (λ n ys. n ≢ 0 → IsIn z ys → IsMember clauses w.linked z × IsOf n (watch_at w.slots z) fallen) (λ _ no. absurd no)
+      (λ k not_work. put_each lists (code fallen) [] (λ n ys. n ≢ 0 → Contains ys z → IsMember clauses w.linked z × IsOf n (watch_at w.slots z) fallen) (λ _ no. absurd (nothing_in _ no))
       (λ n differ not_0 among. (
         (old.members n z among).0,
         elim (old.members n z among).1 [
@@ -223,10 +224,6 @@ begins clauses variables w before fallen lists named empty old = record {
         ],
       )) k not_work) l;
 }
-
--- what the work list is, once it has begun
-pub work_begun : (lists : ℕ → List ℕ) (lit : Lit) → begun_lists lists lit 0 ≡ lists (code lit)
-work_begun lists lit = put_here (put lists (code lit) []) 0 (lists (code lit)) 0 refl
 
 -- the literal that a slot watches is replaced
 pub rewatched : (s : SolverForm) (watch new : ℕ → Lit) (linked cursor : ℕ) (skipped left : ℕ → Type 0) (x : ℕ) (lit : Lit)

@@ -3,6 +3,7 @@ use Rattle.std.proofs.Common.{◌≡◌, ◌≢◌, refl, sym, ◌∙◌, ap, su
 use Rattle.std.specs.Prelude.{Contains}
 use Rattle.std.proofs.lemmas.Bool.{cases_eq}
 use Rattle.std.proofs.lemmas.List.{get_or-set_same, get_or-set_other, length-set, length_push}
+use Rattle.gp_base.specs.ListLaws.{first_or_rest, here}
 use Rattle.gp_clause.specs.declared.lit.Lit.{Lit}
 use Rattle.gp_sat.specs.declared.assigned.Assigned.{Assigned}
 use Rattle.gp_sat.specs.declared.watches.Slot.{Slot}
@@ -10,7 +11,7 @@ use Rattle.gp_sat.specs.State.{SolverForm, assigned, clause_at, IsAttached, with
 use Rattle.gp_sat.specs.Standing.{IsFalse, IsFalseBefore, EachOther, Each}
 use Rattle.gp_sat.specs.Sound.{IsSound, true_lit}
 use Rattle.gp_sat.specs.Looking.{IsTrueLit, IsUnit}
-use Rattle.gp_sat.specs.Links.{IsIn, IsChain, put}
+use Rattle.gp_sat.specs.Links.{IsChain, put}
 use Rattle.gp_sat.specs.WatchesForm.{WatchesForm}
 use Rattle.gp_sat.specs.Watching.{ArePartners, IsTrueTo, IsSafe, IsHeld, IsLong, Watches, AreWatched, code, link_at, next_at, watch_at, no_slot}
 use Rattle.gp_sat.specs.Linked.{IsMember, IsOf, IsLinked}
@@ -60,7 +61,7 @@ pub record IsFirst (s : SolverForm) (w : WatchesForm) (fallen : Lit) (lists : �
 pub first_slot : (s : SolverForm) (w : WatchesForm) (fallen : Lit) (lists : ℕ → List ℕ) (x : ℕ) → IsLinked s.clauses (length s.values) w fallen lists → link_at w.heads 0 ≡ x + 1 → IsFirst s w fallen lists x
 first_slot s w fallen lists x linked first =
     let list : (xs : List ℕ) × (lists 0 ≡ x ∷ xs) = chain_first (next_at w.slots) (link_at w.heads 0) x (lists 0) (linked.links.chains 0) first in
-    let among : IsMember s.clauses w.linked x × IsOf 0 (watch_at w.slots x) fallen = linked.members 0 x (subst (λ (ys : List ℕ). IsIn x ys) (sym list.1) (inl refl)) in
+    let among : IsMember s.clauses w.linked x × IsOf 0 (watch_at w.slots x) fallen = linked.members 0 x (subst (λ (ys : List ℕ). Contains ys x) (sym list.1) (here _ _)) in
     record {
       rest = list.0;
       is = list.1;
@@ -72,10 +73,10 @@ first_slot s w fallen lists x linked first =
     }
 
 -- what is left of the work list after its first slot
-left_after : (lists : ℕ → List ℕ) (x z : ℕ) (xs : List ℕ) (lit : Lit) → lists 0 ≡ x ∷ xs → z ≢ x → IsIn z (lists 0) → IsIn z (relisted lists x xs lit 0)
-left_after lists x z xs lit is apart among = subst (λ (ys : List ℕ). IsIn z ys) (sym (work_left lists x xs lit))
-    (elim (let at : IsIn z (x ∷ xs) = subst (λ (ys : List ℕ). IsIn z ys) is among in at) [
-      | inl first ↦ absurd (apart first)
+left_after : (lists : ℕ → List ℕ) (x z : ℕ) (xs : List ℕ) (lit : Lit) → lists 0 ≡ x ∷ xs → z ≢ x → Contains (lists 0) z → Contains (relisted lists x xs lit 0) z
+left_after lists x z xs lit is apart among = subst (λ (ys : List ℕ). Contains ys z) (sym (work_left lists x xs lit))
+    (elim (first_or_rest _ _ _ (let at : Contains (x ∷ xs) z = subst (λ (ys : List ℕ). Contains ys z) is among in at)) [
+      | inl first ↦ absurd (apart (sym first))
       | inr later ↦ later
     ])
 
@@ -99,7 +100,7 @@ steps_to s w fallen x number y lit walking first partners named good =
       sound = walking.sound;
       lists = relisted walking.lists x at.rest lit;
       linked = relinked s.clauses (length s.values) w fallen walking.lists x at.rest lit named at.is walking.linked;
-      watched = rewatched s (watch_at w.slots) (watch_at (at_front (taken w x) x lit).slots) w.linked w.cursor (λ z. IsIn z (walking.lists 0)) (λ z. IsIn z (relisted walking.lists x at.rest lit 0)) x lit
+      watched = rewatched s (watch_at w.slots) (watch_at (at_front (taken w x) x lit).slots) w.linked w.cursor (λ z. Contains (walking.lists 0) z) (λ z. Contains (relisted walking.lists x at.rest lit 0) z) x lit
           (watch_here w x lit (slot_within s w fallen walking.lists x walking.linked at.member)) (watch_other w x lit)
           (λ n z held pair.
           let same : (n ≡ number) × (z ≡ y) = same_partner n number x z y pair partners in
@@ -124,14 +125,14 @@ steps_off s w fallen x number y walking first partners off =
       linked = dropped s.clauses (length s.values) w fallen walking.lists x at.rest none at.is walking.linked;
       watched = record {
         long = λ n z v held long pair.
-            let was : Watches (assigned s) w.cursor (λ k. IsIn k (walking.lists 0)) (clause_at s.clauses n) (watch_at w.slots) z v = walking.watched.long n z v held long pair in
+            let was : Watches (assigned s) w.cursor (λ k. Contains (walking.lists 0) k) (clause_at s.clauses n) (watch_at w.slots) z v = walking.watched.long n z v held long pair in
             let apart : z ≢ x = λ e. none n v (subst (λ (k : ℕ). ArePartners n k v) e pair) held.0 in
             record {
               within = was.within;
               differs = was.differs;
               safe = elim was.safe [
-                | inl skip ↦ inl (subst (λ (ys : List ℕ). IsIn z ys) (sym (put_here walking.lists 0 at.rest 0 refl)) (elim (let among : IsIn z (x ∷ at.rest) = subst (λ (ys : List ℕ). IsIn z ys) at.is skip in among) [
-                  | inl here ↦ absurd (apart here)
+                | inl skip ↦ inl (subst (λ (ys : List ℕ). Contains ys z) (sym (put_here walking.lists 0 at.rest 0 refl)) (elim (first_or_rest _ _ _ (let among : Contains (x ∷ at.rest) z = subst (λ (ys : List ℕ). Contains ys z) at.is skip in among)) [
+                  | inl same ↦ absurd (apart (sym same))
                   | inr later ↦ later
                 ]))
                 | inr safe ↦ inr safe
@@ -200,8 +201,8 @@ pub pair_of : (s : SolverForm) (w : WatchesForm) (fallen : Lit) (x number y : �
 pair_of s w fallen x number y walking first partners held =
     let at : IsFirst s w fallen walking.lists x = first_slot s w fallen walking.lists x walking.linked first in
     let long : IsLong s.clauses number = subst (λ (m : ℕ). IsLong s.clauses m) (same_partner at.member.number number x at.member.other y at.member.partners partners).0 at.member.long in
-    let one : Watches (assigned s) w.cursor (λ z. IsIn z (walking.lists 0)) (clause_at s.clauses number) (watch_at w.slots) x y = walking.watched.long number x y held long partners in
-    let two : Watches (assigned s) w.cursor (λ z. IsIn z (walking.lists 0)) (clause_at s.clauses number) (watch_at w.slots) y x = walking.watched.long number y x held long (partner_back number x y partners) in
+    let one : Watches (assigned s) w.cursor (λ z. Contains (walking.lists 0) z) (clause_at s.clauses number) (watch_at w.slots) x y = walking.watched.long number x y held long partners in
+    let two : Watches (assigned s) w.cursor (λ z. Contains (walking.lists 0) z) (clause_at s.clauses number) (watch_at w.slots) y x = walking.watched.long number y x held long (partner_back number x y partners) in
     let apart : fallen ≢ watch_at w.slots y = λ e. one.differs (at.watch ∙ e) in
     record {
       one = subst (λ (l : Lit). Contains (clause_at s.clauses number) l) at.watch one.within;
@@ -251,8 +252,8 @@ walking_more s t w fallen lit reason is sound named free walking = record {
   lists = walking.lists;
   linked = subst (λ (u : SolverForm). IsLinked u.clauses (length u.values) w fallen walking.lists) (sym is)
       (subst (λ (n : ℕ). IsLinked s.clauses n w fallen walking.lists) (sym (length-set s.values lit.variable (Some (added s lit s.level reason)))) walking.linked);
-  watched = subst (λ (u : SolverForm). AreWatched u (watch_at w.slots) w.linked w.cursor (λ x. IsIn x (walking.lists 0))) (sym is)
-      (watched_more s lit s.level reason (watch_at w.slots) w.linked w.cursor (λ x. IsIn x (walking.lists 0)) named free (inl refl) walking.sound (length_push s.trail lit) walking.watched);
+  watched = subst (λ (u : SolverForm). AreWatched u (watch_at w.slots) w.linked w.cursor (λ x. Contains (walking.lists 0) x)) (sym is)
+      (watched_more s lit s.level reason (watch_at w.slots) w.linked w.cursor (λ x. Contains (walking.lists 0) x) named free (inl refl) walking.sound (length_push s.trail lit) walking.watched);
   fell = record {
     value = walking.fell.value;
     is = subst (λ (u : SolverForm). assigned u fallen.variable ≡ Some walking.fell.value) (sym is)
@@ -361,7 +362,7 @@ stops_at s w fallen x number y walking first partners attached fell others =
       listed = walking.linked.listed;
       members = walking.linked.members;
     } in
-    let watched : AreWatched s (watch_at w.slots) w.linked (w.cursor - 1) (λ z. ⊥) = stepped_back s (watch_at w.slots) w.linked w.cursor (w.cursor - 1) (λ z. IsIn z (walking.lists 0)) fallen walking.sound back walking.fell
+    let watched : AreWatched s (watch_at w.slots) w.linked (w.cursor - 1) (λ z. ⊥) = stepped_back s (watch_at w.slots) w.linked w.cursor (w.cursor - 1) (λ z. Contains (walking.lists 0) z) fallen walking.sound back walking.fell
     (λ z among. elim (walking.linked.members 0 z among).1 [
       | inl work ↦ work.1
       | inr there ↦ absurd (code_not_work (watch_at w.slots z) there)
@@ -380,7 +381,7 @@ first_within s w fallen lists linked = at (lists 0) refl
     at [] is = let none : link_at w.heads 0 ≡ 0 = subst (λ (ys : List ℕ). IsChain (next_at w.slots) (link_at w.heads 0) ys) is (linked.links.chains 0) in omega (arith, none)
     at (x ∷ xs) is =
         let first : link_at w.heads 0 ≡ x + 1 = (subst (λ (ys : List ℕ). IsChain (next_at w.slots) (link_at w.heads 0) ys) is (linked.links.chains 0)).0 in
-        let among : IsMember s.clauses w.linked x × IsOf 0 (watch_at w.slots x) fallen = linked.members 0 x (subst (λ (ys : List ℕ). IsIn x ys) (sym is) (inl refl)) in
+        let among : IsMember s.clauses w.linked x × IsOf 0 (watch_at w.slots x) fallen = linked.members 0 x (subst (λ (ys : List ℕ). Contains ys x) (sym is) (here _ _)) in
         omega (arith, first, slot_within s w fallen lists x linked among.0)
 
 -- the bounds of the slot at hand

@@ -14,7 +14,7 @@ use Rattle.gp_sat.specs.State.{SolverForm, assigned, clause_at}
 use Rattle.gp_sat.specs.Standing.{Each, IsForcing, IsFalseBefore}
 use Rattle.gp_sat.specs.Sound.{IsSound, true_lit}
 use Rattle.gp_sat.specs.Learning.{IsBelowLevel}
-use Rattle.gp_sat.specs.Marking.{IsMarked, IsPresentAt, HasMarked, StopsAt, GoesOn, Follows, Marks}
+use Rattle.gp_sat.specs.Marking.{IsMarked, IsPresentAt, HasMarked, StopsAt, GoesOn, FollowsReason, Marks}
 use Rattle.gp_sat.specs.Queueing.{IsAssigned, IsMarkedAt, IsMarkedOrBefore}
 use Rattle.gp_sat.specs.Walking.{IsFollowed, IsStopped, IsPointing, IsWalked}
 use Rattle.gp_sat.proofs.Marked.{one_at}
@@ -322,7 +322,7 @@ pub record IsFollowing (s : SolverForm) (stop : Stop) (marks : List Bool) (place
   pub assigned_all : Each (IsAssigned s) (clause_at s.clauses number)
   pub before : Each (IsMarkedOrBefore s place marks) (clause_at s.clauses number)
 
-pub following : (s : SolverForm) (stop : Stop) (marks : List Bool) (place number : ℕ) → IsSound s → IsMarkedAt s marks place → Follows s stop marks place number → IsFollowing s stop marks place number
+pub following : (s : SolverForm) (stop : Stop) (marks : List Bool) (place number : ℕ) → IsSound s → IsMarkedAt s marks place → FollowsReason s stop marks place number → IsFollowing s stop marks place number
 following s stop marks place number sound (v, a, is, there, marked) follows =
     let reason : a.reason ≡ Some number = (follows v a is there).0 in
     record {

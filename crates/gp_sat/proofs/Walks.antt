@@ -1,5 +1,5 @@
 -- A walk from its begin to its end.
-use Rattle.std.proofs.Common.{◌≡◌, refl, sym, ◌∙◌, ap, subst, ℕ, ◌+◌, ◌<◌, Bool, true, false, not, Some, List, [], length, get_or, inl, inr, arith}
+use Rattle.std.proofs.Common.{◌≡◌, refl, sym, ◌∙◌, ap, subst, ℕ, ◌+◌, ◌<◌, Bool, true, false, not, Some, List, [], length, get_or, inl, inr, arith, Contains}
 use Rattle.std.proofs.lemmas.Bool.{cases_eq}
 use Rattle.gp_clause.specs.declared.lit.Lit.{Lit}
 use Rattle.gp_clause.specs.Lit.{opposite}
@@ -8,7 +8,7 @@ use Rattle.gp_sat.specs.State.{SolverForm, assigned, clause_at}
 use Rattle.gp_sat.specs.Sound.{IsSound, true_lit}
 use Rattle.gp_sat.specs.Standing.{IsFalseBefore}
 use Rattle.gp_sat.specs.Changes.{Propagates}
-use Rattle.gp_sat.specs.Links.{IsIn, put}
+use Rattle.gp_sat.specs.Links.{put}
 use Rattle.gp_sat.specs.WatchesForm.{WatchesForm}
 use Rattle.gp_sat.specs.Watching.{Watches, AreWatched, code, link_at, next_at, watch_at, no_slot}
 use Rattle.gp_sat.specs.Linked.{IsLinked}
@@ -16,6 +16,7 @@ use Rattle.gp_sat.specs.Stepping.{HasFallen, IsWalking, IsReturning, IsIdle, OnW
 use Rattle.gp_sat.proofs.Linking.{put_here, put_other}
 use Rattle.gp_sat.proofs.Relinking.{chain_none, begun, begun_lists, begins, code_not_work, code_below}
 use Rattle.std.proofs.lemmas.List.{get_or_default}
+use Rattle.gp_base.specs.ListLaws.{nothing_in}
 use Rattle.gp_sat.proofs.Steps.{propagates_none, propagates_more}
 use Rattle.gp_sat.specs.SolverLaws.{within_values, trail_counts}
 
@@ -78,7 +79,7 @@ walk_begins s w lit idle within is =
     }
   where
     -- the literal that fell at the cursor is watched by no slot but those of the work list
-    not_there : (z : ℕ) (before : IsFalseBefore (w.cursor + 1) (assigned s) (watch_at w.slots z)) → before.0.place ≡ w.cursor → IsIn z (begun_lists idle.lists (opposite lit) (code (watch_at w.slots z))) → ⊥
+    not_there : (z : ℕ) (before : IsFalseBefore (w.cursor + 1) (assigned s) (watch_at w.slots z)) → before.0.place ≡ w.cursor → Contains (begun_lists idle.lists (opposite lit) (code (watch_at w.slots z))) z → ⊥
     not_there z before here there =
         let on : get_or s.trail before.0.place lit ≡ true_lit (watch_at w.slots z).variable before.0 = idle.sound.ordered.on_trail (watch_at w.slots z).variable before.0 lit before.1 in
         let mine : lit ≡ true_lit (watch_at w.slots z).variable before.0 = sym is ∙ ap (λ (p : ℕ). get_or s.trail p lit) (sym here) ∙ on in
@@ -86,7 +87,7 @@ walk_begins s w lit idle within is =
         let same : watch_at w.slots z ≡ opposite lit = lit_is (watch_at w.slots z) (opposite lit) (ap (λ (l : Lit). l.variable) (sym mine)) (sym (ap not sign ∙ not_not (watch_at w.slots z).positive)) in
         let none : begun_lists idle.lists (opposite lit) (code (opposite lit)) ≡ [] = put_other (put idle.lists (code (opposite lit)) []) 0 (idle.lists (code (opposite lit))) (code (opposite lit)) (code_not_work (opposite lit))
         ∙ put_here idle.lists (code (opposite lit)) [] (code (opposite lit)) refl in
-        subst (λ (ys : List ℕ). IsIn z ys) none (subst (λ (l : Lit). IsIn z (begun_lists idle.lists (opposite lit) (code l))) same there)
+        nothing_in _ (subst (λ (ys : List ℕ). Contains ys z) none (subst (λ (l : Lit). Contains (begun_lists idle.lists (opposite lit) (code l)) z) same there))
 
 -- a walk ends with an empty work list
 pub walk_ends : (s : SolverForm) (w : WatchesForm) (fallen : Lit) → link_at w.heads 0 ≡ 0 → IsWalking s w fallen → IsIdle s w
@@ -98,7 +99,21 @@ walk_ends s w fallen none walking =
       fallen = fallen;
       empty = empty;
       linked = walking.linked;
-      watched = subst (λ (ys : List ℕ). AreWatched s (watch_at w.slots) w.linked w.cursor (λ x. IsIn x ys)) empty walking.watched;
+      watched = record {
+        long = λ number x y held long partners.
+            let one = walking.watched.long number x y held long partners in
+            record {
+              within = one.within;
+              differs = one.differs;
+              safe = elim one.safe [
+                | inl skip ↦ absurd (nothing_in _ (subst (λ (ys : List ℕ). Contains ys x) empty skip))
+                | inr safe ↦ inr safe
+              ];
+            };
+        fresh = walking.watched.fresh;
+        cursor_in = walking.watched.cursor_in;
+        linked_in = walking.watched.linked_in;
+      };
     }
 
 pub return_ends : (s : SolverForm) (w : WatchesForm) (fallen : Lit) → link_at w.heads 0 ≡ 0 → IsReturning s w fallen → IsIdle s w

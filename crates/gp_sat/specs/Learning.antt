@@ -1,7 +1,7 @@
 -- What the analysis of a conflict learns.
 use Rattle.std.specs.Prelude.{◌≡◌, ℕ, ◌+◌, ◌<◌, ◌≤◌, ◌⊎◌, Some, None, List, [], ◌∷◌, map, Contains}
 use Rattle.gp_clause.specs.declared.lit.Lit.{Lit}
-use Rattle.gp_clause.specs.Lit.{opposite}
+use Rattle.gp_clause.specs.Lit.{negations}
 use Rattle.gp_clause.specs.Closure.{Conflicts}
 use Rattle.gp_sat.specs.declared.assigned.Assigned.{Assigned}
 use Rattle.gp_sat.specs.declared.analysis.Learned.{Learned}
@@ -19,7 +19,7 @@ IsReason s number = (variable : ℕ) × (a : Assigned) × (assigned s variable �
 
 -- a clause follows from a conflict: unit clauses among the hints and the conflict derive a false clause from its negation
 pub record IsLearned (s : SolverForm) (conflict : List Lit) (clause : List Lit) (hints : List ℕ) : Type 0 where
-  pub passes : Conflicts (map opposite clause) (conflict ∷ hinted s hints)
+  pub passes : Conflicts (negations clause) (conflict ∷ hinted s hints)
   pub reasons : (number : ℕ) → Contains hints number → IsReason s number
   pub all_false : Each (IsFalse (assigned s)) clause
 

@@ -1,8 +1,8 @@
 -- How the lists of slots stand to the literals that they watch.
-use Rattle.std.specs.Prelude.{◌≡◌, ℕ, ◌+◌, ◌*◌, ◌<◌, ◌≤◌, ◌⊎◌, List, [], length, slice_set, replicate}
+use Rattle.std.specs.Prelude.{◌≡◌, ℕ, ◌+◌, ◌*◌, ◌<◌, ◌≤◌, ◌⊎◌, List, [], length, slice_set, replicate, Contains}
 use Rattle.gp_clause.specs.declared.lit.Lit.{Lit}
 use Rattle.gp_sat.specs.Stored.{Stored}
-use Rattle.gp_sat.specs.Links.{IsIn, AreLinked}
+use Rattle.gp_sat.specs.Links.{AreLinked}
 use Rattle.gp_sat.specs.WatchesForm.{WatchesForm}
 use Rattle.gp_sat.specs.Watching.{ArePartners, IsHeld, IsLong, code, link_at, next_at, watch_at}
 
@@ -33,8 +33,8 @@ pub record IsLinked (clauses : List Stored) (variables : ℕ) (w : WatchesForm) 
   pub slots_size : length w.slots ≡ 2 * length clauses
   pub within : w.linked ≤ length clauses
   pub links : AreLinked (link_at w.heads) (next_at w.slots) lists
-  pub listed : (number x y : ℕ) → IsHeld clauses w.linked number → IsLong clauses number → ArePartners number x y → IsIn x (lists 0) ⊎ IsIn x (lists (code (watch_at w.slots x)))
-  pub members : (l x : ℕ) → IsIn x (lists l) → IsMember clauses w.linked x × IsOf l (watch_at w.slots x) fallen
+  pub listed : (number x y : ℕ) → IsHeld clauses w.linked number → IsLong clauses number → ArePartners number x y → Contains (lists 0) x ⊎ Contains (lists (code (watch_at w.slots x))) x
+  pub members : (l x : ℕ) → Contains (lists l) x → IsMember clauses w.linked x × IsOf l (watch_at w.slots x) fallen
 
 -- a slot is linked to the front of the list of a literal
 abbrev pub at_front : WatchesForm → ℕ → Lit → WatchesForm

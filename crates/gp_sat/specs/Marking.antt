@@ -57,8 +57,8 @@ abbrev pub Stops : SolverForm → Stop → List Bool → ℕ → Type 0
 Stops s stop marks place = (variable : ℕ) (a : Assigned) → assigned s variable ≡ Some a → a.place ≡ place → StopsAt s stop marks a
 
 -- the analysis follows the reason of the literal of a place of the trail
-abbrev pub Follows : SolverForm → Stop → List Bool → ℕ → ℕ → Type 0
-Follows s stop marks place number = (variable : ℕ) (a : Assigned) → assigned s variable ≡ Some a → a.place ≡ place → (a.reason ≡ Some number) × GoesOn s stop marks a
+abbrev pub FollowsReason : SolverForm → Stop → List Bool → ℕ → ℕ → Type 0
+FollowsReason s stop marks place number = (variable : ℕ) (a : Assigned) → assigned s variable ≡ Some a → a.place ≡ place → (a.reason ≡ Some number) × GoesOn s stop marks a
 
 -- the variables of literals are marked, and no others
 pub record Marks (old new : List Bool) (lits : List Lit) : Type 0 where

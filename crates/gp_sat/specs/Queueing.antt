@@ -21,10 +21,6 @@ pub record AreListed (marks : List Bool) (marked : List ℕ) : Type 0 where
   pub all : (variable : ℕ) → IsMarked marks variable → Contains marked variable
   pub within : (variable : ℕ) → Contains marked variable → variable < length marks
 
--- how often a place stands in a queue
-abbrev pub times : ℕ → List ℕ → ℕ
-times place places = count_by (λ p. p == place) places
-
 -- one more variable is marked and its place is queued, unless the variable was marked before
 abbrev pub IsAdded : List Bool → List Bool → List ℕ → List ℕ → ℕ → ℕ → Type 0
 IsAdded old new before after variable place = (IsMarked old variable × (new ≡ old) × (after ≡ before))
@@ -37,9 +33,9 @@ IsMarkedAt s marks place = (variable : ℕ) × (a : Assigned) × (assigned s var
 -- a heap holds the places before a bound at which marked variables were assigned, each place once
 pub record AreQueued (s : SolverForm) (bound : ℕ) (marks : List Bool) (places : List ℕ) : Type 0 where
   pub ordered : IsHeap nat_cmp places
-  pub once : (place : ℕ) → times place places ≤ 1
-  pub before : (place : ℕ) → 0 < times place places → (place < bound) × IsMarkedAt s marks place
-  pub all : (variable : ℕ) (a : Assigned) → assigned s variable ≡ Some a → IsMarked marks variable → a.place < bound → 0 < times a.place places
+  pub once : (place : ℕ) → count_by (λ q. q == place) places ≤ 1
+  pub before : (place : ℕ) → 0 < count_by (λ q. q == place) places → (place < bound) × IsMarkedAt s marks place
+  pub all : (variable : ℕ) (a : Assigned) → assigned s variable ≡ Some a → IsMarked marks variable → a.place < bound → 0 < count_by (λ q. q == a.place) places
 
 -- the variable of a literal is assigned
 abbrev pub IsAssigned : SolverForm → Lit → Type 0

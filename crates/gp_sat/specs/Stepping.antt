@@ -11,7 +11,7 @@ use Rattle.gp_sat.specs.Standing.{IsFalse, EachOther}
 use Rattle.gp_sat.specs.Looking.{IsTrueLit}
 use Rattle.gp_sat.specs.Sound.{IsSound}
 use Rattle.gp_sat.specs.Changes.{IsConflict, Propagates}
-use Rattle.gp_sat.specs.Links.{IsIn, steps}
+use Rattle.gp_sat.specs.Links.{steps}
 use Rattle.gp_sat.specs.WatchesForm.{WatchesForm}
 use Rattle.gp_sat.specs.Watching.{AreWatched, AreLooked, watch_at, next_at, link_at}
 use Rattle.gp_sat.specs.Linked.{IsLinked}
@@ -47,7 +47,7 @@ pub record IsWalking (s : SolverForm) (w : WatchesForm) (fallen : Lit) : Type 0 
   pub sound : IsSound s
   pub lists : ℕ → List ℕ
   pub linked : IsLinked s.clauses (length s.values) w fallen lists
-  pub watched : AreWatched s (watch_at w.slots) w.linked w.cursor (λ x. IsIn x (lists 0))
+  pub watched : AreWatched s (watch_at w.slots) w.linked w.cursor (λ x. Contains (lists 0) x)
   pub fell : HasFallen s w.cursor fallen
 
 -- after a conflict the slots of the work list are given back

@@ -6,7 +6,7 @@ ghost use Rattle.gp_sat.specs.Sound.{IsSound};
 ghost use Rattle.gp_sat.specs.Changes.{HasPresent};
 ghost use Rattle.gp_sat.specs.Learning.{IsFirstPoint, IsFinal, IsHighestBelow};
 ghost use Rattle.gp_sat.specs.Queueing.{AreClear, AreListed, AreQueued, IsMarkedAt, IsAssigned, IsMarkedOrBefore};
-ghost use Rattle.gp_sat.specs.Marking.{IsMarked, HasMarked, IsLower, IsLowestOf, IsLowest, Stops, Follows, Marks};
+ghost use Rattle.gp_sat.specs.Marking.{IsMarked, HasMarked, IsLower, IsLowestOf, IsLowest, Stops, FollowsReason, Marks};
 ghost use Rattle.gp_sat.specs.Walking.{IsWalked, IsSearched, IsWalkedDown};
 
 use crate::kernel::{Kernel, value_of};
@@ -197,7 +197,7 @@ impl Kernel {
     fn follow(&self, marks: &[bool], lowest: usize, place: usize, stop: Stop) -> Option<u32>
         requires within { place < length self.now.trail }
         requires lowest { IsLowest self.now marks.now lowest }
-        ensures { MatchOption result (Stops self.now stop marks.now place) (Follows self.now stop marks.now place) }
+        ensures { MatchOption result (Stops self.now stop marks.now place) (FollowsReason self.now stop marks.now place) }
     {
         let lit = self.trail[place];
         let a = value_of(self.values.as_slice(), lit.variable)?;

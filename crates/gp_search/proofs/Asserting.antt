@@ -11,7 +11,7 @@ use Rattle.gp_clause.specs.declared.kind.Kind.TheVariants.{Free, Order, Span}
 use Rattle.gp_clause.specs.declared.lit.Lit.{Lit}
 use Rattle.gp_clause.specs.declared.problem.Problem.{Problem}
 use Rattle.gp_clause.specs.declared.problem.Query.{Query}
-use Rattle.gp_clause.specs.Kind.{bound_of}
+use Rattle.gp_clause.specs.Kind.{bound_of, bound_at}
 use Rattle.gp_clause.specs.Problem.{IsValidKind}
 use Rattle.gp_base.specs.ListLaws.{got_all, contains_map}
 use Rattle.gp_difference.specs.declared.bound.Bound.{Bound}
@@ -23,7 +23,7 @@ use Rattle.gp_sat.specs.Looking.{IsTrueLit}
 use Rattle.gp_sat.specs.Standing.{Each}
 use Rattle.gp_sat.specs.SolverLaws.{trail_counts}
 use Rattle.gp_search.specs.declared.engine.Engine.{Engine}
-use Rattle.gp_search.specs.Bounds.{lit_bound, under, bounds_along}
+use Rattle.gp_search.specs.Bounds.{under, bounds_along}
 use Rattle.gp_search.specs.Inside.{all_kinds, false_lit, IsTurning, IsConflict}
 use Rattle.gp_search.proofs.Cycles.{IsKnown, IsClash, known, clash, trail_true, kind_from_bound}
 use Rattle.gp_search.proofs.Cycles.IsKnown.{said}
@@ -43,7 +43,7 @@ edge_within points (Span a b c) false edge valid is = subst (λ (e : Edge). IsEd
     (record { first = valid.1; second = valid.0; low = omega (arith, ints, valid.2); high = omega (arith, ints, valid.2) })
 
 -- so is that of each literal
-pub lit_within : (problem : Problem) (query : Query) (engine : Engine) (lit : Lit) (edge : Edge) → IsTurning problem query engine → lit_bound (all_kinds problem query) lit ≡ Some edge
+pub lit_within : (problem : Problem) (query : Query) (engine : Engine) (lit : Lit) (edge : Edge) → IsTurning problem query engine → bound_at (all_kinds problem query) lit ≡ Some edge
     → IsEdgeOf engine.graph.points edge
 lit_within problem query engine lit edge turning is =
     let kind = kind_from_bound (slice_get (all_kinds problem query) lit.variable) lit.positive edge is in
@@ -54,17 +54,17 @@ lit_within problem query engine lit edge turning is =
 -- there are no more bounds than literals
 pub few_bounds : (kinds : List Kind) (lits : List Lit) → length (bounds_along kinds lits) ≤ length lits
 few_bounds kinds [] = omega arith
-few_bounds kinds (lit ∷ lits) = at (under lit.variable (lit_bound kinds lit)) refl (few_bounds kinds lits)
+few_bounds kinds (lit ∷ lits) = at (under lit.variable (bound_at kinds lit)) refl (few_bounds kinds lits)
   where
-    at : (o : Option Bound) → under lit.variable (lit_bound kinds lit) ≡ o → length (bounds_along kinds lits) ≤ length lits → length (bounds_along kinds (lit ∷ lits)) ≤ length (lit ∷ lits)
+    at : (o : Option Bound) → under lit.variable (bound_at kinds lit) ≡ o → length (bounds_along kinds lits) ≤ length lits → length (bounds_along kinds (lit ∷ lits)) ≤ length (lit ∷ lits)
     at None is rest = rw is (omega (arith, rest))
     at (Some bound) is rest = rw is (omega (arith, rest))
 
 -- the bounds along one more literal
-pub bounds_none : (kinds : List Kind) (lits : List Lit) (i : ℕ) (d : Lit) → i < length lits → lit_bound kinds (get_or lits i d) ≡ None
+pub bounds_none : (kinds : List Kind) (lits : List Lit) (i : ℕ) (d : Lit) → i < length lits → bound_at kinds (get_or lits i d) ≡ None
     → bounds_along kinds (take (i + 1) lits) ≡ bounds_along kinds (take i lits)
 bounds_none kinds lits i d within is =
-    let f = λ (lit : Lit). under lit.variable (lit_bound kinds lit) in
+    let f = λ (lit : Lit). under lit.variable (bound_at kinds lit) in
     let last : bounds_along kinds (get_or lits i d ∷ []) ≡ [] = rw is refl in
     ap (bounds_along kinds) (take_more lits i d within) ∙ (filter_map-append f (take i lits) (get_or lits i d ∷ []) ∙ (ap (λ (bs : List Bound). bounds_along kinds (take i lits) ++ bs) last ∙ nothing (bounds_along kinds (take i lits))))
   where
@@ -72,10 +72,10 @@ bounds_none kinds lits i d within is =
     nothing [] = refl
     nothing (b ∷ bs) = ap (λ (xs : List Bound). b ∷ xs) (nothing bs)
 
-pub bounds_some : (kinds : List Kind) (lits : List Lit) (i : ℕ) (d : Lit) (edge : Edge) → i < length lits → lit_bound kinds (get_or lits i d) ≡ Some edge
+pub bounds_some : (kinds : List Kind) (lits : List Lit) (i : ℕ) (d : Lit) (edge : Edge) → i < length lits → bound_at kinds (get_or lits i d) ≡ Some edge
     → bounds_along kinds (take (i + 1) lits) ≡ bounds_along kinds (take i lits) ++ tagged edge (get_or lits i d).variable ∷ []
 bounds_some kinds lits i d edge within is =
-    let f = λ (lit : Lit). under lit.variable (lit_bound kinds lit) in
+    let f = λ (lit : Lit). under lit.variable (bound_at kinds lit) in
     let last : bounds_along kinds (get_or lits i d ∷ []) ≡ tagged edge (get_or lits i d).variable ∷ [] = rw is refl in
     ap (bounds_along kinds) (take_more lits i d within) ∙ (filter_map-append f (take i lits) (get_or lits i d ∷ []) ∙ ap (λ (bs : List Bound). bounds_along kinds (take i lits) ++ bs) last)
 
@@ -95,7 +95,7 @@ room_for_next problem query engine turning left =
 
 -- the engine with one bound more in its graph, or with none more
 pub asserted_some : (problem : Problem) (query : Query) (engine : Engine) (graph : GraphForm) (d : Lit) (edge : Edge) (next : ℕ) → IsTurning problem query engine → engine.asserted < length engine.solver.trail
-    → lit_bound (all_kinds problem query) (get_or engine.solver.trail engine.asserted d) ≡ Some edge → IsKept engine.graph (tagged edge (get_or engine.solver.trail engine.asserted d).variable) graph
+    → bound_at (all_kinds problem query) (get_or engine.solver.trail engine.asserted d) ≡ Some edge → IsKept engine.graph (tagged edge (get_or engine.solver.trail engine.asserted d).variable) graph
     → next ≡ engine.asserted + 1 → IsTurning problem query (record engine { graph = graph; asserted = next })
 asserted_some problem query engine graph d edge next turning left is kept one_more = record {
   whole = whole_moved problem query engine (record engine { graph = graph; asserted = next }) (record { log = refl; pure = refl; begins = refl; learned = refl; tester = refl }) turning.whole refl refl
@@ -121,7 +121,7 @@ asserted_some problem query engine graph d edge next turning left is kept one_mo
 }
 
 pub asserted_none : (problem : Problem) (query : Query) (engine : Engine) (d : Lit) (next : ℕ) → IsTurning problem query engine → engine.asserted < length engine.solver.trail
-    → lit_bound (all_kinds problem query) (get_or engine.solver.trail engine.asserted d) ≡ None → next ≡ engine.asserted + 1 → IsTurning problem query (record engine { asserted = next })
+    → bound_at (all_kinds problem query) (get_or engine.solver.trail engine.asserted d) ≡ None → next ≡ engine.asserted + 1 → IsTurning problem query (record engine { asserted = next })
 asserted_none problem query engine d next turning left is one_more = record {
   whole = whole_moved problem query engine (record engine { asserted = next }) (record { log = refl; pure = refl; begins = refl; learned = refl; tester = refl }) turning.whole refl refl turning.whole.graph;
   variables = turning.variables;
@@ -147,7 +147,7 @@ last_tag bounds edge tag tags (walk, closes, are) =
 
 -- the tags of a refused bound name a conflict
 pub cycle_conflict : (problem : Problem) (query : Query) (engine : Engine) (graph : GraphForm) (d : Lit) (edge : Edge) → IsTurning problem query engine → engine.asserted < length engine.solver.trail
-    → lit_bound (all_kinds problem query) (get_or engine.solver.trail engine.asserted d) ≡ Some edge → IsRefused engine.graph (tagged edge (get_or engine.solver.trail engine.asserted d).variable) graph
+    → bound_at (all_kinds problem query) (get_or engine.solver.trail engine.asserted d) ≡ Some edge → IsRefused engine.graph (tagged edge (get_or engine.solver.trail engine.asserted d).variable) graph
     → IsConflict problem query engine.solver (map (false_lit engine.solver) graph.cycle) None
 cycle_conflict problem query engine graph d edge turning left is refused =
     let s : SolverForm = engine.solver in

@@ -10,7 +10,7 @@ use Rattle.gp_clause.specs.declared.problem.Query.{Query}
 use Rattle.gp_clause.specs.Clause.{NamesBelow}
 use Rattle.gp_clause.specs.Closure.Derived.{given}
 use Rattle.gp_clause.specs.Lit.{opposite}
-use Rattle.gp_derivation.specs.Step.{Passes}
+use Rattle.gp_certificate.specs.Step.{Passes}
 use Rattle.gp_base.specs.ListLaws.{contains_map}
 use Rattle.gp_sat.specs.State.{SolverForm, assigned, clause_at}
 use Rattle.gp_sat.specs.Standing.{IsFalse, Each}

@@ -1,19 +1,19 @@
 -- The clause of a negative cycle of bounds.
-use Rattle.std.proofs.Common.{◌≡◌, refl, sym, ◌∙◌, ap, subst, ℕ, ◌<◌, Bool, true, false, not, Option, Some, None, ℤ, pos, ◌+ℤ◌, ◌<ℤ◌, List, [], ◌∷◌, ◌++◌, length, get_or, map, All, Contains, inl, inr, arith}
+use Rattle.std.proofs.Common.{◌≡◌, refl, sym, ◌∙◌, ap, subst, ℕ, ◌<◌, Bool, true, false, not, Option, Some, None, ℤ, pos, ◌+ℤ◌, ◌<ℤ◌, List, [], ◌∷◌, ◌++◌, length, get_or, map, Contains, inl, inr, arith}
 use Rattle.std.specs.List.{filter_map, slice_get}
 use Rattle.std.proofs.lemmas.Int.{ints}
 use Rattle.std.proofs.lemmas.Option.{none-some, same_Some, slice_get_within}
-use Rattle.std.proofs.lemmas.List.Elements.{Contains-append_left, Contains-append_right, Contains-append_cases, Contains-push_cases, Contains-get_or}
+use Rattle.std.proofs.lemmas.List.Elements.{Contains-append_left, Contains-append_right, Contains-append_cases, Contains-push_cases}
 use Rattle.gp_clause.specs.declared.edge.Edge.{Edge}
 use Rattle.gp_clause.specs.declared.kind.Kind.{Kind}
 use Rattle.gp_clause.specs.declared.lit.Lit.{Lit}
 use Rattle.gp_clause.specs.Closure.{Derived}
 use Rattle.gp_clause.specs.Closure.Derived.{given}
-use Rattle.gp_clause.specs.Kind.{bound_of}
-use Rattle.gp_clause.specs.Lit.{opposite}
+use Rattle.gp_clause.specs.Kind.{bound_of, bound_in, bound_at}
+use Rattle.gp_clause.specs.Lit.{opposite, negations}
 use Rattle.gp_clause.specs.Walk.{IsWalk, IsAmong, weight}
-use Rattle.gp_derivation.specs.Step.{negations, IsDerivedBound, Passes}
-use Rattle.gp_base.specs.ListLaws.{contains_map}
+use Rattle.gp_certificate.specs.Step.{IsDerivedBound, Passes}
+use Rattle.gp_base.specs.ListLaws.{contains_map, all_from_contains}
 use Rattle.gp_difference.specs.declared.bound.Bound.{Bound}
 use Rattle.gp_difference.specs.Bounds.{edges_of, tags_of, untagged, tagged, AreAmong, Explains}
 use Rattle.gp_sat.specs.declared.assigned.Assigned.{Assigned}
@@ -21,7 +21,7 @@ use Rattle.gp_sat.specs.State.{SolverForm, assigned}
 use Rattle.gp_sat.specs.Looking.{IsTrueLit}
 use Rattle.gp_sat.specs.Standing.{IsFalse, Each}
 use Rattle.gp_sat.specs.Sound.{IsOrdered, true_lit}
-use Rattle.gp_search.specs.Bounds.{lit_bound, bound_by, under, bounds_along}
+use Rattle.gp_search.specs.Bounds.{under, bounds_along}
 use Rattle.gp_search.specs.Inside.{is_false, false_lit}
 use Rattle.gp_search.proofs.Heads.{opposite_twice}
 use Rattle.gp_search.proofs.Lists.{contains_cases, here, there, mapped_cases, filtered, filtered_cases}
@@ -50,7 +50,7 @@ false_is_false s variable a is = (a, is, sym (ap (λ (o : Option Assigned). not 
 -- a bound is a fixed edge, or that of a true literal
 pub data IsKnown (edges : List Edge) (kinds : List Kind) (values : ℕ → Option Assigned) : Bound → Type 0 where
   fixed : (edge : Edge) → Contains edges edge → IsKnown edges kinds values (untagged edge)
-  said : (lit : Lit) (edge : Edge) → IsTrueLit values lit → lit_bound kinds lit ≡ Some edge → IsKnown edges kinds values (tagged edge lit.variable)
+  said : (lit : Lit) (edge : Edge) → IsTrueLit values lit → bound_at kinds lit ≡ Some edge → IsKnown edges kinds values (tagged edge lit.variable)
 
 -- the bound of a literal under its tag
 pub under_some : (variable : ℕ) (o : Option Edge) (b : Bound) → under variable o ≡ Some b → (edge : Edge) × (o ≡ Some edge) × (tagged edge variable ≡ b)
@@ -65,8 +65,8 @@ known edges kinds values lits all_true b is = elim (Contains-append_cases (map u
       let one = mapped_cases untagged edges b front in
       subst (λ (x : Bound). IsKnown edges kinds values x) one.2 (fixed one.0 one.1)
   | inr back ↦
-      let one = filtered_cases (λ (lit : Lit). under lit.variable (lit_bound kinds lit)) lits b back in
-      let edge = under_some one.0.variable (lit_bound kinds one.0) b one.2 in
+      let one = filtered_cases (λ (lit : Lit). under lit.variable (bound_at kinds lit)) lits b back in
+      let edge = under_some one.0.variable (bound_at kinds one.0) b one.2 in
       subst (λ (x : Bound). IsKnown edges kinds values x) edge.2 (said one.0 edge.0 (all_true one.0 one.1) edge.1)
 ]
 
@@ -81,10 +81,6 @@ tagged_edges bounds = filter_map (λ (b : Bound). edge_if b.edge b.tag) bounds
 edge_told : (edge e : Edge) (tag : Option ℕ) → edge_if edge tag ≡ Some e → (t : ℕ) × (tag ≡ Some t) × (edge ≡ e)
 edge_told edge e None is = absurd (none-some e is)
 edge_told edge e (Some t) is = (t, refl, same_Some edge e is)
-
--- what holds of each element holds of all
-pub all_from_contains : {X : Type 0} (P : X → Type 0) (xs : List X) → ((x : X) → Contains xs x → P x) → All P xs
-all_from_contains P xs each k d within = each (get_or xs k d) (Contains-get_or xs k d within)
 
 -- a walk goes on by one edge
 walk_closed : (walk : List Bound) (from : ℕ) (new : Bound) → IsWalk from (edges_of walk) new.edge.a → IsWalk from (edges_of (walk ++ new ∷ [])) new.edge.b
@@ -117,12 +113,12 @@ cycle_known edges kinds values bounds walk new olds one among b is = elim (Conta
 
 -- what a known bound with a tag tells: its tag is the variable of a true literal with this bound
 tag_told : (edges : List Edge) (kinds : List Kind) (values : ℕ → Option Assigned) (b : Bound) → IsKnown edges kinds values b
-    → (tag : ℕ) → b.tag ≡ Some tag → (lit : Lit) × (lit.variable ≡ tag) × IsTrueLit values lit × (lit_bound kinds lit ≡ Some b.edge)
+    → (tag : ℕ) → b.tag ≡ Some tag → (lit : Lit) × (lit.variable ≡ tag) × IsTrueLit values lit × (bound_at kinds lit ≡ Some b.edge)
 tag_told edges kinds values b (fixed edge among) tag is = absurd (none-some tag is)
 tag_told edges kinds values b (said lit edge holds bound) tag is = (lit, same_Some lit.variable tag is, holds, bound)
 
 -- a literal that has a bound has a kind
-pub kind_from_bound : (o : Option Kind) (positive : Bool) (edge : Edge) → bound_by o positive ≡ Some edge → (kind : Kind) × (o ≡ Some kind) × (bound_of kind positive ≡ Some edge)
+pub kind_from_bound : (o : Option Kind) (positive : Bool) (edge : Edge) → bound_in o positive ≡ Some edge → (kind : Kind) × (o ≡ Some kind) × (bound_of kind positive ≡ Some edge)
 kind_from_bound None positive edge is = absurd (none-some edge is)
 kind_from_bound (Some kind) positive edge is = (kind, refl, is)
 

@@ -12,17 +12,16 @@ use Rattle.gp_clause.specs.declared.problem.Query.{Query}
 use Rattle.gp_clause.specs.Clause.{IsRising, NamesBelow}
 use Rattle.gp_clause.specs.Closure.Derived.{given, forced}
 use Rattle.gp_clause.specs.Counting.{AreDistinctClauses, ClausesAreFew}
-use Rattle.gp_clause.specs.Lit.{opposite, lit_eq}
+use Rattle.gp_clause.specs.Lit.{opposite, lit_eq, negations}
 use Rattle.gp_clause.specs.LitLaws.{lit_eq_decides}
 use Rattle.gp_derivation.specs.declared.log.LogEntry.{LogEntry}
 use Rattle.gp_derivation.specs.declared.log.Origin.{Origin}
 use Rattle.gp_derivation.specs.declared.log.Origin.TheVariants.{Learned, Taken}
 use Rattle.gp_derivation.specs.declared.record.Turn.{Turn}
-use Rattle.gp_derivation.specs.declared.step.Step.{Step}
+use Rattle.gp_certificate.specs.declared.step.Step.{Step}
 use Rattle.gp_base.specs.ListLaws.{contains_map}
 use Rattle.gp_derivation.specs.Log.{IsLearned, OriginPasses}
 use Rattle.gp_derivation.specs.Spent.{IsNewBy, turned}
-use Rattle.gp_derivation.specs.Step.{negations}
 use Rattle.gp_derivation.specs.Tight.{left_out}
 use Rattle.gp_search.specs.declared.engine.Engine.{Engine}
 use Rattle.gp_search.specs.Inside.{IsTurning, turn_from}

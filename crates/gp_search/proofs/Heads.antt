@@ -7,12 +7,12 @@ use Rattle.gp_clause.specs.declared.kind.Kind.{Kind}
 use Rattle.gp_clause.specs.declared.lit.Lit.{Lit}
 use Rattle.gp_clause.specs.Closure.{Derived, Conflicts}
 use Rattle.gp_clause.specs.Closure.Derived.{given, forced}
-use Rattle.gp_clause.specs.Lit.{opposite, lit_eq}
+use Rattle.gp_clause.specs.Lit.{opposite, lit_eq, negations}
 use Rattle.gp_clause.specs.LitLaws.{lit_eq_decides}
 use Rattle.gp_sat.specs.declared.assigned.Assigned.{Assigned}
 use Rattle.gp_sat.specs.Looking.{IsTrueLit}
 use Rattle.gp_sat.specs.Standing.{IsFalse, Each, EachOther}
-use Rattle.gp_derivation.specs.Step.{negations, IsDerivedBound, IsRefuted}
+use Rattle.gp_certificate.specs.Step.{IsDerivedBound, LeadsToConflict}
 use Rattle.gp_search.proofs.Lists.{contains_cases, mapped_cases}
 
 -- two literals are the same or differ
@@ -147,7 +147,7 @@ through_derived start clauses own conflict reaches among lit (forced clause l on
 
 -- so a start is refuted that reaches a refuted conflict
 pub through : (edges : List Edge) (kinds : List Kind) (start : List Lit) (clauses own : List (List Lit)) (conflict : List Lit) → IsReached start clauses conflict
-    → All (Contains clauses) own → IsRefuted edges kinds own (negations conflict) → IsRefuted edges kinds clauses start
+    → All (Contains clauses) own → LeadsToConflict edges kinds own (negations conflict) → LeadsToConflict edges kinds clauses start
 through edges kinds start clauses own conflict reaches among (inl (clause, one, negated)) =
     inl (clause, All-contains (Contains clauses) own clause among one, λ lit is. through_derived start clauses own conflict reaches among (opposite lit) (negated lit is))
 through edges kinds start clauses own conflict reaches among (inr (bounds, derived, cycle)) =

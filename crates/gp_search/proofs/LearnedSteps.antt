@@ -10,12 +10,12 @@ use Rattle.gp_clause.specs.declared.problem.Query.{Query}
 use Rattle.gp_clause.specs.Clause.{NamesBelow}
 use Rattle.gp_clause.specs.Closure.{Derived}
 use Rattle.gp_clause.specs.Closure.Derived.{given, forced}
-use Rattle.gp_clause.specs.Lit.{opposite}
+use Rattle.gp_clause.specs.Lit.{opposite, negations}
 use Rattle.gp_derivation.specs.declared.log.LogEntry.{LogEntry}
 use Rattle.gp_derivation.specs.Log.{logged, LearnedPasses, IsUsable}
-use Rattle.gp_derivation.specs.Step.{negations, named, IsRefuted}
-use Rattle.gp_base.specs.ListLaws.{contains_map}
-use Rattle.gp_derivation.specs.NamedLaws.{named_contains}
+use Rattle.gp_certificate.specs.Step.{named, LeadsToConflict}
+use Rattle.gp_base.specs.ListLaws.{contains_map, all_from_contains}
+use Rattle.gp_certificate.specs.NamedLaws.{named_contains}
 use Rattle.gp_clause.specs.ClosureLaws.{derived_more}
 use Rattle.gp_sat.specs.Stored.{Stored}
 use Rattle.gp_sat.specs.State.{SolverForm, assigned, clause_at, no_clause, IsAttached}
@@ -29,7 +29,6 @@ use Rattle.gp_search.specs.Inside.{all_kinds, IsTurning, IsConflict, IsNumber, n
 use Rattle.gp_search.specs.Moves.{with_number}
 use Rattle.gp_search.proofs.Heads.{IsHeaded, IsReached, reached, through, true_opposite, lits_cases, opposite_twice}
 use Rattle.gp_search.proofs.Lists.{contains_cases, here, mapped_cases}
-use Rattle.gp_search.proofs.Cycles.{all_from_contains}
 
 -- the reason of an assignment has one true literal
 pub reason_headed : (s : SolverForm) (number : ℕ) → IsSound s → IsReason s number → IsHeaded (assigned s) (clause_at s.clauses number)
@@ -123,7 +122,7 @@ names_from_false s names clause reasoned all_false = all_from_contains (λ (lit 
 -- what refutes the negation of a clause that hints lead to makes it a step of the log
 pub step_passes : (problem : Problem) (query : Query) (engine : Engine) (hints : List ℕ) (number : Option ℕ) (clause : List Lit) → IsTurning problem query engine
     → ((hint : ℕ) → Contains hints hint → IsReason engine.solver hint) → IsNumber engine.solver number → NamesBelow (length (all_kinds problem query)) clause
-    → IsRefuted problem.edges (all_kinds problem query) (named (logged problem engine.log.items) (with_number hints number)) (negations clause)
+    → LeadsToConflict problem.edges (all_kinds problem query) (named (logged problem engine.log.items) (with_number hints number)) (negations clause)
     → LearnedPasses problem query.locals engine.log.items engine.begins (length engine.log.items) (record { clause = clause; hints = with_number hints number })
 step_passes problem query engine hints number clause turning reasons attached names refuted = record {
   hints = all_from_contains (λ hint. hint < length problem.clauses + length engine.log.items) (with_number hints number) (λ hint is. below hint (stands hint is));

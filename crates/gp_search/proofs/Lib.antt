@@ -8,6 +8,7 @@ pub mod Levels
 pub mod Trails
 pub mod Conflicts
 pub mod Taught
+pub mod Purity
 pub mod Logging
 pub mod Refuting
 pub mod Meeting

@@ -1,6 +1,7 @@
 -- What a learned step is, and what a turn keeps true when it is logged.
 use Rattle.std.proofs.Common.{◌≡◌, refl, sym, ◌∙◌, ap, subst, ℕ, ◌+◌, ◌*◌, ◌<◌, ◌≤◌, ◌^◌, Bool, true, false, Option, Some, None, List, [], ◌∷◌, ◌++◌, length, get_or, map, Contains, ◌⊎◌, inl, inr, append_assoc, arith}
 use Rattle.std.specs.List.{slice_get}
+use Rattle.std.specs.Prelude.{◌↔◌}
 use Rattle.std.proofs.lemmas.Bool.{cases_lt}
 use Rattle.std.specs.Arc.{arc_value}
 use Rattle.std.proofs.lemmas.Option.{same_Some, slice_get-get_or, slice_get_within}
@@ -13,10 +14,10 @@ use Rattle.gp_clause.specs.declared.problem.Query.{Query}
 use Rattle.gp_clause.specs.Clause.{NamesBelow, IsRising}
 use Rattle.gp_derivation.specs.declared.exchange.SharedClause.{SharedClause}
 use Rattle.gp_derivation.specs.declared.log.LogEntry.{LogEntry}
-use Rattle.gp_derivation.specs.declared.step.Step.{Step}
-use Rattle.gp_derivation.specs.Certificate.{clauses_of}
+use Rattle.gp_certificate.specs.declared.step.Step.{Step}
+use Rattle.gp_certificate.specs.Certificate.{clauses_of}
 use Rattle.gp_derivation.specs.Exchange.{IsGood}
-use Rattle.gp_derivation.specs.Log.{IsLearned, IsPure, LogGrows, LearnedPasses}
+use Rattle.gp_derivation.specs.Log.{IsLearned, IsPure, LogGrows, LogPasses, LearnedPasses}
 use Rattle.gp_derivation.specs.Log.IsPure.{taken, learned}
 use Rattle.gp_base.specs.ListLaws.{contains_map, got_front}
 use Rattle.gp_derivation.specs.Numbering.{size_of}
@@ -36,6 +37,7 @@ use Rattle.gp_search.specs.Inside.{all_kinds, IsPlain, IsMarked, IsStored, IsKee
 use Rattle.gp_search.specs.Mail.{taken_entry}
 use Rattle.gp_search.specs.Moves.{IsLesson, RestsOnMarked}
 use Rattle.gp_search.proofs.LearnedSteps.{clauses_counted}
+use Rattle.gp_search.proofs.Purity.{pure_longer, pure_rests, pure_shorter, pure_within}
 use Rattle.gp_search.proofs.Taught.{entry_of, last_got, old_or_last, taught_more, taught_none}
 use Rattle.gp_search.proofs.Levels.{back_was, back_stays, begun_same}
 
@@ -75,11 +77,6 @@ lesson_below s clause level above highest = elim highest.reached [
   | inr one ↦ one.3
 ]
 
--- what is pure stays pure in a longer log
-pub pure_longer : (problem : Problem) (log more : List LogEntry) (place : ℕ) → IsPure problem log place → IsPure problem (log ++ more) place
-pure_longer problem log more place (taken p own got took) = taken p own (got_front log more p own got) took
-pure_longer problem log more place (learned p own got below others) = learned p own (got_front log more p own got) below (λ other by. pure_longer problem log more other (others other by))
-
 plain_longer : (problem : Problem) (log : List LogEntry) (entry : LogEntry) (place : ℕ) → place < length log → IsPlain problem log place → IsPlain problem (log ++ entry ∷ []) place
 plain_longer problem log entry place within plain = record {
   pure = pure_longer problem log (entry ∷ []) place plain.pure;
@@ -110,11 +107,20 @@ rests_plain problem log marks step old one =
     (learned (length log) (entry_of step) (last_got log (entry_of step) (length log) refl) one.below (λ other by. pure_longer problem log (entry_of step ∷ []) other (old.plain other (one.marked other by)).pure)) one.below
 
 -- the marks after one more
-marked_more : (problem : Problem) (log : List LogEntry) (marks : List Bool) (entry : LogEntry) (mark : Bool) → IsMarked problem log marks → (mark ≡ true → IsPlain problem (log ++ entry ∷ []) (length log))
-    → IsMarked problem (log ++ entry ∷ []) (marks ++ mark ∷ [])
-marked_more problem log marks entry mark old plain = record {
+marked_more : (problem : Problem) (locals : List Kind) (log : List LogEntry) (begins : ℕ) (marks : List Bool) (entry : LogEntry) (mark : Bool) → LogPasses problem locals log begins → IsMarked problem log marks
+    → (mark ≡ true → IsPlain problem (log ++ entry ∷ []) (length log)) → (IsPure problem (log ++ entry ∷ []) (length log) → mark ≡ true) → IsMarked problem (log ++ entry ∷ []) (marks ++ mark ∷ [])
+marked_more problem locals log begins marks entry mark passes old plain pure = record {
   size = omega (arith, old.size, length_push marks mark, length_push log entry);
   plain = λ place is. at place is (cases_lt place (length marks));
+  pure = λ place is. elim (cases_lt place (length marks)) [
+    | inl before ↦
+        get_or_append_left marks (mark ∷ []) false place before ∙ old.pure place (pure_shorter problem locals log (entry ∷ []) begins place passes (omega (arith, before, old.size)) is)
+    | inr after ↦
+        let within : place < length (log ++ entry ∷ []) = pure_within problem (log ++ entry ∷ []) place is in
+        let at_end : length marks ≡ place = omega (arith, after, within, old.size, length_push log entry) in
+        let last : place ≡ length log = omega (arith, at_end, old.size) in
+        get_or_push marks mark false place at_end ∙ pure (subst (λ (n : ℕ). IsPure problem (log ++ entry ∷ []) n) last is)
+  ];
 }
   where
     at : (place : ℕ) → get_or (marks ++ mark ∷ []) place false ≡ true → (place < length marks) ⊎ (length marks ≤ place) → IsPlain problem (log ++ entry ∷ []) place
@@ -208,6 +214,7 @@ pub record MayLog (problem : Problem) (query : Query) (log : List LogEntry) (beg
   pub passing : IsPassing problem query.locals (log ++ entry ∷ []) begins learned
   pub below : NamesBelow (length (all_kinds problem query)) entry.step.clause
   pub plain : mark ≡ true → IsPlain problem (log ++ entry ∷ []) (length log)
+  pub pure : IsPure problem (log ++ entry ∷ []) (length log) → mark ≡ true
   pub taught : IsTaught problem query (log ++ entry ∷ []) (turn_from begins learned (length (log ++ entry ∷ [])))
   pub few : length problem.clauses + most_steps (log ++ entry ∷ []) learned + 1 < 2 ^ 32
 
@@ -222,7 +229,8 @@ logged problem query old new entry mark turning sound more may =
     stored_more problem old.begins names old.log.items s.clauses entry (omega (arith, turning.whole.log.began, turning.whole.log.within)) may.below turning.whole.stored in
     let keeping : IsKeeping (length problem.clauses) old.begins (length (old.log.items ++ entry ∷ [])) (old.pure.items ++ mark ∷ []) t.clauses =
     keeping_more (length problem.clauses) old.begins old.log.items entry old.pure.items mark s.clauses entry.step.clause turning.whole.marked.size (clauses_counted problem old.log.items s.clauses turning.whole.stored.lits) turning.whole.keeping in
-    let marked : IsMarked problem (old.log.items ++ entry ∷ []) (old.pure.items ++ mark ∷ []) = marked_more problem old.log.items old.pure.items entry mark turning.whole.marked may.plain in
+    let marked : IsMarked problem (old.log.items ++ entry ∷ []) (old.pure.items ++ mark ∷ []) =
+    marked_more problem query.locals old.log.items old.begins old.pure.items entry mark turning.whole.log.passes turning.whole.marked may.plain may.pure in
     let solver_at : (P : SolverForm → Type 0) → P t → P new.solver = λ P is. subst P (sym more.solver) is in
     let values : length new.solver.values ≡ length s.values = ap (λ (x : SolverForm). length x.values) more.solver in
     let reasoned : IsReasoned names t = record {
@@ -295,13 +303,14 @@ passing_more problem locals log begins from step grows old passes = record {
 }
 
 -- a lesson may come to the end of the log
-pub may_learn : (problem : Problem) (query : Query) (engine : Engine) (step : Step) (mark : Bool) → LogGrows → IsTurning problem query engine → (mark ≡ true → RestsOnMarked problem engine.pure.items step)
+pub may_learn : (problem : Problem) (query : Query) (engine : Engine) (step : Step) (mark : Bool) → LogGrows → IsTurning problem query engine → ((mark ≡ true) ↔ RestsOnMarked problem engine.pure.items step)
     → IsLesson problem query engine.log.items engine.begins step → IsRising step.clause → length problem.clauses + most_steps engine.log.items engine.learned + 2 < 2 ^ 32
     → MayLog problem query engine.log.items engine.begins engine.learned (entry_of step) mark
 may_learn problem query engine step mark grows turning rests lesson rising few = record {
   passing = passing_more problem query.locals engine.log.items engine.begins engine.learned step grows turning.whole.log lesson.passes;
   below = lesson.passes.passes.in_range;
-  plain = λ is. rests_plain problem engine.log.items engine.pure.items step turning.whole.marked (rests is);
+  plain = λ is. rests_plain problem engine.log.items engine.pure.items step turning.whole.marked (rests.0 is);
+  pure = λ is. rests.1 (pure_rests problem query.locals engine.log.items engine.begins engine.pure.items step turning.whole.log.passes lesson.passes turning.whole.marked is);
   taught = taught_more problem query engine.log.items engine.begins engine.learned step turning.whole.log turning.taught lesson rising;
   few = omega (arith, few, length_push engine.log.items (entry_of step), turning.whole.log.within);
 }
@@ -339,6 +348,7 @@ may_take problem query engine shared grows taking good few =
       passing = taken_passing problem query.locals log engine.begins shared grows (subst (λ (n : ℕ). IsPassing problem query.locals log engine.begins n) taking.learned taking.turning.whole.log) good;
       below = All-weaker (λ (lit : Lit). lit.variable < length problem.kinds) (λ (lit : Lit). lit.variable < length (all_kinds problem query)) (λ lit low. omega (arith, low, length-append problem.kinds query.locals)) shared.clause below;
       plain = λ _. last_plain problem log entry (taken (length log) entry (last_got log entry (length log) refl) tt) below;
+      pure = λ _. refl;
       taught = taught_none problem query (log ++ entry ∷ []) engine.begins (length (log ++ entry ∷ [])) (omega arith);
       few = omega (arith, few, length_push log entry);
     }

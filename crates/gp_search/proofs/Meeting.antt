@@ -12,25 +12,24 @@ use Rattle.gp_clause.specs.declared.problem.Query.{Query}
 use Rattle.gp_clause.specs.declared.valuation.Valuation.{Valuation}
 use Rattle.gp_clause.specs.Clause.{HoldsClause, NamesBelow, TrueOrFalse}
 use Rattle.gp_clause.specs.Edge.{Keeps}
-use Rattle.gp_clause.specs.Kind.{bound_of, KeepsBound}
+use Rattle.gp_clause.specs.Kind.{bound_of, KeepsBound, bound_in, bound_at}
 use Rattle.gp_clause.specs.Lit.{HoldsLit, opposite}
 use Rattle.gp_clause.specs.Valuation.{Meets, truth_of, place_of}
 use Rattle.gp_derivation.specs.declared.log.LogEntry.{LogEntry}
 use Rattle.gp_derivation.specs.Log.{logged}
-use Rattle.gp_base.specs.ListLaws.{contains_map, slice_get_front}
+use Rattle.gp_base.specs.ListLaws.{contains_map, slice_get_front, all_from_contains}
 use Rattle.gp_difference.specs.declared.bound.Bound.{Bound}
 use Rattle.gp_difference.specs.Bounds.{untagged, tagged}
-use Rattle.gp_difference.specs.Graph.{GraphForm, IsFeasible, bounds_of, all_edges}
+use Rattle.gp_difference.specs.Graph.{GraphForm, HasPlaces, bounds_of, all_edges}
 use Rattle.gp_difference.specs.Places.{place_at}
 use Rattle.gp_sat.specs.declared.assigned.Assigned.{Assigned}
 use Rattle.gp_sat.specs.State.{SolverForm, assigned, clause_at}
 use Rattle.gp_sat.specs.Standing.{IsQuiet}
 use Rattle.gp_sat.specs.Sound.{IsSound, true_lit}
 use Rattle.gp_search.specs.declared.engine.Engine.{Engine}
-use Rattle.gp_search.specs.Bounds.{lit_bound, bound_by, under, bounds_along}
+use Rattle.gp_search.specs.Bounds.{under, bounds_along}
 use Rattle.gp_search.specs.Inside.{all_kinds, IsTurning, IsSettled}
 use Rattle.gp_search.specs.Moves.{IsAllAssigned, IsAllTrue, IsTruthOf, is_true}
-use Rattle.gp_search.proofs.Cycles.{all_from_contains}
 use Rattle.gp_search.proofs.LearnedSteps.{clause_got, clauses_counted}
 use Rattle.gp_search.proofs.Lists.{filtered}
 
@@ -65,13 +64,13 @@ base_at problem query engine turning clause (number, within, is) =
 
 -- the bound of a true literal of the trail is kept
 pub bound_kept : (kinds : List Kind) (graph : GraphForm) (trail : List Lit) (lit : Lit) (place : ℕ → ℤ) → graph.kept ≡ bounds_along kinds trail → All (Keeps place) (all_edges graph) → Contains trail lit
-    → KeepsBound place (lit_bound kinds lit)
-bound_kept kinds graph trail lit place same keeps is = at (lit_bound kinds lit) refl
+    → KeepsBound place (bound_at kinds lit)
+bound_kept kinds graph trail lit place same keeps is = at (bound_at kinds lit) refl
   where
-    at : (o : Option Edge) → lit_bound kinds lit ≡ o → KeepsBound place o
+    at : (o : Option Edge) → bound_at kinds lit ≡ o → KeepsBound place o
     at None none = tt
     at (Some edge) some =
-        let f = λ (l : Lit). under l.variable (lit_bound kinds l) in
+        let f = λ (l : Lit). under l.variable (bound_at kinds l) in
         let one : Contains (bounds_along kinds trail) (tagged edge lit.variable) = filtered f trail lit (tagged edge lit.variable) is (ap (under lit.variable) some) in
         let two : Contains graph.kept (tagged edge lit.variable) = subst (λ (bs : List Bound). Contains bs (tagged edge lit.variable)) (sym same) one in
         let three : Contains (bounds_of graph) (tagged edge lit.variable) = Contains-append_right (map untagged graph.edges) graph.kept (tagged edge lit.variable) two in
@@ -88,7 +87,7 @@ in_trail : (s : SolverForm) (v : ℕ) (a : Assigned) → IsSound s → assigned 
 in_trail s v a sound is = (a.place, sound.ordered.within v a is, sound.ordered.on_trail v a (true_lit v a) is)
 
 pub model_meets : (problem : Problem) (query : Query) (engine : Engine) (valuation : Valuation) → TrueOrFalse → IsTurning problem query engine → IsSettled engine
-    → IsAllAssigned (length (all_kinds problem query)) engine.solver → IsAllTrue query.assumed engine.solver → IsFeasible engine.graph
+    → IsAllAssigned (length (all_kinds problem query)) engine.solver → IsAllTrue query.assumed engine.solver → HasPlaces engine.graph
     → IsTruthOf engine.solver (length (all_kinds problem query)) valuation.truth → valuation.places ≡ engine.graph.places → Meets problem query valuation
 model_meets problem query engine valuation laws turning settled all assumed feasible told places =
     let s : SolverForm = engine.solver in
@@ -115,8 +114,8 @@ model_meets problem query engine valuation laws turning settled all assumed feas
           let below : v < length kinds = slice_get_within kinds v kind got in
           let one = all v below in
           let lit : Lit = true_lit v one.0 in
-          let bound : KeepsBound (place_of valuation) (lit_bound kinds lit) = bound_kept kinds engine.graph s.trail lit (place_of valuation) kept keeps (in_trail s v one.0 turning.sound one.1) in
-          let by_kind : lit_bound kinds lit ≡ bound_of kind (truth_of valuation v) =
-          ap (λ (o : Option Kind). bound_by o one.0.positive) got ∙ ap (bound_of kind) (sym (truth_is s (length kinds) valuation.truth v one.0 told below one.1)) in
+          let bound : KeepsBound (place_of valuation) (bound_at kinds lit) = bound_kept kinds engine.graph s.trail lit (place_of valuation) kept keeps (in_trail s v one.0 turning.sound one.1) in
+          let by_kind : bound_at kinds lit ≡ bound_of kind (truth_of valuation v) =
+          ap (λ (o : Option Kind). bound_in o one.0.positive) got ∙ ap (bound_of kind) (sym (truth_is s (length kinds) valuation.truth v one.0 told below one.1)) in
           subst (KeepsBound (place_of valuation)) by_kind bound;
     }

@@ -13,17 +13,17 @@ use Rattle.gp_clause.specs.declared.problem.Query.{Query}
 use Rattle.gp_clause.specs.Closure.{ClosureIsLeast, LeavesNone, IsTrueIn, IsFalseIn}
 use Rattle.gp_clause.specs.Edge.{Keeps}
 use Rattle.gp_clause.specs.Kind.{bound_of}
-use Rattle.gp_clause.specs.Lit.{opposite, lit_eq}
+use Rattle.gp_clause.specs.Lit.{opposite, lit_eq, negations}
 use Rattle.gp_clause.specs.LitLaws.{lit_eq_decides, not_both}
 use Rattle.gp_clause.specs.WalkLaws.{none_negative}
 use Rattle.gp_derivation.specs.Spent.{IsNewBy, start_beside}
-use Rattle.gp_derivation.specs.Step.{IsRefuted, IsDerivedBound, negations}
+use Rattle.gp_certificate.specs.Step.{LeadsToConflict, IsDerivedBound}
 use Rattle.gp_derivation.specs.Tight.{left_out}
 use Rattle.gp_sat.specs.declared.assigned.Assigned.{Assigned}
 use Rattle.gp_sat.specs.State.{SolverForm, assigned, clause_at, IsAttached}
 use Rattle.gp_sat.specs.Standing.{IsClosed, IsFalseTo}
 use Rattle.gp_search.specs.Inside.{IsTrueTo}
-use Rattle.gp_search.proofs.Cycles.{all_from_contains}
+use Rattle.gp_base.specs.ListLaws.{all_from_contains}
 use Rattle.gp_search.proofs.Lists.{mapped_cases}
 
 -- the sign of an assignment, if it is of a level or of one below
@@ -100,7 +100,7 @@ pub record IsCalm (edges : List Edge) (kinds : List Kind) (clauses : List (List 
 
 -- then the clauses refute no start that is true in it
 pub not_refuted : (law : ClosureIsLeast) (edges : List Edge) (kinds : List Kind) (clauses : List (List Lit)) (values : ℕ → Option Bool) (place : ℕ → ℤ) (start : List Lit) → IsCalm edges kinds clauses values place
-    → All (IsTrueIn values) start → IsRefuted edges kinds clauses start → ⊥
+    → All (IsTrueIn values) start → LeadsToConflict edges kinds clauses start → ⊥
 not_refuted law edges kinds clauses values place start calm starts (inl conflicts) = law.no_conflict start clauses values starts calm.leaves conflicts
 not_refuted law edges kinds clauses values place start calm starts (inr (bounds, derived, cycle)) =
     none_negative place (edges ++ bounds) (All-append (Keeps place) edges bounds calm.fixed (All-weaker (IsDerivedBound kinds clauses start) (Keeps place) kept bounds derived)) cycle

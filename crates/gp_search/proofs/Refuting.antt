@@ -14,11 +14,11 @@ use Rattle.gp_clause.specs.declared.problem.Query.{Query}
 use Rattle.gp_clause.specs.Clause.{occurrences, IsRising, NamesTwice}
 use Rattle.gp_clause.specs.declared.clause.BadClause.{BadClause}
 use Rattle.gp_clause.specs.Lit.{opposite}
-use Rattle.gp_clause.specs.OccurrenceLaws.{once_from_rising}
+use Rattle.gp_base.specs.CountLaws.{once_from_rising}
 use Rattle.gp_derivation.specs.declared.log.LogEntry.{LogEntry}
 use Rattle.gp_derivation.specs.declared.log.Origin.{Origin}
 use Rattle.gp_derivation.specs.declared.log.Origin.TheVariants.{Learned, Taken}
-use Rattle.gp_derivation.specs.declared.step.Step.{Step}
+use Rattle.gp_certificate.specs.declared.step.Step.{Step}
 use Rattle.gp_derivation.specs.EarlierLaws.{all_earlier}
 use Rattle.gp_derivation.specs.Log.{IsLearned, LearnedPasses}
 use Rattle.gp_derivation.specs.Numbering.{CanBeNumbered, size_of, steps_by}
@@ -29,7 +29,7 @@ use Rattle.gp_sat.specs.Sound.{true_lit}
 use Rattle.gp_sat.specs.Learning.{IsLearned as Follows, IsDecided}
 use Rattle.gp_search.specs.declared.engine.Engine.{Engine}
 use Rattle.gp_search.specs.Inside.{all_kinds, IsTurning, IsAssuming, most_steps}
-use Rattle.gp_search.proofs.Cycles.{all_from_contains}
+use Rattle.gp_base.specs.ListLaws.{all_from_contains}
 use Rattle.gp_search.proofs.Heads.{opposite_twice}
 use Rattle.gp_search.proofs.LearnedSteps.{final_passes}
 use Rattle.gp_search.proofs.Lists.{contains_cases, here, there}
@@ -154,7 +154,7 @@ once_beside lits clause lit rising same apart v =
       | inl here_it_is ↦
           let none : occurrences v clause ≡ 0 = occurs_nowhere v clause (λ other is equal. apart other is (equal ∙ sym here_it_is)) in
           omega (arith, sum, last, none, counted_one v lit here_it_is)
-      | inr elsewhere ↦ omega (arith, sum, last, counted_none v lit elsewhere, once_from_rising v clause rising)
+      | inr elsewhere ↦ omega (arith, sum, last, counted_none v lit elsewhere, once_from_rising (λ (l : Lit). l.variable) v clause rising)
     ])
 
 -- the last step where an assumption is false

@@ -4,7 +4,8 @@ use Rattle.std.proofs.lemmas.List.{append-nil, length-append, length-map, length
 use Rattle.gp_derivation.specs.declared.exchange.SharedClause.{SharedClause}
 use Rattle.gp_derivation.specs.declared.log.LogEntry.{LogEntry}
 use Rattle.gp_search.specs.declared.engine.Engine.{Engine}
-use Rattle.gp_search.specs.Mail.{Gives, MailForm, one_more, taken_entry}
+use Rattle.gp_search.specs.Mail.{Gives, MailForm, taken_entry}
+use Rattle.gp_base.specs.Counts.{one_more}
 use Rattle.gp_search.specs.Moves.{FindsNone, HasGiven, HasGivenAll, HasTaken, KeepsLog, TakesAll, TakesOne, TakesSome}
 
 -- at first a mail gave nothing

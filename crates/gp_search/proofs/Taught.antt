@@ -13,11 +13,11 @@ use Rattle.gp_clause.specs.Clause.{IsRising}
 use Rattle.gp_derivation.specs.declared.log.LogEntry.{LogEntry}
 use Rattle.gp_derivation.specs.declared.log.Origin.{Origin}
 use Rattle.gp_derivation.specs.declared.log.Origin.TheVariants.{Learned, Taken}
-use Rattle.gp_derivation.specs.declared.step.Step.{Step}
+use Rattle.gp_certificate.specs.declared.step.Step.{Step}
 use Rattle.gp_derivation.specs.Log.{IsLearned, OriginPasses, logged}
 use Rattle.gp_base.specs.ListLaws.{slice_get_front, slice_get_back}
 use Rattle.gp_derivation.specs.Spent.{IsNewBy, turned}
-use Rattle.gp_derivation.specs.Step.{named}
+use Rattle.gp_certificate.specs.Step.{named}
 use Rattle.gp_derivation.specs.Tight.{IsTight}
 use Rattle.gp_search.specs.Inside.{all_kinds, turn_from, IsPassing, IsTaught}
 use Rattle.gp_search.specs.Moves.{IsLesson}

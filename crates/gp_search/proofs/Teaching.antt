@@ -13,15 +13,16 @@ use Rattle.gp_clause.specs.declared.problem.Query.{Query}
 use Rattle.gp_clause.specs.Clause.{NamesBelow}
 use Rattle.gp_clause.specs.Closure.{ClosureIsLeast, IsTrueIn}
 use Rattle.gp_clause.specs.Edge.{Keeps}
-use Rattle.gp_clause.specs.Kind.{KeepsBound}
+use Rattle.gp_clause.specs.Kind.{KeepsBound, bound_in, bound_at}
 use Rattle.gp_derivation.specs.declared.log.LogEntry.{LogEntry}
 use Rattle.gp_derivation.specs.declared.record.Turn.{Turn}
-use Rattle.gp_derivation.specs.declared.step.Step.{Step}
+use Rattle.gp_certificate.specs.declared.step.Step.{Step}
 use Rattle.gp_derivation.specs.Log.{logged}
 use Rattle.gp_derivation.specs.Spent.{IsNewBy, turned}
-use Rattle.gp_derivation.specs.Step.{Passes, named, negations}
+use Rattle.gp_certificate.specs.Step.{Passes, named}
+use Rattle.gp_clause.specs.Lit.{negations}
 use Rattle.gp_derivation.specs.Tight.{IsTight}
-use Rattle.gp_difference.specs.Graph.{IsFeasible, all_edges}
+use Rattle.gp_difference.specs.Graph.{HasPlaces, all_edges}
 use Rattle.gp_difference.specs.Places.{place_at}
 use Rattle.gp_sat.specs.declared.analysis.Learned.{Learned}
 use Rattle.gp_sat.specs.declared.assigned.Assigned.{Assigned}
@@ -32,10 +33,9 @@ use Rattle.gp_sat.specs.Changes.{IsOfLevel}
 use Rattle.gp_sat.specs.Learning.{HasOnePresent, IsBelowLevel, IsFirstPoint}
 use Rattle.gp_sat.specs.SolverLaws.{attached_within, within_values}
 use Rattle.gp_search.specs.declared.engine.Engine.{Engine}
-use Rattle.gp_search.specs.Bounds.{lit_bound, bound_by}
 use Rattle.gp_search.specs.Inside.{all_kinds, turn_from, IsConflict, IsTurning, IsTrueTo}
 use Rattle.gp_search.specs.Moves.{IsStudied, IsTightened, with_number}
-use Rattle.gp_search.proofs.Cycles.{all_from_contains}
+use Rattle.gp_base.specs.ListLaws.{all_from_contains}
 use Rattle.gp_search.proofs.Heads.{lits_cases}
 use Rattle.gp_search.proofs.LearnedSteps.{clause_got, hints_attached, learned_passes}
 use Rattle.gp_search.proofs.Lists.{contains_cases, contains_front, filtered_cases, here, mapped_cases, there}
@@ -64,7 +64,7 @@ asserted_front problem query engine level lit turning under (a, is, sign, low) =
     )
 
 -- below the present level all is calm
-pub engine_calm : (problem : Problem) (query : Query) (engine : Engine) (level : ℕ) (clauses : List (List Lit)) → IsTurning problem query engine → IsFeasible engine.graph → level < engine.solver.level → AreAttached engine.solver clauses
+pub engine_calm : (problem : Problem) (query : Query) (engine : Engine) (level : ℕ) (clauses : List (List Lit)) → IsTurning problem query engine → HasPlaces engine.graph → level < engine.solver.level → AreAttached engine.solver clauses
     → IsCalm problem.edges (all_kinds problem query) clauses (values_to engine.solver level) (place_at engine.graph.places)
 engine_calm problem query engine level clauses turning feasible under attached = record {
   leaves = closed_leaves engine.solver level clauses (turning.sound.closed level under) attached;
@@ -72,9 +72,9 @@ engine_calm problem query engine level clauses turning feasible under attached =
       All-contains (Keeps (place_at engine.graph.places)) (all_edges engine.graph) edge feasible.keeps (edge_among engine.graph edge (subst (λ (es : List Edge). Contains es edge) (sym turning.whole.graph.edges) is)));
   bounds = λ lit kind edge holds got is.
       let front : Contains (take engine.asserted engine.solver.trail) lit = asserted_front problem query engine level lit turning under (true_from engine.solver level lit holds) in
-      let kept : KeepsBound (place_at engine.graph.places) (lit_bound (all_kinds problem query) lit) =
+      let kept : KeepsBound (place_at engine.graph.places) (bound_at (all_kinds problem query) lit) =
       bound_kept (all_kinds problem query) engine.graph (take engine.asserted engine.solver.trail) lit (place_at engine.graph.places) turning.asserted.kept feasible.keeps front in
-      let by_kind : lit_bound (all_kinds problem query) lit ≡ Some edge = ap (λ (o : Option Kind). bound_by o lit.positive) got ∙ is in
+      let by_kind : bound_at (all_kinds problem query) lit ≡ Some edge = ap (λ (o : Option Kind). bound_in o lit.positive) got ∙ is in
       subst (KeepsBound (place_at engine.graph.places)) by_kind kept;
 }
 
@@ -146,7 +146,7 @@ pub record IsPart (problem : Problem) (query : Query) (engine : Engine) (clauses
   pub attached : AreAttached engine.solver clauses
 
 -- such a part keeps the one literal of the present level
-pub part_point : (law : ClosureIsLeast) (problem : Problem) (query : Query) (engine : Engine) (clauses : List (List Lit)) (learned clause : List Lit) → IsTurning problem query engine → IsFeasible engine.graph → 0 < engine.solver.level
+pub part_point : (law : ClosureIsLeast) (problem : Problem) (query : Query) (engine : Engine) (clauses : List (List Lit)) (learned clause : List Lit) → IsTurning problem query engine → HasPlaces engine.graph → 0 < engine.solver.level
     → IsPart problem query engine clauses learned clause → HasOnePresent engine.solver clause
 part_point law problem query engine clauses learned clause turning feasible above part = record {
   lit = part.point.lit;
@@ -173,7 +173,7 @@ part_point law problem query engine clauses learned clause turning feasible abov
         false_below engine.solver (engine.solver.level - 1) lit (omega (arith, above)) (part.all_false lit among) (part.point.others lit among apart)
 
 -- and it is new by that literal
-pub part_new : (law : ClosureIsLeast) (problem : Problem) (query : Query) (engine : Engine) (turn : Turn) (clause : List Lit) → IsTurning problem query engine → IsFeasible engine.graph → engine.assumed < engine.solver.level
+pub part_new : (law : ClosureIsLeast) (problem : Problem) (query : Query) (engine : Engine) (turn : Turn) (clause : List Lit) → IsTurning problem query engine → HasPlaces engine.graph → engine.assumed < engine.solver.level
     → turn.begins ≡ engine.begins → Each (IsFalse (assigned engine.solver)) clause → (point : HasOnePresent engine.solver clause)
     → IsNewBy problem query (turned problem engine.log.items turn (length engine.log.items)) clause point.lit
 part_new law problem query engine turn clause turning feasible above same all_false point =
@@ -226,7 +226,7 @@ named_within problem query engine step turning studied = all_from_contains (Name
     subst (λ (c : List Lit). NamesBelow (length (all_kinds problem query)) c) one.2 (turning.whole.stored.named one.0 one.1))
 
 -- a tight part of a step may be learned
-pub tightened : (law : ClosureIsLeast) (problem : Problem) (query : Query) (engine : Engine) (step : Step) (hints : List ℕ) (log : List LogEntry) (tight : List Lit) → IsTurning problem query engine → IsFeasible engine.graph
+pub tightened : (law : ClosureIsLeast) (problem : Problem) (query : Query) (engine : Engine) (step : Step) (hints : List ℕ) (log : List LogEntry) (tight : List Lit) → IsTurning problem query engine → HasPlaces engine.graph
     → engine.assumed < engine.solver.level → IsStudied problem query engine step → log ≡ engine.log.items → hints ≡ step.hints → All (Contains step.clause) tight
     → Passes engine.tester.edges engine.tester.kinds (named (logged problem log) hints) tight → IsTight engine.tester.edges engine.tester.kinds (named (logged problem log) hints) tight
     → IsTightened problem query engine (record { clause = tight; hints = step.hints })

@@ -21,7 +21,8 @@ use Rattle.gp_sat.specs.Looking.{IsTrueLit}
 use Rattle.gp_sat.specs.SolverLaws.{Adds, added, adds_literal, added_cases, added_stays}
 use Rattle.gp_search.specs.declared.engine.Engine.{Engine}
 use Rattle.gp_search.specs.declared.engine.Level.{Level}
-use Rattle.gp_search.specs.Bounds.{lit_bound, under, bounds_along}
+use Rattle.gp_search.specs.Bounds.{under, bounds_along}
+use Rattle.gp_clause.specs.Kind.{bound_at}
 use Rattle.gp_search.specs.Inside.{all_kinds, IsTurning, IsAsserted, IsReasoned, IsAssuming, IsGraphOf, IsLevelled, IsTrueTo, no_level}
 use Rattle.gp_search.specs.Moves.{BeginsLevel}
 use Rattle.gp_search.proofs.Lists.{contains_cases, here, there}
@@ -255,7 +256,7 @@ passed_next problem query engine d next turning within holds is =
 front_bounds : (kinds : List Kind) (trail rest lits : List Lit) (asserted low : ℕ) → trail ++ rest ≡ lits → low ≤ asserted → low ≤ length trail
     → take (length (bounds_along kinds (take low trail))) (bounds_along kinds (take asserted lits)) ≡ bounds_along kinds (take low trail)
 front_bounds kinds trail rest lits asserted low is less within =
-    let f = λ (lit : Lit). under lit.variable (lit_bound kinds lit) in
+    let f = λ (lit : Lit). under lit.variable (bound_at kinds lit) in
     let front : take low lits ≡ take low trail = ap (take low) (sym is) ∙ take-append-le low trail rest within in
     let parts : take asserted lits ≡ take low trail ++ drop low (take asserted lits) =
     sym (take-append-drop low (take asserted lits)) ∙ ap (λ (ls : List Lit). ls ++ drop low (take asserted lits)) (take-take low asserted lits less ∙ front) in

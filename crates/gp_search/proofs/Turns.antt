@@ -13,7 +13,7 @@ use Rattle.gp_clause.specs.declared.problem.Query.{Query}
 use Rattle.gp_clause.specs.Clause.{NamesBelow}
 use Rattle.gp_clause.specs.Problem.{IsValidProblem, IsValidQuery}
 use Rattle.gp_derivation.specs.declared.log.LogEntry.{LogEntry}
-use Rattle.gp_derivation.specs.Log.{LogGrows, logged}
+use Rattle.gp_derivation.specs.Log.{IsPure, LogGrows, logged}
 use Rattle.gp_base.specs.ListLaws.{slice_get_front, slice_get_back}
 use Rattle.gp_derivation.specs.Numbering.{size_of}
 use Rattle.gp_difference.specs.Graph.{GraphForm}
@@ -29,6 +29,7 @@ use Rattle.gp_search.specs.Bounds.{bounds_along}
 use Rattle.gp_search.specs.Inside.{all_kinds, IsPlain, IsMarked, IsStored, IsKeeping, IsPassing, IsGraphOf, IsWhole, IsTaking, IsTurning, IsIdle, IsBlank, IsTesterOf}
 use Rattle.gp_search.specs.Moves.{retired, IsRetired, IsRoomy, of_clauses}
 use Rattle.gp_search.proofs.LearnedSteps.{clauses_counted, clause_got}
+use Rattle.gp_search.proofs.Purity.{pure_within}
 use Rattle.gp_search.proofs.Taught.{taught_none}
 
 -- a solver that grows has room
@@ -306,6 +307,7 @@ finished problem query engine solver graph grows whole done undone =
         marked = λ place mark. done.kept place mark (whole.keeping.marked place mark);
       };
       marked = whole.marked;
+      pure = λ place is. let mark = whole.marked.pure place is in done.kept place mark (whole.keeping.marked place mark);
       graph = record { points = ap (λ (g : GraphForm). g.points) undone ∙ whole.graph.points; edges = ap (λ (g : GraphForm). g.edges) undone ∙ whole.graph.edges };
       tester = whole.tester;
       variables = omega (arith, done.variables, whole.variables);
@@ -394,7 +396,8 @@ new_idle problem engine valid log pure solver graph kept tester learned = record
     current = λ place low high. absurd (omega (arith, low, high));
     marked = λ place mark. absurd (false≢true (sym (ap (λ (bs : List Bool). get_or bs place false) pure) ∙ mark));
   };
-  marked = subst (λ (es : List LogEntry). IsMarked problem es engine.pure.items) (sym log) (subst (λ (bs : List Bool). IsMarked problem [] bs) (sym pure) (record { size = refl; plain = λ place is. absurd (false≢true is) }));
+  marked = subst (λ (es : List LogEntry). IsMarked problem es engine.pure.items) (sym log) (subst (λ (bs : List Bool). IsMarked problem [] bs) (sym pure) (record { size = refl; plain = λ place is. absurd (false≢true is); pure = λ place is. absurd (none_pure place is) }));
+  pure = λ place is. absurd (none_pure place (subst (λ (es : List LogEntry). IsPure problem es place) log is));
   graph = graph;
   tester = tester;
   variables = omega (arith, ap (λ (s : SolverForm). length s.values) solver, length-replicate {A = Option Assigned} (length problem.kinds) None);
@@ -403,6 +406,9 @@ new_idle problem engine valid log pure solver graph kept tester learned = record
   few = omega (arith, learned);
 }
   where
+    none_pure : (place : ℕ) → IsPure problem [] place → ⊥
+    none_pure place is = let within = pure_within problem [] place is in absurd (omega (arith, within))
+
     empty_passing : IsPassing problem [] [] 0 0
     empty_passing = record {
       began = omega arith;

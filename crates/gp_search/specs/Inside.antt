@@ -11,7 +11,7 @@ use Rattle.gp_derivation.specs.declared.record.Turn.{Turn}
 use Rattle.gp_derivation.specs.Log.{IsLearned, IsPure, LogPasses, logged}
 use Rattle.gp_derivation.specs.Numbering.{size_of}
 use Rattle.gp_derivation.specs.Spent.{LearnsWhatIsNew, LearnsWhatIsTight}
-use Rattle.gp_derivation.specs.Step.{Passes}
+use Rattle.gp_certificate.specs.Step.{Passes}
 use Rattle.gp_derivation.specs.Tester.{TesterForm}
 use Rattle.gp_difference.specs.Graph.{GraphForm}
 use Rattle.gp_sat.specs.declared.assigned.Assigned.{Assigned}
@@ -34,10 +34,11 @@ pub record IsPlain (problem : Problem) (log : List LogEntry) (place : ℕ) : Typ
   pub pure : IsPure problem log place
   pub below : (entry : LogEntry) → slice_get log place ≡ Some entry → NamesBelow (length problem.kinds) entry.step.clause
 
--- each entry has a mark, and the marked ones are plain
+-- each entry has a mark, the marked ones are plain, and each pure one is marked
 pub record IsMarked (problem : Problem) (log : List LogEntry) (marks : List Bool) : Type 0 where
   pub size : length marks ≡ length log
   pub plain : (place : ℕ) → slice_index_or marks place false ≡ true → IsPlain problem log place
+  pub pure : (place : ℕ) → IsPure problem log place → slice_index_or marks place false ≡ true
 
 -- the clauses of the solver are those that hints number; the base clauses are attached, and each entry that is attached
 -- is plain or of the turn; and what is attached names variables below the number
@@ -165,6 +166,10 @@ pub record IsTaking (problem : Problem) (query : Query) (engine : Engine) : Type
   pub bottom : engine.solver.level ≡ 0
   pub learned : engine.learned ≡ length engine.log.items
 
+-- each pure entry of a log is attached, so that the queries to come have it
+abbrev pub KeepsPure : Problem → List LogEntry → List Stored → Type 0
+KeepsPure problem log clauses = (place : ℕ) → IsPure problem log place → IsAttached clauses (length problem.clauses + place)
+
 -- no variable of a solver is assigned
 pub record IsBlank (s : SolverForm) : Type 0 where
   pub values : s.values ≡ replicate (length s.values) None
@@ -178,6 +183,7 @@ pub record IsIdle (problem : Problem) (engine : Engine) : Type 0 where
   pub stored : IsStored problem (length engine.log.items) (length problem.kinds) engine.log.items engine.solver.clauses
   pub keeping : IsKeeping (length problem.clauses) (length engine.log.items) (length engine.log.items) engine.pure.items engine.solver.clauses
   pub marked : IsMarked problem engine.log.items engine.pure.items
+  pub pure : KeepsPure problem engine.log.items engine.solver.clauses
   pub graph : IsGraphOf problem engine.graph
   pub tester : IsTesterOf problem engine.tester
   pub variables : length problem.kinds ≤ length engine.solver.values

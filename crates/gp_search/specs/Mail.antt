@@ -1,5 +1,6 @@
 -- What passes clauses between the searches of one problem.
 use Rattle.std.specs.Prelude.{ℕ, ◌≡◌, ◌+◌, ◌<◌, ◌≤◌, ◌⊎◌, ◌^◌, ◌-◌, Option, None, Some, List, [], ◌∷◌, ◌++◌, length, map, min}
+use Rattle.gp_base.specs.Counts.{one_more}
 use Rattle.gp_clause.specs.declared.lit.Lit.{Lit}
 use Rattle.gp_clause.specs.declared.problem.Problem.{Problem}
 use Rattle.gp_derivation.specs.declared.exchange.SharedClause.{SharedClause}
@@ -13,10 +14,6 @@ pub record MailForm : Type 0 where
   pub gave : List SharedClause
   pub offered : List (ℕ × List Lit)
   pub empty : ℕ
-
--- a count after one more: it stays at its last value once it has come there
-abbrev pub one_more : ℕ → ℕ
-one_more count = min (count + 1) (2 ^ 64 - 1)
 
 -- what a mail tells after a take: the clause that it gave, or that it was found empty once more
 abbrev pub Gives : Option MailForm → Option MailForm → Option SharedClause → Type 0

@@ -6,15 +6,15 @@ use Rattle.gp_clause.specs.declared.problem.Problem.{Problem}
 use Rattle.gp_clause.specs.declared.problem.Query.{Query}
 use Rattle.gp_clause.specs.Clause.{NamesBelow}
 use Rattle.gp_clause.specs.Valuation.{Meets}
-use Rattle.gp_derivation.specs.declared.certificate.Certificate.{Certificate}
+use Rattle.gp_certificate.specs.declared.certificate.Certificate.{Certificate}
 use Rattle.gp_derivation.specs.declared.exchange.SharedClause.{SharedClause}
 use Rattle.gp_derivation.specs.declared.log.LogEntry.{LogEntry}
-use Rattle.gp_derivation.specs.declared.step.Step.{Step}
-use Rattle.gp_derivation.specs.Certificate.{Refutes}
+use Rattle.gp_certificate.specs.declared.step.Step.{Step}
+use Rattle.gp_certificate.specs.Certificate.{Refutes}
 use Rattle.gp_derivation.specs.Fit.{IsFit}
 use Rattle.gp_derivation.specs.Log.{LearnedPasses, logged}
 use Rattle.gp_derivation.specs.Spent.{IsNewBy, turned}
-use Rattle.gp_derivation.specs.Step.{named}
+use Rattle.gp_certificate.specs.Step.{named}
 use Rattle.gp_derivation.specs.Tight.{IsTight}
 use Rattle.gp_difference.specs.declared.fault.Asserted.{Asserted}
 use Rattle.gp_difference.specs.declared.fault.Asserted.TheVariants.{Kept, Cycle}
@@ -33,7 +33,8 @@ use Rattle.gp_search.specs.declared.turn.Descent.TheVariants.{Verdict as Ended, 
 use Rattle.gp_search.specs.declared.verdict.Verdict.{Verdict}
 use Rattle.gp_search.specs.declared.verdict.Verdict.TheVariants.{Model, Refuted, Spent}
 use Rattle.gp_search.specs.Inside.{all_kinds, turn_from, IsConflict, IsBlank, false_lit}
-use Rattle.gp_search.specs.Mail.{Gives, MailForm, Offers, SharesWith, WasOffered, one_more, taken_entry}
+use Rattle.gp_search.specs.Mail.{Gives, MailForm, Offers, SharesWith, WasOffered, taken_entry}
+use Rattle.gp_base.specs.Counts.{one_more}
 
 -- the log, the places where the turn begins and begins to learn, and the number of variables stay
 pub record KeepsLog (old new : Engine) : Type 0 where
@@ -62,9 +63,9 @@ abbrev pub MovesGraph : Engine → Engine → Type 0
 MovesGraph old new = new ≡ record old { graph = new.graph; asserted = new.asserted }
 
 -- what asserting bounds came to: the graph keeps those of the whole trail, or the tags of the cycle name a conflict
-abbrev pub IsAnswered : Problem → Query → Engine → Asserted → Type 0
-IsAnswered problem query engine Kept = engine.asserted ≡ length engine.solver.trail
-IsAnswered problem query engine Cycle = IsConflict problem query engine.solver (map (false_lit engine.solver) engine.graph.cycle) None
+abbrev pub AssertsAll : Problem → Query → Engine → Asserted → Type 0
+AssertsAll problem query engine Kept = engine.asserted ≡ length engine.solver.trail
+AssertsAll problem query engine Cycle = IsConflict problem query engine.solver (map (false_lit engine.solver) engine.graph.cycle) None
 
 -- what asserting the next bound came to: the graph has one literal more, or the tags of the cycle name a conflict
 abbrev pub IsNext : Problem → Query → Engine → Engine → Asserted → Type 0

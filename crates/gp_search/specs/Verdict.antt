@@ -1,22 +1,16 @@
 -- What a search answers.
-use Rattle.std.specs.Prelude.{◌≡◌, ℕ, ◌+◌, ◌*◌, ◌^◌, ◌<◌, ◌≤◌, ℤ, Option, List, ◌++◌, length, All}
-use Rattle.gp_clause.specs.declared.edge.Edge.{Edge}
+use Rattle.std.specs.Prelude.{◌≡◌, ℕ, ◌+◌, ◌*◌, ◌^◌, ◌<◌, ◌≤◌, Option, List, ◌++◌, length, All}
 use Rattle.gp_clause.specs.declared.problem.Problem.{Problem}
 use Rattle.gp_clause.specs.declared.problem.Query.{Query}
-use Rattle.gp_clause.specs.Edge.{Keeps}
 use Rattle.gp_clause.specs.Valuation.{Meets}
 use Rattle.gp_derivation.specs.declared.log.LogEntry.{LogEntry}
 use Rattle.gp_derivation.specs.declared.record.Turn.{Turn}
-use Rattle.gp_derivation.specs.Certificate.{Refutes}
+use Rattle.gp_certificate.specs.Certificate.{Refutes}
 use Rattle.gp_derivation.specs.Log.{IsLearned, IsTaken, LogPasses}
 use Rattle.gp_derivation.specs.Spent.{IsSpentOn}
 use Rattle.gp_search.specs.declared.verdict.Verdict.{Verdict}
 use Rattle.gp_search.specs.declared.verdict.Verdict.TheVariants.{Model, Refuted, Spent}
 use Rattle.gp_search.specs.Mail.{MailForm, SharesWith}
-
--- some places keep every edge
-abbrev pub IsSolvable : List Edge → Type 0
-IsSolvable edges = (place : ℕ → ℤ) × All (Keeps place) edges
 
 -- what contracts see of a search: its problem, the entries that it has logged, and the place of the log from which its last
 -- turn learned

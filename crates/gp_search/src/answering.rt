@@ -1,7 +1,7 @@
 ghost use Rattle.std.specs.Prelude.{◌≡◌, ◌+◌, ◌<◌, ◌≤◌, ◌++◌, length, IfOk, All, Contains, Some, slice_index_or};
 ghost use Rattle.gp_clause.specs.Lit.{opposite};
 ghost use Rattle.gp_clause.specs.Valuation.{Meets};
-ghost use Rattle.gp_derivation.specs.Certificate.{Refutes};
+ghost use Rattle.gp_certificate.specs.Certificate.{Refutes};
 ghost use Rattle.gp_derivation.specs.Log.{LearnedPasses};
 ghost use Rattle.gp_sat.specs.State.{assigned};
 ghost use Rattle.gp_sat.specs.Learning.{IsFinal};
@@ -9,11 +9,13 @@ ghost use Rattle.gp_sat.specs.Standing.{IsFalse, Each};
 ghost use Rattle.gp_search.specs.Inside.{IsTurning, IsConflict, IsSettled, all_kinds};
 ghost use Rattle.gp_search.specs.Moves.{IsAllAssigned, IsAllTrue, IsTruthOf};
 
+use crate::asked::Asked;
 use crate::engine::{Conflict, Engine};
 use crate::lesson::add_number;
 use gp_base::Row;
-use gp_clause::{Clause, Lit, Problem, Query, Valuation, true_or_false};
-use gp_derivation::{Certificate, Step, cone, cone_checks};
+use gp_certificate::{Certificate, Step};
+use gp_clause::{Clause, Lit, Valuation, true_or_false};
+use gp_derivation::{cone, cone_checks};
 use gp_sat::Learned;
 use std::alloc::AllocError;
 
@@ -21,37 +23,35 @@ impl Engine {
     // The certificate of a conflict while every decision is an assumption.
     pub(crate) fn refute(
         &mut self,
-        problem: &Problem,
-        query: &Query,
+        asked: &Asked<'_>,
         conflict: &Conflict,
     ) -> Result<Certificate, AllocError>
-        requires turning { IsTurning problem.now query.now self.old }
-        requires conflict { IsConflict problem.now query.now self.old.solver conflict.now.lits.items conflict.now.number }
+        requires turning { IsTurning asked.now.problem.now asked.now.query.now self.old }
+        requires conflict { IsConflict asked.now.problem.now asked.now.query.now self.old.solver conflict.now.lits.items conflict.now.number }
         requires low { self.old.solver.level ≤ self.old.assumed }
         ensures same { self.new ≡ self.old }
-        ensures refutes { IfOk result (Refutes problem.now query.now) }
+        ensures refutes { IfOk result (Refutes asked.now.problem.now asked.now.query.now) }
     {
         let learned = self.analyse_final(conflict.lits.as_slice())?;
         let step = Step {
             clause: learned.clause,
             hints: add_number(learned.hints, conflict.number)?,
         };
-        self.certify(problem, query, &step)
+        self.certify(asked, &step)
     }
 
     // The certificate of an assumption that is false while every decision is an assumption.
     pub(crate) fn refute_assumption(
         &mut self,
-        problem: &Problem,
-        query: &Query,
+        asked: &Asked<'_>,
         lit: Lit,
     ) -> Result<Certificate, AllocError>
-        requires turning { IsTurning problem.now query.now self.old }
-        requires assumed { Contains query.now.assumed lit }
+        requires turning { IsTurning asked.now.problem.now asked.now.query.now self.old }
+        requires assumed { Contains asked.now.query.now.assumed lit }
         requires fell { IsFalse (assigned self.old.solver) lit }
         requires low { self.old.solver.level ≤ self.old.assumed }
         ensures same { self.new ≡ self.old }
-        ensures refutes { IfOk result (Refutes problem.now query.now) }
+        ensures refutes { IfOk result (Refutes asked.now.problem.now asked.now.query.now) }
     {
         let learned = self.analyse_final(&[lit])?;
         let mut lits = learned.clause.into_vec();
@@ -60,7 +60,7 @@ impl Engine {
             clause: Clause::of(lits).unwrap(),
             hints: learned.hints,
         };
-        self.certify(problem, query, &step)
+        self.certify(asked, &step)
     }
 
     // The negated decisions that a conflict rests on.
@@ -73,36 +73,31 @@ impl Engine {
     }
 
     // The cone of a step that has negated assumptions alone.
-    fn certify(
-        &self,
-        problem: &Problem,
-        query: &Query,
-        step: &Step,
-    ) -> Result<Certificate, AllocError>
-        requires turning { IsTurning problem.now query.now self.now }
-        requires passes { LearnedPasses problem.now query.now.locals self.now.log.items self.now.begins (length self.now.log.items) step.now }
-        requires negated { All (λ lit. Contains query.now.assumed (opposite lit)) step.now.clause }
-        ensures { IfOk result (Refutes problem.now query.now) }
+    fn certify(&self, asked: &Asked<'_>, step: &Step) -> Result<Certificate, AllocError>
+        requires turning { IsTurning asked.now.problem.now asked.now.query.now self.now }
+        requires passes { LearnedPasses asked.now.problem.now asked.now.query.now.locals self.now.log.items self.now.begins (length self.now.log.items) step.now }
+        requires negated { All (λ lit. Contains asked.now.query.now.assumed (opposite lit)) step.now.clause }
+        ensures { IfOk result (Refutes asked.now.problem.now asked.now.query.now) }
     {
         cone_checks();
         cone(
             *self.log.allocator(),
-            problem.clauses.len() as u32,
+            asked.problem.clauses.len() as u32,
             self.log.as_slice(),
             step,
         )
     }
 
     // The values of the trail, and the places of the graph.
-    pub(crate) fn model(&self, problem: &Problem, query: &Query) -> Result<Valuation, AllocError>
-        requires turning { IsTurning problem.now query.now self.now }
+    pub(crate) fn model(&self, asked: &Asked<'_>) -> Result<Valuation, AllocError>
+        requires turning { IsTurning asked.now.problem.now asked.now.query.now self.now }
         requires settled { IsSettled self.now }
-        requires all { IsAllAssigned (length (all_kinds problem.now query.now)) self.now.solver }
-        requires assumed { IsAllTrue query.now.assumed self.now.solver }
-        ensures { IfOk result (Meets problem.now query.now) }
+        requires all { IsAllAssigned (length (all_kinds asked.now.problem.now asked.now.query.now)) self.now.solver }
+        requires assumed { IsAllTrue asked.now.query.now.assumed self.now.solver }
+        ensures { IfOk result (Meets asked.now.problem.now asked.now.query.now) }
     {
         true_or_false();
-        let variables = problem.kinds.len() + query.locals.len();
+        let variables = asked.problem.kinds.len() + asked.query.locals.len();
         let truth = self.truth(variables as u32)?;
         let places = Vec::from_slice(*self.log.allocator(), self.graph.places())?;
         Ok(Valuation {

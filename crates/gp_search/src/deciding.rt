@@ -7,40 +7,37 @@ ghost use Rattle.gp_sat.specs.Standing.{IsClosed};
 ghost use Rattle.gp_search.specs.Inside.{IsTurning, IsSettled, all_kinds};
 ghost use Rattle.gp_search.specs.Moves.{IsAllTrue, IsOpen, KeepsLog, IsFound, GoesFurther, DecidesNext, MovesNext, BeginsLevel};
 
+use crate::asked::Asked;
 use crate::bounds::phase;
 use crate::engine::{Engine, Level};
 use crate::verdict::Verdict;
-use gp_clause::{Lit, Problem, Query};
+use gp_clause::Lit;
 use std::alloc::AllocError;
 
 impl Engine {
     // Decides the next assumption or variable, or finds the verdict: the query is refuted where the assumption is false,
     // and met where no variable is left.
-    pub(crate) fn decide(
-        &mut self,
-        problem: &Problem,
-        query: &Query,
-    ) -> Result<Option<Verdict>, AllocError>
-        requires turning { IsTurning problem.now query.now self.old }
+    pub(crate) fn decide(&mut self, asked: &Asked<'_>) -> Result<Option<Verdict>, AllocError>
+        requires turning { IsTurning asked.now.problem.now asked.now.query.now self.old }
         requires settled { IsSettled self.old }
-        ensures turning { IsTurning problem.now query.now self.new }
+        ensures turning { IsTurning asked.now.problem.now asked.now.query.now self.new }
         ensures same { KeepsLog self.old self.new }
-        ensures found { IfOk result (λ found. MatchOption found (GoesFurther self.old.solver self.new.solver) (IsFound problem.now query.now)) }
+        ensures found { IfOk result (λ found. MatchOption found (GoesFurther self.old.solver self.new.solver) (IsFound asked.now.problem.now asked.now.query.now)) }
     {
-        match self.open_assumption(problem, query) {
-            Some(lit) => self.assume(problem, query, lit),
-            None => self.fill(problem, query),
+        match self.open_assumption(asked) {
+            Some(lit) => self.assume(asked, lit),
+            None => self.fill(asked),
         }
     }
 
     // The first assumption that is not true. It looks at those alone that were not seen to be true.
-    fn open_assumption(&mut self, problem: &Problem, query: &Query) -> Option<Lit>
-        requires { IsTurning problem.now query.now self.old }
-        ensures turning { IsTurning problem.now query.now self.new }
+    fn open_assumption(&mut self, asked: &Asked<'_>) -> Option<Lit>
+        requires { IsTurning asked.now.problem.now asked.now.query.now self.old }
+        ensures turning { IsTurning asked.now.problem.now asked.now.query.now self.new }
         ensures same { MovesNext self.old self.new }
-        ensures open { MatchOption result (IsAllTrue query.now.assumed self.new.solver) (IsOpen query.now.assumed self.new.solver) }
+        ensures open { MatchOption result (IsAllTrue asked.now.query.now.assumed self.new.solver) (IsOpen asked.now.query.now.assumed self.new.solver) }
     {
-        let assumed = query.assumed.as_slice();
+        let assumed = asked.query.assumed.as_slice();
         while self.next < assumed.len() {
             let lit = assumed[self.next];
             if !self.is_true(lit) {
@@ -63,37 +60,32 @@ impl Engine {
     }
 
     // Decides an assumption, or refutes the query where it is false.
-    fn assume(
-        &mut self,
-        problem: &Problem,
-        query: &Query,
-        lit: Lit,
-    ) -> Result<Option<Verdict>, AllocError>
-        requires turning { IsTurning problem.now query.now self.old }
+    fn assume(&mut self, asked: &Asked<'_>, lit: Lit) -> Result<Option<Verdict>, AllocError>
+        requires turning { IsTurning asked.now.problem.now asked.now.query.now self.old }
         requires settled { IsSettled self.old }
-        requires next { IsOpen query.now.assumed self.old.solver lit }
-        ensures turning { IsTurning problem.now query.now self.new }
+        requires next { IsOpen asked.now.query.now.assumed self.old.solver lit }
+        ensures turning { IsTurning asked.now.problem.now asked.now.query.now self.new }
         ensures same { KeepsLog self.old self.new }
-        ensures found { IfOk result (λ found. MatchOption found (GoesFurther self.old.solver self.new.solver) (IsFound problem.now query.now)) }
+        ensures found { IfOk result (λ found. MatchOption found (GoesFurther self.old.solver self.new.solver) (IsFound asked.now.problem.now asked.now.query.now)) }
     {
         if self.solver.value(lit.variable).is_some() {
-            let certificate = self.refute_assumption(problem, query, lit)?;
+            let certificate = self.refute_assumption(asked, lit)?;
             return Ok(Some(Verdict::Refuted(certificate)));
         }
-        self.begin_level(problem, query, lit)?;
+        self.begin_level(asked, lit)?;
         self.assumed = self.solver.level();
         Ok(None)
     }
 
     // Decides a literal, on a trail all bounds of which the graph has.
-    fn begin_level(&mut self, problem: &Problem, query: &Query, lit: Lit) -> Result<(), AllocError>
-        requires turning { IsTurning problem.now query.now self.old }
+    fn begin_level(&mut self, asked: &Asked<'_>, lit: Lit) -> Result<(), AllocError>
+        requires turning { IsTurning asked.now.problem.now asked.now.query.now self.old }
         requires settled { IsSettled self.old }
         requires named { lit.variable < length self.old.solver.values }
         requires free { assigned self.old.solver lit.variable ≡ None }
         ensures ok { OnOk result (BeginsLevel self.old self.new lit) }
         ensures sound { OnOk result (IsSound self.new.solver) }
-        ensures turning { OnErr result (IsTurning problem.now query.now self.new) }
+        ensures turning { OnErr result (IsTurning asked.now.problem.now asked.now.query.now self.new) }
         ensures same { OnErr result (KeepsLog self.old self.new) }
     {
         self.levels.push(Level {
@@ -105,20 +97,20 @@ impl Engine {
     }
 
     // Decides the first variable in the order of decisions, or gives the model where none is left.
-    fn fill(&mut self, problem: &Problem, query: &Query) -> Result<Option<Verdict>, AllocError>
-        requires turning { IsTurning problem.now query.now self.old }
+    fn fill(&mut self, asked: &Asked<'_>) -> Result<Option<Verdict>, AllocError>
+        requires turning { IsTurning asked.now.problem.now asked.now.query.now self.old }
         requires settled { IsSettled self.old }
-        requires assumed { IsAllTrue query.now.assumed self.old.solver }
-        ensures turning { IsTurning problem.now query.now self.new }
+        requires assumed { IsAllTrue asked.now.query.now.assumed self.old.solver }
+        ensures turning { IsTurning asked.now.problem.now asked.now.query.now self.new }
         ensures same { KeepsLog self.old self.new }
         ensures first { IfOk result (λ found. MatchOption found (DecidesNext self.old.solver self.new.solver) (λ _. IsFull self.old.solver)) }
-        ensures found { IfOk result (λ found. MatchOption found (GoesFurther self.old.solver self.new.solver) (IsFound problem.now query.now)) }
+        ensures found { IfOk result (λ found. MatchOption found (GoesFurther self.old.solver self.new.solver) (IsFound asked.now.problem.now asked.now.query.now)) }
     {
         match self.free_variable() {
-            None => Ok(Some(Verdict::Model(self.model(problem, query)?))),
+            None => Ok(Some(Verdict::Model(self.model(asked)?))),
             Some(variable) => {
-                let positive = phase(problem, query, self.graph.places(), variable);
-                self.begin_level(problem, query, Lit { variable, positive })?;
+                let positive = phase(asked, self.graph.places(), variable);
+                self.begin_level(asked, Lit { variable, positive })?;
                 Ok(None)
             }
         }

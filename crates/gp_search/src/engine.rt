@@ -1,6 +1,6 @@
 ghost use Rattle.std.specs.Prelude.{◌≡◌, [], IfOk, length};
 ghost use Rattle.gp_clause.specs.Problem.{IsValidProblem};
-ghost use Rattle.gp_search.specs.Verdict.{IsSolvable};
+ghost use Rattle.gp_clause.specs.Edge.{IsSolvable};
 ghost use Rattle.gp_search.specs.Inside.{IsIdle, IsGraphOf};
 ghost use Rattle.gp_search.specs.Moves.{of_clauses};
 

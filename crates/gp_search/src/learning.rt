@@ -1,14 +1,17 @@
-ghost use Rattle.std.specs.Prelude.{◌≡◌, ◌+◌, ◌<◌, ◌^◌, ◌≤◌, ◌⊎◌, length, All, OnOk, OnErr, IsTrue};
+ghost use Rattle.std.specs.Prelude.{◌≡◌, ◌+◌, ◌<◌, ◌^◌, ◌≤◌, ◌⊎◌, length, All, OnOk, OnErr, IsTrue, ◌↔◌, true};
+ghost use Rattle.gp_clause.specs.Clause.{NamesBelow};
 ghost use Rattle.gp_sat.specs.Changes.{MayAttach};
 ghost use Rattle.gp_sat.specs.Sound.{IsSound};
 ghost use Rattle.gp_search.specs.Inside.{IsTurning, IsConflict, most_steps};
 ghost use Rattle.gp_search.specs.Moves.{IsLesson, IsBackAt, KeepsLog, LearnsAndOffers, LearnsOne, raised, RestsOnMarked, is_marked};
 
+use crate::asked::Asked;
 use crate::engine::{Conflict, Engine};
 use crate::lesson::LearnedStep;
 use crate::mail::Mail;
-use gp_clause::{Lit, Problem, Query};
-use gp_derivation::{LogEntry, Origin, Step, log_grows};
+use gp_certificate::Step;
+use gp_clause::{Lit, Problem};
+use gp_derivation::{LogEntry, Origin, log_grows};
 use gp_sat::Solver;
 use std::alloc::AllocError;
 
@@ -16,53 +19,47 @@ impl Engine {
     // Learns from a conflict above the assumptions, and offers what is learned where it is fit to share.
     pub(crate) fn learn<M: Mail>(
         &mut self,
-        problem: &Problem,
-        query: &Query,
+        asked: &Asked<'_>,
         conflict: &Conflict,
         mail: &mut M,
     ) -> Result<(), AllocError>
-        requires turning { IsTurning problem.now query.now self.old }
-        requires conflict { IsConflict problem.now query.now self.old.solver conflict.now.lits.items conflict.now.number }
+        requires turning { IsTurning asked.now.problem.now asked.now.query.now self.old }
+        requires conflict { IsConflict asked.now.problem.now asked.now.query.now self.old.solver conflict.now.lits.items conflict.now.number }
         requires above { self.old.assumed < self.old.solver.level }
-        requires few { length problem.now.clauses + most_steps self.old.log.items self.old.learned + 2 < 2 ^ 32 }
-        requires mail { M.problem mail.old ≡ problem.now }
-        ensures turning { IsTurning problem.now query.now self.new }
+        requires few { length asked.now.problem.now.clauses + most_steps self.old.log.items self.old.learned + 2 < 2 ^ 32 }
+        requires mail { M.problem mail.old ≡ asked.now.problem.now }
+        ensures turning { IsTurning asked.now.problem.now asked.now.query.now self.new }
         ensures problem { M.problem mail.new ≡ M.problem mail.old }
         ensures number { M.number mail.new ≡ M.number mail.old }
         ensures may_give { M.may_give mail.new ≡ M.may_give mail.old }
-        ensures ok { OnOk result (LearnsAndOffers problem.now self.old self.new (M.told mail.old) (M.told mail.new)) }
+        ensures ok { OnOk result (LearnsAndOffers asked.now.problem.now self.old self.new (M.told mail.old) (M.told mail.new)) }
         ensures err { OnErr result (KeepsLog self.old self.new ⊎ LearnsOne self.old self.new) }
     {
-        self.log_lesson(problem, query, conflict)?;
-        self.share(problem, query, mail)
+        self.log_lesson(asked, conflict)?;
+        self.share(asked, mail)
     }
 
     // Logs what a conflict above the assumptions teaches.
-    fn log_lesson(
-        &mut self,
-        problem: &Problem,
-        query: &Query,
-        conflict: &Conflict,
-    ) -> Result<(), AllocError>
-        requires turning { IsTurning problem.now query.now self.old }
-        requires conflict { IsConflict problem.now query.now self.old.solver conflict.now.lits.items conflict.now.number }
+    fn log_lesson(&mut self, asked: &Asked<'_>, conflict: &Conflict) -> Result<(), AllocError>
+        requires turning { IsTurning asked.now.problem.now asked.now.query.now self.old }
+        requires conflict { IsConflict asked.now.problem.now asked.now.query.now self.old.solver conflict.now.lits.items conflict.now.number }
         requires above { self.old.assumed < self.old.solver.level }
-        requires few { length problem.now.clauses + most_steps self.old.log.items self.old.learned + 2 < 2 ^ 32 }
-        ensures turning { IsTurning problem.now query.now self.new }
+        requires few { length asked.now.problem.now.clauses + most_steps self.old.log.items self.old.learned + 2 < 2 ^ 32 }
+        ensures turning { IsTurning asked.now.problem.now asked.now.query.now self.new }
         ensures ok { OnOk result (LearnsOne self.old self.new) }
         ensures err { OnErr result (KeepsLog self.old self.new) }
     {
-        let LearnedStep { step, level } = self.learned_step(problem, query, conflict)?;
-        self.back_to(problem, query, level);
-        self.keep(problem, query, step)?;
+        let LearnedStep { step, level } = self.learned_step(asked, conflict)?;
+        self.back_to(asked, level);
+        self.keep(asked, step)?;
         Ok(())
     }
 
     // Takes back the levels above one, and their bounds.
-    fn back_to(&mut self, problem: &Problem, query: &Query, level: u32)
-        requires turning { IsTurning problem.now query.now self.old }
+    fn back_to(&mut self, asked: &Asked<'_>, level: u32)
+        requires turning { IsTurning asked.now.problem.now asked.now.query.now self.old }
         requires below { level < self.old.solver.level }
-        ensures turning { IsTurning problem.now query.now self.new }
+        ensures turning { IsTurning asked.now.problem.now asked.now.query.now self.new }
         ensures back { IsBackAt self.old self.new level }
     {
         let begun = self.levels[level as usize];
@@ -75,12 +72,12 @@ impl Engine {
     }
 
     // Logs a step under the next number, attaches its clause, and raises the variables of it.
-    fn keep(&mut self, problem: &Problem, query: &Query, step: Step) -> Result<(), AllocError>
-        requires turning { IsTurning problem.now query.now self.old }
-        requires lesson { IsLesson problem.now query.now self.old.log.items self.old.begins step }
+    fn keep(&mut self, asked: &Asked<'_>, step: Step) -> Result<(), AllocError>
+        requires turning { IsTurning asked.now.problem.now asked.now.query.now self.old }
+        requires lesson { IsLesson asked.now.problem.now asked.now.query.now self.old.log.items self.old.begins step }
         requires may { MayAttach self.old.solver step.clause }
-        requires few { length problem.now.clauses + most_steps self.old.log.items self.old.learned + 2 < 2 ^ 32 }
-        ensures turning { IsTurning problem.now query.now self.new }
+        requires few { length asked.now.problem.now.clauses + most_steps self.old.log.items self.old.learned + 2 < 2 ^ 32 }
+        ensures turning { IsTurning asked.now.problem.now asked.now.query.now self.new }
         ensures ok { OnOk result (LearnsOne self.old self.new) }
         ensures err { OnErr result (KeepsLog self.old self.new) }
     {
@@ -89,7 +86,7 @@ impl Engine {
         self.pure.reserve(1)?;
         self.solver.attach(&step.clause)?;
         raise_all(&mut self.solver, step.clause.lits());
-        let pure = self.is_pure(problem, &step);
+        let pure = self.is_pure(asked.problem, &step);
         self.pure.push_reserved(pure);
         self.log.push_reserved(LogEntry {
             step,
@@ -98,21 +95,17 @@ impl Engine {
         Ok(())
     }
 
-    // Whether a step rests on the problem alone.
+    // Whether a step rests on the problem alone: its variables are those of the problem, and its hints name base clauses and
+    // pure entries.
     fn is_pure(&self, problem: &Problem, step: &Step) -> bool
-        ensures { IsTrue result → RestsOnMarked problem.now self.now.pure.items step.now }
+        ensures { IsTrue result ↔ RestsOnMarked problem.now self.now.pure.items step.now }
     {
-        let variables = problem.kinds.len();
-        let bases = problem.clauses.len();
-        step.clause
-            .lits()
-            .iter()
-            .all(|lit| (lit.variable as usize) < variables)
-            && step
-                .hints
-                .as_slice()
-                .iter()
-                .all(|hint| names_marked(self.pure.as_slice(), bases, *hint))
+        name_below(step.clause.lits(), problem.kinds.len())
+            && all_marked(
+                self.pure.as_slice(),
+                problem.clauses.len(),
+                step.hints.as_slice(),
+            )
     }
 }
 
@@ -126,6 +119,20 @@ fn raise_all(solver: &mut Solver, lits: &[Lit])
     for lit in lits {
         solver.raise(lit.variable);
     }
+}
+
+// Whether literals name variables below a count.
+fn name_below(lits: &[Lit], count: usize) -> bool
+    ensures { IsTrue result ↔ NamesBelow count lits.now }
+{
+    lits.iter().all(|lit| (lit.variable as usize) < count)
+}
+
+// Whether each hint names a base clause or a pure entry.
+fn all_marked(marks: &[bool], bases: usize, hints: &[u32]) -> bool
+    ensures { IsTrue result ↔ All (λ hint. is_marked marks.now bases hint ≡ true) hints.now }
+{
+    hints.iter().all(|hint| names_marked(marks, bases, *hint))
 }
 
 // Whether a hint names a base clause or a pure entry.

@@ -6,10 +6,11 @@ ghost use Rattle.gp_sat.specs.Standing.{IsFalse, Each};
 ghost use Rattle.gp_search.specs.Inside.{IsTurning, IsConflict};
 ghost use Rattle.gp_search.specs.Moves.{IsStudied, IsTightened, IsHigher, IsLearnedStep, with_number};
 
+use crate::asked::Asked;
 use crate::engine::{Conflict, Engine};
 use gp_base::Row;
-use gp_clause::{Lit, Problem, Query, closure_is_least};
-use gp_derivation::Step;
+use gp_certificate::Step;
+use gp_clause::{Lit, closure_is_least};
 use gp_sat::Learned;
 use std::alloc::AllocError;
 
@@ -24,34 +25,28 @@ impl Engine {
     // What the analysis of a conflict gives, with the number of the conflict's clause among the hints, made tight.
     pub(crate) fn learned_step(
         &mut self,
-        problem: &Problem,
-        query: &Query,
+        asked: &Asked<'_>,
         conflict: &Conflict,
     ) -> Result<LearnedStep, AllocError>
-        requires turning { IsTurning problem.now query.now self.old }
-        requires conflict { IsConflict problem.now query.now self.old.solver conflict.now.lits.items conflict.now.number }
+        requires turning { IsTurning asked.now.problem.now asked.now.query.now self.old }
+        requires conflict { IsConflict asked.now.problem.now asked.now.query.now self.old.solver conflict.now.lits.items conflict.now.number }
         requires above { self.old.assumed < self.old.solver.level }
         ensures same { self.new ≡ self.old }
-        ensures step { IfOk result (λ learned_step. IsLearnedStep problem.now query.now self.old learned_step.step learned_step.level) }
+        ensures step { IfOk result (λ learned_step. IsLearnedStep asked.now.problem.now asked.now.query.now self.old learned_step.step learned_step.level) }
     {
-        let found = self.study(problem, query, conflict)?;
-        let step = self.tighten(problem, query, found)?;
+        let found = self.study(asked, conflict)?;
+        let step = self.tighten(asked, found)?;
         let level = self.highest_below(step.clause.lits());
         Ok(LearnedStep { step, level })
     }
 
     // What the analysis of a conflict gives, with the number of the conflict's clause among the hints.
-    fn study(
-        &mut self,
-        problem: &Problem,
-        query: &Query,
-        conflict: &Conflict,
-    ) -> Result<Step, AllocError>
-        requires turning { IsTurning problem.now query.now self.old }
-        requires conflict { IsConflict problem.now query.now self.old.solver conflict.now.lits.items conflict.now.number }
+    fn study(&mut self, asked: &Asked<'_>, conflict: &Conflict) -> Result<Step, AllocError>
+        requires turning { IsTurning asked.now.problem.now asked.now.query.now self.old }
+        requires conflict { IsConflict asked.now.problem.now asked.now.query.now self.old.solver conflict.now.lits.items conflict.now.number }
         requires above { self.old.assumed < self.old.solver.level }
         ensures same { self.new ≡ self.old }
-        ensures studied { IfOk result (IsStudied problem.now query.now self.old) }
+        ensures studied { IfOk result (IsStudied asked.now.problem.now asked.now.query.now self.old) }
     {
         let learned = self.analyse(conflict.lits.as_slice())?;
         Ok(Step {
@@ -73,19 +68,22 @@ impl Engine {
 
     // A tight part of a step. It keeps the one literal of the present level: below that level the attached clauses and the
     // places refute nothing.
-    fn tighten(&mut self, problem: &Problem, query: &Query, step: Step) -> Result<Step, AllocError>
-        requires turning { IsTurning problem.now query.now self.old }
+    fn tighten(&mut self, asked: &Asked<'_>, step: Step) -> Result<Step, AllocError>
+        requires turning { IsTurning asked.now.problem.now asked.now.query.now self.old }
         requires above { self.old.assumed < self.old.solver.level }
-        requires studied { IsStudied problem.now query.now self.old step }
+        requires studied { IsStudied asked.now.problem.now asked.now.query.now self.old step }
         ensures same { self.new ≡ self.old }
-        ensures tightened { IfOk result (IsTightened problem.now query.now self.old) }
+        ensures tightened { IfOk result (IsTightened asked.now.problem.now asked.now.query.now self.old) }
     {
         closure_is_least();
         let _ = self.graph.places();
         let Step { clause, hints } = step;
-        let tight = self
-            .tester
-            .tighten(problem, self.log.as_slice(), hints.as_slice(), clause)?;
+        let tight = self.tester.tighten(
+            asked.problem,
+            self.log.as_slice(),
+            hints.as_slice(),
+            clause,
+        )?;
         Ok(Step {
             clause: tight,
             hints,

@@ -1,7 +1,9 @@
 ghost use Rattle.std.specs.Prelude.{◌≡◌, ◌≤◌, [], IfOk, OnOk, false, length};
 ghost use Rattle.gp_clause.specs.Problem.{IsValidProblem, IsValidQuery};
-ghost use Rattle.gp_search.specs.Verdict.{IsSolvable, HasRoom, Learns, LearnsAndShares, IsDue, ConcludesInTime};
+ghost use Rattle.gp_search.specs.Verdict.{HasRoom, Learns, LearnsAndShares, IsDue, ConcludesInTime};
+ghost use Rattle.gp_clause.specs.Edge.{IsSolvable};
 
+use crate::asked::Asked;
 use crate::engine::Engine;
 use crate::mail::Mail;
 use crate::verdict::Verdict;
@@ -88,8 +90,12 @@ impl<'a> Search<'a> {
         ensures verdict { IfOk result (IsDue self.old.problem query.now budget self.new.log (length self.old.log) self.new.learned) }
         ensures enough { IfOk result (ConcludesInTime self.old.problem query.now budget) }
     {
-        let verdict = self.engine.turn(self.problem, query, budget, mail);
-        self.engine.finish(self.problem, query);
+        let asked = Asked {
+            problem: self.problem,
+            query,
+        };
+        let verdict = self.engine.turn(&asked, budget, mail);
+        self.engine.finish(&asked);
         verdict
     }
 }

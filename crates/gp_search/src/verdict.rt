@@ -1,5 +1,5 @@
+use gp_certificate::Certificate;
 use gp_clause::Valuation;
-use gp_derivation::Certificate;
 
 /// The answer to a query: values and places, a certificate that refutes it, or a spent budget with the part of the log
 /// that was learned.

@@ -5,7 +5,7 @@ use Rattle.gp_sat.specs.declared.analysis.Stop.{Stop}
 use Rattle.gp_sat.specs.State.{SolverForm, clause_at}
 use Rattle.gp_sat.specs.Standing.{Each}
 use Rattle.gp_sat.specs.Sound.{IsSound, true_lit}
-use Rattle.gp_sat.specs.Marking.{Marks, StopsAt, GoesOn, Follows}
+use Rattle.gp_sat.specs.Marking.{Marks, StopsAt, GoesOn, FollowsReason}
 use Rattle.gp_sat.specs.Queueing.{IsAssigned, IsMarkedOrBefore}
 use Rattle.gp_sat.specs.Walking.{IsWalked, IsSearched}
 use Rattle.gp_sat.proofs.Marked.{read_place}
@@ -18,7 +18,7 @@ lits-lits-requires c =
     let s : SolverForm = c.args.self.now in
     let sound : IsSound s = subst (λ (t : SolverForm). IsSound t) c.self.view_is c.self.invariant.sound in
     let f : IsFollowing s c.args.stop c.args.marking.now.marks.items c.args.place c.in-Some.number = following s c.args.stop c.args.marking.now.marks.items c.args.place c.in-Some.number sound c.requires.marked
-    (subst (λ (ms : List Bool). Follows s c.args.stop ms c.args.place c.in-Some.number) c.as_slice.ensures.value c.in-Some.ensures) in
+    (subst (λ (ms : List Bool). FollowsReason s c.args.stop ms c.args.place c.in-Some.number) c.as_slice.ensures.value c.in-Some.ensures) in
     omega (arith, f.given, ap (λ (t : SolverForm). length t.clauses) c.self.view_is)
 
 pub mark_all-requires-clause-assigned : goal.mark_all-requires-clause-assigned
@@ -26,7 +26,7 @@ mark_all-requires-clause-assigned c =
     let s : SolverForm = c.args.self.now in
     let sound : IsSound s = subst (λ (t : SolverForm). IsSound t) c.self.view_is c.self.invariant.sound in
     let f : IsFollowing s c.args.stop c.args.marking.now.marks.items c.args.place c.in-Some.number = following s c.args.stop c.args.marking.now.marks.items c.args.place c.in-Some.number sound c.requires.marked
-    (subst (λ (ms : List Bool). Follows s c.args.stop ms c.args.place c.in-Some.number) c.as_slice.ensures.value c.in-Some.ensures) in
+    (subst (λ (ms : List Bool). FollowsReason s c.args.stop ms c.args.place c.in-Some.number) c.as_slice.ensures.value c.in-Some.ensures) in
     let clause : c.lits-lits.result.now ≡ clause_at s.clauses c.in-Some.number = c.lits-lits.ensures.lits ∙ ap (λ (t : SolverForm). clause_at t.clauses c.in-Some.number) c.self.view_is in
     subst (λ (xs : List Lit). Each (IsAssigned s) xs) (sym clause) f.assigned_all
 
@@ -63,7 +63,7 @@ returns-in_ok-mark_all-in-Some-clause-walked c =
     let s : SolverForm = c.args.self.now in
     let sound : IsSound s = subst (λ (t : SolverForm). IsSound t) c.self.view_is c.self.invariant.sound in
     let f : IsFollowing s c.args.stop c.args.marking.now.marks.items c.args.place c.in-Some.number = following s c.args.stop c.args.marking.now.marks.items c.args.place c.in-Some.number sound c.requires.marked
-    (subst (λ (ms : List Bool). Follows s c.args.stop ms c.args.place c.in-Some.number) c.as_slice.ensures.value c.in-Some.ensures) in
+    (subst (λ (ms : List Bool). FollowsReason s c.args.stop ms c.args.place c.in-Some.number) c.as_slice.ensures.value c.in-Some.ensures) in
     let clause : c.lits-lits.result.now ≡ clause_at s.clauses c.in-Some.number = c.lits-lits.ensures.lits ∙ ap (λ (t : SolverForm). clause_at t.clauses c.in-Some.number) c.self.view_is in
     let more : Marks c.args.marking.now.marks.items c.mark_all.new.marking.marks.items (clause_at s.clauses c.in-Some.number) =
     subst (λ (xs : List Lit). Marks c.args.marking.now.marks.items c.mark_all.new.marking.marks.items xs) clause c.in_ok-mark_all-in-Some.ensures.marked in
@@ -76,7 +76,7 @@ returns-in_ok-mark_all-in-Some-clause-queued c =
     let s : SolverForm = c.args.self.now in
     let sound : IsSound s = subst (λ (t : SolverForm). IsSound t) c.self.view_is c.self.invariant.sound in
     let f : IsFollowing s c.args.stop c.args.marking.now.marks.items c.args.place c.in-Some.number = following s c.args.stop c.args.marking.now.marks.items c.args.place c.in-Some.number sound c.requires.marked
-    (subst (λ (ms : List Bool). Follows s c.args.stop ms c.args.place c.in-Some.number) c.as_slice.ensures.value c.in-Some.ensures) in
+    (subst (λ (ms : List Bool). FollowsReason s c.args.stop ms c.args.place c.in-Some.number) c.as_slice.ensures.value c.in-Some.ensures) in
     let clause : c.lits-lits.result.now ≡ clause_at s.clauses c.in-Some.number = c.lits-lits.ensures.lits ∙ ap (λ (t : SolverForm). clause_at t.clauses c.in-Some.number) c.self.view_is in
     c.in_ok-mark_all-in-Some.ensures.queued c.args.place (subst (λ (xs : List Lit). Each (IsMarkedOrBefore s c.args.place c.args.marking.now.marks.items) xs) (sym clause) f.before) c.requires.queued
 
@@ -85,7 +85,7 @@ returns-in_ok-mark_all-in-Some-clause-searched c =
     let s : SolverForm = c.args.self.now in
     let sound : IsSound s = subst (λ (t : SolverForm). IsSound t) c.self.view_is c.self.invariant.sound in
     let f : IsFollowing s c.args.stop c.args.marking.now.marks.items c.args.place c.in-Some.number = following s c.args.stop c.args.marking.now.marks.items c.args.place c.in-Some.number sound c.requires.marked
-    (subst (λ (ms : List Bool). Follows s c.args.stop ms c.args.place c.in-Some.number) c.as_slice.ensures.value c.in-Some.ensures) in
+    (subst (λ (ms : List Bool). FollowsReason s c.args.stop ms c.args.place c.in-Some.number) c.as_slice.ensures.value c.in-Some.ensures) in
     let clause : c.lits-lits.result.now ≡ clause_at s.clauses c.in-Some.number = c.lits-lits.ensures.lits ∙ ap (λ (t : SolverForm). clause_at t.clauses c.in-Some.number) c.self.view_is in
     let more : Marks c.args.marking.now.marks.items c.mark_all.new.marking.marks.items (clause_at s.clauses c.in-Some.number) =
     subst (λ (xs : List Lit). Marks c.args.marking.now.marks.items c.mark_all.new.marking.marks.items xs) clause c.in_ok-mark_all-in-Some.ensures.marked in

@@ -5,7 +5,7 @@ use Rattle.gp_search.proofs.engine.Engine.assert_all.Given as goal
 
 abbrev pub invariant-loop-self : goal.invariant-loop-self
 invariant-loop-self l = record {
-  turning : IsTurning l.problem l.query l.self;
+  turning : IsTurning l.asked.problem.now l.asked.query.now l.self;
   moves : MovesGraph l.fn.self l.self;
 }
 

@@ -26,12 +26,12 @@ roomier problem old new same of = record { points = ap (λ (g : GraphForm). g.po
 pub set_locals-requires-clause-locals : goal.set_locals-requires-clause-locals
 set_locals-requires-clause-locals c =
     let P : List Kind → Type 0 = λ kinds. All (IsValidKind c.args.self.now.tester.points) kinds in
-    subst P (sym c.as_slice.ensures) (subst (λ (n : _). All (IsValidKind n) c.args.query.now.locals) (sym c.requires.idle.tester.points) c.requires.valid.locals)
+    subst P (sym c.as_slice.ensures) (subst (λ (n : _). All (IsValidKind n) c.args.asked.now.query.now.locals) (sym c.requires.idle.tester.points) c.requires.valid.locals)
 
 pub returns-in_err-set_locals-clause-whole : goal.returns-in_err-set_locals-clause-whole
 returns-in_err-set_locals-clause-whole c =
     let at_end : c.len-self.result ≡ length c.args.self.now.log.items = omega (arith, c.len-self.ensures) in
-    begun_whole c.args.problem.now c.args.query.now c.args.self.now _ c.log_grows.ensures c.requires.idle c.requires.valid c.requires.few (record {
+    begun_whole c.args.asked.now.problem.now c.args.asked.now.query.now c.args.self.now _ c.log_grows.ensures c.requires.idle c.requires.valid c.requires.few (record {
       log = refl;
       pure = refl;
       begins = at_end;
@@ -39,13 +39,13 @@ returns-in_err-set_locals-clause-whole c =
       clauses = refl;
       values = omega arith;
       graph = c.requires.idle.graph;
-      tester = relocated c.args.problem.now c.args.self.now.tester c.set_locals.new.self _ c.in_err-set_locals.ensures.err c.requires.idle.tester;
+      tester = relocated c.args.asked.now.problem.now c.args.self.now.tester c.set_locals.new.self _ c.in_err-set_locals.ensures.err c.requires.idle.tester;
     })
 
 pub returns-in_err-grow-clause-whole : goal.returns-in_err-grow-clause-whole
 returns-in_err-grow-clause-whole c =
     let at_end : c.len-self.result ≡ length c.args.self.now.log.items = omega (arith, c.len-self.ensures) in
-    begun_whole c.args.problem.now c.args.query.now c.args.self.now _ c.log_grows.ensures c.requires.idle c.requires.valid c.requires.few (record {
+    begun_whole c.args.asked.now.problem.now c.args.asked.now.query.now c.args.self.now _ c.log_grows.ensures c.requires.idle c.requires.valid c.requires.few (record {
       log = refl;
       pure = refl;
       begins = at_end;
@@ -53,14 +53,14 @@ returns-in_err-grow-clause-whole c =
       clauses = ap (λ (s : SolverForm). s.clauses) c.in_err-grow.ensures.err;
       values = omega (arith, ap (λ (s : SolverForm). length s.values) c.in_err-grow.ensures.err);
       graph = c.requires.idle.graph;
-      tester = relocated c.args.problem.now c.args.self.now.tester c.set_locals.new.self _ c.in_ok-set_locals.ensures.ok c.requires.idle.tester;
+      tester = relocated c.args.asked.now.problem.now c.args.self.now.tester c.set_locals.new.self _ c.in_ok-set_locals.ensures.ok c.requires.idle.tester;
     })
 
 pub returns-in_err-reserve-clause-whole : goal.returns-in_err-reserve-clause-whole
 returns-in_err-reserve-clause-whole c =
     let at_end : c.len-self.result ≡ length c.args.self.now.log.items = omega (arith, c.len-self.ensures) in
     let room : IsRoomy c.args.self.now.solver c.set_used.new.self (c.len.result + c.len-2.result) = used_roomy c.args.self.now.solver c.grow.new.solver c.set_used.new.self (c.len.result + c.len-2.result) (c.len.result + c.len-2.result) c.in_ok-grow.ensures.ok c.set_used.ensures.used in
-    begun_whole c.args.problem.now c.args.query.now c.args.self.now _ c.log_grows.ensures c.requires.idle c.requires.valid c.requires.few (record {
+    begun_whole c.args.asked.now.problem.now c.args.asked.now.query.now c.args.self.now _ c.log_grows.ensures c.requires.idle c.requires.valid c.requires.few (record {
       log = refl;
       pure = refl;
       begins = at_end;
@@ -68,30 +68,30 @@ returns-in_err-reserve-clause-whole c =
       clauses = room.clauses;
       values = room.more;
       graph = record { points = ap (λ (g : GraphForm). g.points) c.in_err-reserve.ensures.err ∙ c.requires.idle.graph.points; edges = ap (λ (g : GraphForm). g.edges) c.in_err-reserve.ensures.err ∙ c.requires.idle.graph.edges };
-      tester = relocated c.args.problem.now c.args.self.now.tester c.set_locals.new.self _ c.in_ok-set_locals.ensures.ok c.requires.idle.tester;
+      tester = relocated c.args.asked.now.problem.now c.args.self.now.tester c.set_locals.new.self _ c.in_ok-set_locals.ensures.ok c.requires.idle.tester;
     })
 
 pub returns-clause-whole : goal.returns-clause-whole
 returns-clause-whole c =
     let at_end : c.len-self.result ≡ length c.args.self.now.log.items = omega (arith, c.len-self.ensures) in
     let room : IsRoomy c.args.self.now.solver c.set_used.new.self (c.len.result + c.len-2.result) = used_roomy c.args.self.now.solver c.grow.new.solver c.set_used.new.self (c.len.result + c.len-2.result) (c.len.result + c.len-2.result) c.in_ok-grow.ensures.ok c.set_used.ensures.used in
-    begun_whole c.args.problem.now c.args.query.now c.args.self.now _ c.log_grows.ensures c.requires.idle c.requires.valid c.requires.few (record {
+    begun_whole c.args.asked.now.problem.now c.args.asked.now.query.now c.args.self.now _ c.log_grows.ensures c.requires.idle c.requires.valid c.requires.few (record {
       log = refl;
       pure = refl;
       begins = at_end;
       learned = at_end;
       clauses = room.clauses;
       values = room.more;
-      graph = roomier c.args.problem.now c.args.self.now.graph c.reserve.new.self c.in_ok-reserve.ensures.ok c.requires.idle.graph;
-      tester = relocated c.args.problem.now c.args.self.now.tester c.set_locals.new.self _ c.in_ok-set_locals.ensures.ok c.requires.idle.tester;
+      graph = roomier c.args.asked.now.problem.now c.args.self.now.graph c.reserve.new.self c.in_ok-reserve.ensures.ok c.requires.idle.graph;
+      tester = relocated c.args.asked.now.problem.now c.args.self.now.tester c.set_locals.new.self _ c.in_ok-set_locals.ensures.ok c.requires.idle.tester;
     })
 
 pub returns-clause-taking : goal.returns-clause-taking
 returns-clause-taking c =
     let at_end : c.len-self.result ≡ length c.args.self.now.log.items = omega (arith, c.len-self.ensures) in
     let room : IsRoomy c.args.self.now.solver c.set_used.new.self (c.len.result + c.len-2.result) = used_roomy c.args.self.now.solver c.grow.new.solver c.set_used.new.self (c.len.result + c.len-2.result) (c.len.result + c.len-2.result) c.in_ok-grow.ensures.ok c.set_used.ensures.used in
-    let sum : c.len.result + c.len-2.result ≡ length (all_kinds c.args.problem.now c.args.query.now) = omega (arith, c.len.ensures, c.len-2.ensures, length-append c.args.problem.now.kinds c.args.query.now.locals) in
-    begun_taking c.args.problem.now c.args.query.now _ (returns-clause-whole c) c.set_used.ensures.sound
+    let sum : c.len.result + c.len-2.result ≡ length (all_kinds c.args.asked.now.problem.now c.args.asked.now.query.now) = omega (arith, c.len.ensures, c.len-2.ensures, length-append c.args.asked.now.problem.now.kinds c.args.asked.now.query.now.locals) in
+    begun_taking c.args.asked.now.problem.now c.args.asked.now.query.now _ (returns-clause-whole c) c.set_used.ensures.sound
     (λ v. room.values v ∙ blank_free c.args.self.now.solver c.requires.idle.blank v) (room.trail ∙ c.requires.idle.blank.trail) (room.level ∙ c.requires.idle.blank.level)
     (ap (λ (g : GraphForm). g.kept) c.in_ok-reserve.ensures.ok ∙ c.requires.idle.kept) (omega (arith, c.in_ok-reserve.ensures.room, c.variables.ensures))
     (omega (arith, room.room, sum)) (ap (λ (s : SolverForm). s.used) c.set_used.ensures.used ∙ sum) refl refl refl c.clear.ensures.items

@@ -10,5 +10,5 @@ false_lit-requires c =
 
 pub returns : goal.returns
 returns c =
-    let P : List Lit → Type 0 = λ ls. IsConflict c.args.problem.now c.args.query.now c.args.self.now.solver ls None in
+    let P : List Lit → Type 0 = λ ls. IsConflict c.args.asked.now.problem.now c.args.asked.now.query.now c.args.self.now.solver ls None in
     subst P (sym (all_tags c.args.self.now.solver c.args.self.now.graph.cycle c.cycle-tag-items.result.now c.loop-tag.lits.items c.loop-tag.tag-index c.loop-tag.invariant c.cycle-tag-items.ensures c.loop-tag-test.false)) c.requires

@@ -5,7 +5,7 @@ use Rattle.gp_search.proofs.engine.Engine.descend.Given as goal
 
 abbrev pub invariant-loop-conflict : goal.invariant-loop-conflict
 invariant-loop-conflict l = record {
-  turning : IsTurning l.problem l.query l.self;
+  turning : IsTurning l.asked.problem.now l.asked.query.now l.self;
   same : KeepsLog l.fn.self l.self;
 }
 

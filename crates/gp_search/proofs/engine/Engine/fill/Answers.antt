@@ -9,19 +9,19 @@ use Rattle.gp_search.proofs.Trails.{decided_on, free_decided}
 use Rattle.gp_search.proofs.engine.Engine.fill.Goals as goal
 
 pub model-requires-clause-turning : goal.model-requires-clause-turning
-model-requires-clause-turning c = subst (λ (e : Engine). IsTurning c.args.problem.now c.args.query.now e) (sym c.free_variable.ensures.same) c.requires.turning
+model-requires-clause-turning c = subst (λ (e : Engine). IsTurning c.args.asked.now.problem.now c.args.asked.now.query.now e) (sym c.free_variable.ensures.same) c.requires.turning
 
 pub model-requires-clause-settled : goal.model-requires-clause-settled
 model-requires-clause-settled c = subst (λ (e : Engine). IsSettled e) (sym c.free_variable.ensures.same) c.requires.settled
 
 pub model-requires-clause-all : goal.model-requires-clause-all
-model-requires-clause-all c = all_assigned c.args.problem.now c.args.query.now c.args.self.now c.free_variable.new.self c.requires.turning c.free_variable.ensures.same c.in-None.ensures.free
+model-requires-clause-all c = all_assigned c.args.asked.now.problem.now c.args.asked.now.query.now c.args.self.now c.free_variable.new.self c.requires.turning c.free_variable.ensures.same c.in-None.ensures.free
 
 pub model-requires-clause-assumed : goal.model-requires-clause-assumed
-model-requires-clause-assumed c = subst (λ (e : Engine). IsAllTrue c.args.query.now.assumed e.solver) (sym c.free_variable.ensures.same) c.requires.assumed
+model-requires-clause-assumed c = subst (λ (e : Engine). IsAllTrue c.args.asked.now.query.now.assumed e.solver) (sym c.free_variable.ensures.same) c.requires.assumed
 
 pub begin_level-requires-clause-turning : goal.begin_level-requires-clause-turning
-begin_level-requires-clause-turning c = subst (λ (e : Engine). IsTurning c.args.problem.now c.args.query.now e) (sym c.free_variable.ensures.same) c.requires.turning
+begin_level-requires-clause-turning c = subst (λ (e : Engine). IsTurning c.args.asked.now.problem.now c.args.asked.now.query.now e) (sym c.free_variable.ensures.same) c.requires.turning
 
 pub begin_level-requires-clause-settled : goal.begin_level-requires-clause-settled
 begin_level-requires-clause-settled c = subst (λ (e : Engine). IsSettled e) (sym c.free_variable.ensures.same) c.requires.settled
@@ -39,11 +39,11 @@ returns-in_err-begin_level-in-Some-clause-same c =
 pub returns-in_ok-begin_level-in-Some-clause-turning : goal.returns-in_ok-begin_level-in-Some-clause-turning
 returns-in_ok-begin_level-in-Some-clause-turning c =
     let lit : Lit = record { variable = c.in-Some.variable; positive = c.phase-positive.result } in
-    let below : c.in-Some.variable < length (all_kinds c.args.problem.now c.args.query.now) = omega (arith, c.in-Some.ensures.free.within, c.requires.turning.used) in
+    let below : c.in-Some.variable < length (all_kinds c.args.asked.now.problem.now c.args.asked.now.query.now) = omega (arith, c.in-Some.ensures.free.within, c.requires.turning.used) in
     let settled : IsSettled c.free_variable.new.self = subst (λ (e : Engine). IsSettled e) (sym c.free_variable.ensures.same) c.requires.settled in
-    free_decided c.args.problem.now c.args.query.now c.free_variable.new.self c.begin_level.new.self lit
-    (subst (λ (e : Engine). IsTurning c.args.problem.now c.args.query.now e) (sym c.free_variable.ensures.same) c.requires.turning)
-    c.in_ok-begin_level-in-Some.ensures.sound settled.all (subst (λ (e : Engine). IsAllTrue c.args.query.now.assumed e.solver) (sym c.free_variable.ensures.same) c.requires.assumed)
+    free_decided c.args.asked.now.problem.now c.args.asked.now.query.now c.free_variable.new.self c.begin_level.new.self lit
+    (subst (λ (e : Engine). IsTurning c.args.asked.now.problem.now c.args.asked.now.query.now e) (sym c.free_variable.ensures.same) c.requires.turning)
+    c.in_ok-begin_level-in-Some.ensures.sound settled.all (subst (λ (e : Engine). IsAllTrue c.args.asked.now.query.now.assumed e.solver) (sym c.free_variable.ensures.same) c.requires.assumed)
     (ap (λ (e : Engine). assigned e.solver c.in-Some.variable) c.free_variable.ensures.same ∙ c.in-Some.ensures.free.free) below
     (decided_on c.free_variable.new.self c.begin_level.new.self lit c.begin_level.new.self.assumed c.in_ok-begin_level-in-Some.ensures.ok) (ap (λ (e : Engine). e.assumed) c.in_ok-begin_level-in-Some.ensures.ok.same)
 

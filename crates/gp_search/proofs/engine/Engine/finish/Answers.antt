@@ -9,8 +9,8 @@ loop-place-preserved c =
     let next = ap (λ (e : Engine). e.solver) c.retire_unless_pure.ensures in
     let marks : c.loop-place.self.pure.items ≡ c.args.self.now.pure.items = ap (λ (e : Engine). e.pure.items) c.loop-place.invariant.same in
     record {
-      done = retired_more (length c.args.problem.now.clauses) c.args.self.now.begins c.loop-place.place c.args.self.now.pure.items c.args.self.now.solver c.loop-place.self.solver c.retire_unless_pure.new.self.solver c.loop-place.auto.place
-          (retired_same c.loop-place.self.pure.items c.args.self.now.pure.items c.len-bases.result (length c.args.problem.now.clauses) c.loop-place.place c.loop-place.self.solver c.retire_unless_pure.new.self.solver next marks c.len-bases.ensures)
+      done = retired_more (length c.args.asked.now.problem.now.clauses) c.args.self.now.begins c.loop-place.place c.args.self.now.pure.items c.args.self.now.solver c.loop-place.self.solver c.retire_unless_pure.new.self.solver c.loop-place.auto.place
+          (retired_same c.loop-place.self.pure.items c.args.self.now.pure.items c.len-bases.result (length c.args.asked.now.problem.now.clauses) c.loop-place.place c.loop-place.self.solver c.retire_unless_pure.new.self.solver next marks c.len-bases.ensures)
           c.loop-place.invariant.done;
       same = same_more c.args.self.now c.loop-place.self c.retire_unless_pure.new.self _ c.loop-place.invariant.same c.retire_unless_pure.ensures;
       undone = undone_more c.args.self.now.graph c.loop-place.self c.retire_unless_pure.new.self _ c.loop-place.invariant.undone c.retire_unless_pure.ensures;
@@ -18,8 +18,8 @@ loop-place-preserved c =
 
 pub returns-clause-idle : goal.returns-clause-idle
 returns-clause-idle c =
-    let P : Engine → Type 0 = λ e. IsIdle c.args.problem.now e in
+    let P : Engine → Type 0 = λ e. IsIdle c.args.asked.now.problem.now e in
     subst P (sym c.loop-place.invariant.same)
-    (finished c.args.problem.now c.args.query.now c.args.self.now c.loop-place.self.solver c.loop-place.self.graph c.log_grows.ensures c.requires
-    (retired_enough (length c.args.problem.now.clauses) c.args.self.now.begins c.loop-place.place (length c.args.self.now.log.items) c.args.self.now.pure.items c.args.self.now.solver c.loop-place.self.solver
+    (finished c.args.asked.now.problem.now c.args.asked.now.query.now c.args.self.now c.loop-place.self.solver c.loop-place.self.graph c.log_grows.ensures c.requires
+    (retired_enough (length c.args.asked.now.problem.now.clauses) c.args.self.now.begins c.loop-place.place (length c.args.self.now.log.items) c.args.self.now.pure.items c.args.self.now.solver c.loop-place.self.solver
     (omega (arith, c.len-place-end.ensures, c.loop-place-test.false)) c.loop-place.invariant.done) c.loop-place.invariant.undone)

@@ -15,7 +15,7 @@ share-requires-clause-last g c =
 
 pub returns-clause-ok : goal.returns-clause-ok
 returns-clause-ok g c =
-    learns_and_offers c.share.result c.args.problem.now c.args.self.now c.log_lesson.new.self (g.M.Mail.told c.args.mail.now) (g.M.Mail.told c.share.new.mail) c.in_ok-log_lesson.ensures.ok c.share.ensures.offers
+    learns_and_offers c.share.result c.args.asked.now.problem.now c.args.self.now c.log_lesson.new.self (g.M.Mail.told c.args.mail.now) (g.M.Mail.told c.share.new.mail) c.in_ok-log_lesson.ensures.ok c.share.ensures.offers
 
 pub returns-clause-err : goal.returns-clause-err
 returns-clause-err g c = on_any _ (inr c.in_ok-log_lesson.ensures.ok)

@@ -9,13 +9,13 @@ use Rattle.gp_search.proofs.Teaching.{false_within}
 use Rattle.gp_search.proofs.engine.Engine.learned_step.Goals as goal
 
 pub tighten-requires-clause-turning : goal.tighten-requires-clause-turning
-tighten-requires-clause-turning c = subst (λ (e : Engine). IsTurning c.args.problem.now c.args.query.now e) (sym c.study.ensures.same) c.requires.turning
+tighten-requires-clause-turning c = subst (λ (e : Engine). IsTurning c.args.asked.now.problem.now c.args.asked.now.query.now e) (sym c.study.ensures.same) c.requires.turning
 
 pub tighten-requires-clause-above : goal.tighten-requires-clause-above
 tighten-requires-clause-above c = subst (λ (e : Engine). e.assumed < e.solver.level) (sym c.study.ensures.same) c.requires.above
 
 pub tighten-requires-clause-studied : goal.tighten-requires-clause-studied
-tighten-requires-clause-studied c = subst (λ (e : Engine). IsStudied c.args.problem.now c.args.query.now e c.in_ok-found.found) (sym c.study.ensures.same) c.in_ok-found.ensures.studied
+tighten-requires-clause-studied c = subst (λ (e : Engine). IsStudied c.args.asked.now.problem.now c.args.asked.now.query.now e c.in_ok-found.found) (sym c.study.ensures.same) c.in_ok-found.ensures.studied
 
 pub highest_below-level-requires : goal.highest_below-level-requires
 highest_below-level-requires c =
@@ -31,7 +31,7 @@ returns-clause-step c =
     let Q : Engine → Type 0 = λ e. IsHighestBelow e.solver c.in_ok-step.step.clause c.highest_below-level.result in
     subst Q same (subst P c.lits.ensures.lits c.highest_below-level.ensures) in
     record {
-      tightened = subst (λ (e : Engine). IsTightened c.args.problem.now c.args.query.now e c.in_ok-step.step) c.study.ensures.same c.in_ok-step.ensures.tightened;
+      tightened = subst (λ (e : Engine). IsTightened c.args.asked.now.problem.now c.args.asked.now.query.now e c.in_ok-step.step) c.study.ensures.same c.in_ok-step.ensures.tightened;
       highest = highest;
       below = lesson_below c.args.self.now.solver c.in_ok-step.step.clause c.highest_below-level.result (omega (arith, c.requires.above)) highest;
     }

@@ -10,8 +10,8 @@ use Rattle.gp_search.proofs.engine.Engine.log_taken.Goals as goal
 
 pub attach-requires-clause-named : goal.attach-requires-clause-named
 attach-requires-clause-named c =
-    All-weaker (λ (lit : Lit). lit.variable < length c.args.problem.now.kinds) (λ (lit : Lit). lit.variable < length c.args.self.now.solver.values)
-    (λ lit low. omega (arith, low, c.requires.taking.turning.whole.variables)) c.args.shared.clause (good_below c.args.problem.now c.args.shared c.requires.good)
+    All-weaker (λ (lit : Lit). lit.variable < length c.args.asked.now.problem.now.kinds) (λ (lit : Lit). lit.variable < length c.args.self.now.solver.values)
+    (λ lit low. omega (arith, low, c.requires.taking.turning.whole.variables)) c.args.shared.clause (good_below c.args.asked.now.problem.now c.args.shared c.requires.good)
 
 pub returns-clause-taking : goal.returns-clause-taking
 returns-clause-taking c =
@@ -22,7 +22,7 @@ returns-clause-taking c =
     ∙ (λ i. old ++ record { step = record { clause = c.args.shared.clause; hints = c.new-hints.ensures i }; origin = Taken c.args.shared.sender c.args.shared.certificate } ∷ []) in
     let learned : c.len-self.result ≡ length (old ++ entry ∷ []) = omega (arith, c.len-self.ensures, ap (λ (es : List LogEntry). length es) log) in
     record {
-      turning = logged c.args.problem.now c.args.query.now c.args.self.now _ entry true c.requires.taking.turning c.in_ok-attach.ensures.sound
+      turning = logged c.args.asked.now.problem.now c.args.asked.now.query.now c.args.self.now _ entry true c.requires.taking.turning c.in_ok-attach.ensures.sound
           (record {
             order = c.args.self.now.solver.order;
             solver = c.in_ok-attach.ensures.ok;
@@ -36,8 +36,8 @@ returns-clause-taking c =
             levels = refl;
             next = refl;
           })
-          (subst (λ (n : ℕ). MayLog c.args.problem.now c.args.query.now old c.args.self.now.begins n entry true) (sym learned)
-          (may_take c.args.problem.now c.args.query.now c.args.self.now c.args.shared c.log_grows.ensures c.requires.taking c.requires.good c.requires.few));
+          (subst (λ (n : ℕ). MayLog c.args.asked.now.problem.now c.args.asked.now.query.now old c.args.self.now.begins n entry true) (sym learned)
+          (may_take c.args.asked.now.problem.now c.args.asked.now.query.now c.args.self.now c.args.shared c.log_grows.ensures c.requires.taking c.requires.good c.requires.few));
       bottom = ap (λ (s : SolverForm). s.level) c.in_ok-attach.ensures.ok ∙ c.requires.taking.bottom;
       learned = omega (arith, c.len-self.ensures);
     }

@@ -13,7 +13,7 @@ loop-init g c = record {
   problem = refl;
   number = refl;
   may_give = refl;
-  adds = adds_offers_none c.args.problem.now c.args.self.now (g.M.Mail.told c.args.mail.now);
+  adds = adds_offers_none c.args.asked.now.problem.now c.args.self.now (g.M.Mail.told c.args.mail.now);
 }
 
 pub returns-in_err-verdict-clause-adds : goal.returns-in_err-verdict-clause-adds
@@ -24,7 +24,7 @@ returns-in-Verdict-clause-adds g c = adds_few c.loop.counter c.args.budget c.arg
 
 pub returns-in-Verdict-clause-offers : goal.returns-in-Verdict-clause-offers
 returns-in-Verdict-clause-offers g c =
-    adds_offers_few c.args.problem.now c.loop.counter c.args.budget c.args.self.now c.loop.self c.descend.new.self (g.M.Mail.told c.args.mail.now) (g.M.Mail.told c.loop.mail) c.loop.invariant.adds c.descend.ensures.same (omega arith)
+    adds_offers_few c.args.asked.now.problem.now c.loop.counter c.args.budget c.args.self.now c.loop.self c.descend.new.self (g.M.Mail.told c.args.mail.now) (g.M.Mail.told c.loop.mail) c.loop.invariant.adds c.descend.ensures.same (omega arith)
 
 pub learn-requires-clause-few : goal.learn-requires-clause-few
 learn-requires-clause-few g c =
@@ -50,8 +50,8 @@ loop-preserved g c = record {
   problem = c.learn.ensures.problem ∙ c.loop.invariant.problem;
   number = c.learn.ensures.number ∙ c.loop.invariant.number;
   may_give = c.learn.ensures.may_give ∙ c.loop.invariant.may_give;
-  adds = adds_offers_more c.fit_stays.ensures c.args.problem.now c.loop.counter c.args.self.now c.loop.self c.descend.new.self c.learn.new.self (g.M.Mail.told c.args.mail.now) (g.M.Mail.told c.loop.mail) (g.M.Mail.told c.learn.new.mail)
-      (all_earlier c.args.problem.now c.args.query.now.locals c.loop.self.log.items c.loop.self.begins c.loop.invariant.turning.whole.log.passes) c.loop.invariant.adds c.descend.ensures.same c.in_ok-learn-in-Conflict.ensures.ok;
+  adds = adds_offers_more c.fit_stays.ensures c.args.asked.now.problem.now c.loop.counter c.args.self.now c.loop.self c.descend.new.self c.learn.new.self (g.M.Mail.told c.args.mail.now) (g.M.Mail.told c.loop.mail) (g.M.Mail.told c.learn.new.mail)
+      (all_earlier c.args.asked.now.problem.now c.args.asked.now.query.now.locals c.loop.self.log.items c.loop.self.begins c.loop.invariant.turning.whole.log.passes) c.loop.invariant.adds c.descend.ensures.same c.in_ok-learn-in-Conflict.ensures.ok;
 }
 
 pub returns-in_err-verdict-2-clause-adds : goal.returns-in_err-verdict-2-clause-adds
@@ -62,18 +62,18 @@ returns-in-Verdict-2-clause-adds g c = adds_few c.loop.counter c.args.budget c.a
 
 pub returns-in-Verdict-2-clause-offers : goal.returns-in-Verdict-2-clause-offers
 returns-in-Verdict-2-clause-offers g c =
-    adds_offers_few c.args.problem.now c.loop.counter c.args.budget c.args.self.now c.loop.self c.descend-2.new.self (g.M.Mail.told c.args.mail.now) (g.M.Mail.told c.loop.mail) c.loop.invariant.adds c.descend-2.ensures.same (omega arith)
+    adds_offers_few c.args.asked.now.problem.now c.loop.counter c.args.budget c.args.self.now c.loop.self c.descend-2.new.self (g.M.Mail.told c.args.mail.now) (g.M.Mail.told c.loop.mail) c.loop.invariant.adds c.descend-2.ensures.same (omega arith)
 
 pub returns-clause-adds : goal.returns-clause-adds
 returns-clause-adds g c = adds_few c.loop.counter c.args.budget c.args.self.now c.loop.self c.descend-2.new.self c.loop.invariant.adds.adds c.descend-2.ensures.same (omega arith)
 
 pub returns-clause-offers : goal.returns-clause-offers
 returns-clause-offers g c =
-    adds_offers_few c.args.problem.now c.loop.counter c.args.budget c.args.self.now c.loop.self c.descend-2.new.self (g.M.Mail.told c.args.mail.now) (g.M.Mail.told c.loop.mail) c.loop.invariant.adds c.descend-2.ensures.same (omega arith)
+    adds_offers_few c.args.asked.now.problem.now c.loop.counter c.args.budget c.args.self.now c.loop.self c.descend-2.new.self (g.M.Mail.told c.args.mail.now) (g.M.Mail.told c.loop.mail) c.loop.invariant.adds c.descend-2.ensures.same (omega arith)
 
 pub returns-clause-verdict : goal.returns-clause-verdict
 returns-clause-verdict g c =
-    used_up c.args.problem.now c.args.query.now c.args.budget c.args.self.now.begins c.args.self.now.learned c.descend-2.new.self c.descend-2.new.self.learned c.len.result c.descend-2.ensures.turning
+    used_up c.args.asked.now.problem.now c.args.asked.now.query.now c.args.budget c.args.self.now.begins c.args.self.now.learned c.descend-2.new.self c.descend-2.new.self.learned c.len.result c.descend-2.ensures.turning
     (c.descend-2.ensures.same.begins ∙ c.loop.invariant.begins) (c.descend-2.ensures.same.learned ∙ c.loop.invariant.learned) refl (omega (arith, c.len.ensures))
     (omega (arith, added_length c.loop.counter c.args.self.now c.loop.self c.descend-2.new.self c.loop.invariant.adds.adds c.descend-2.ensures.same, c.requires.taking.learned, c.loop.auto.counter-end, c.loop-test.false))
 
@@ -82,4 +82,4 @@ returns-clause-enough g c = λ enough.
     let learned : c.descend-2.new.self.learned ≡ length c.args.self.now.log.items = c.descend-2.ensures.same.learned ∙ (c.loop.invariant.learned ∙ c.requires.taking.learned) in
     let counted : length c.descend-2.new.self.log.items ≡ c.descend-2.new.self.learned + c.args.budget =
     omega (arith, learned, added_length c.loop.counter c.args.self.now c.loop.self c.descend-2.new.self c.loop.invariant.adds.adds c.descend-2.ensures.same, c.loop.auto.counter-end, c.loop-test.false) in
-    omega (arith, enough, few_learned c.args.problem.now c.args.query.now c.descend-2.new.self c.args.budget c.clauses_are_few.ensures c.descend-2.ensures.turning counted)
+    omega (arith, enough, few_learned c.args.asked.now.problem.now c.args.asked.now.query.now c.descend-2.new.self c.args.budget c.clauses_are_few.ensures c.descend-2.ensures.turning counted)

@@ -35,11 +35,11 @@ returns-clause-grown g c =
 
 pub returns-clause-shares : goal.returns-clause-shares
 returns-clause-shares g c =
-    all_shared c.run.result c.args.problem.now c.args.budget c.args.self.now c.begin.new.self c.take_all.new.self c.run.new.self (g.M.Mail.told c.args.mail.now) (g.M.Mail.told c.take_all.new.mail) (g.M.Mail.told c.run.new.mail) c.begin.ensures.same
+    all_shared c.run.result c.args.asked.now.problem.now c.args.budget c.args.self.now c.begin.new.self c.take_all.new.self c.run.new.self (g.M.Mail.told c.args.mail.now) (g.M.Mail.told c.take_all.new.mail) (g.M.Mail.told c.run.new.mail) c.begin.ensures.same
     c.in_ok-take_all.ensures.all c.take_all.ensures.taking.learned c.run.ensures.offers c.run.ensures.learned
 
 pub returns-clause-verdict : goal.returns-clause-verdict
 returns-clause-verdict g c =
-    let P : ℕ → ℕ → Type 0 = λ m n. IfOk c.run.result (IsDue c.args.problem.now c.args.query.now c.args.budget c.run.new.self.log.items m n) in
+    let P : ℕ → ℕ → Type 0 = λ m n. IfOk c.run.result (IsDue c.args.asked.now.problem.now c.args.asked.now.query.now c.args.budget c.run.new.self.log.items m n) in
     subst (P (length c.args.self.now.log.items)) (sym c.run.ensures.learned)
     (subst (λ (m : ℕ). P m c.take_all.new.self.learned) (c.take_all.ensures.some.begins ∙ c.begin.ensures.begins) c.run.ensures.verdict)

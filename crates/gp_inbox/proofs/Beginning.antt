@@ -1,6 +1,7 @@
 -- The rule at the start, and where the first pass learns the base and the senders.
-use Rattle.std.proofs.Common.{◌≡◌, refl, sym, subst, ap, ◌∙◌, ℕ, zero, suc, true, true≢false, Option, None, Some, IsSome, List, [], ◌∷◌, ◌++◌, set, All, arith}
+use Rattle.std.proofs.Common.{◌≡◌, refl, sym, subst, ap, ◌∙◌, ℕ, zero, suc, true, true≢false, Option, None, Some, IsSome, List, [], ◌∷◌, ◌++◌, set, All, arith, count_by, ◌==◌}
 use Rattle.std.proofs.lemmas.List.Elements.{All-head, All-nil}
+use Rattle.std.proofs.lemmas.List.Sums.{sum_by_push}
 use mathlib.Core.Option.{some, some-injective, some-ne-none}
 use lib.ListN.{get_elem?}
 use Rattle.gp_clause.specs.declared.problem.Problem.{Problem}
@@ -8,9 +9,9 @@ use Rattle.gp_derivation.specs.declared.exchange.SharedClause.{SharedClause}
 use Rattle.gp_inbox.specs.declared.rule.View.{View}
 use Rattle.gp_inbox.specs.History.{history, sent_by}
 use Rattle.gp_inbox.specs.Rule.{Fits, Kept, one_that_takes}
-use Rattle.gp_inbox.specs.Senders.{AllDifferent, times}
+use Rattle.gp_inbox.specs.Senders.{AllDifferent}
 use Rattle.gp_inbox.specs.Views.{blank, IsGoodFor, NamesOneOf, opened, spent}
-use Rattle.gp_inbox.specs.TotalLaws.{total_push, total_set}
+use Rattle.gp_base.specs.SumLaws.{sum_set}
 use Rattle.gp_inbox.proofs.Parting.{some_not_none}
 use Rattle.gp_inbox.proofs.Sending.{both_empty}
 use Rattle.gp_inbox.proofs.Taking.{no_other}
@@ -92,7 +93,7 @@ other_fits before before_senders pushes got view fits closed may_not base sender
       taker = λ may. absurd (may_not may);
       other = fits.other;
       idle = fits.idle;
-      own = λ number may. let without : times number view.numbers ≡ 0 = ap (times number) idle.0 in absurd (omega (arith, without, may));
+      own = λ number may. let without : count_by (◌==◌ number) view.numbers ≡ 0 = ap (count_by (◌==◌ number)) idle.0 in absurd (omega (arith, without, may));
       none = λ number without. ap (sent_by number) idle.1;
       sound = subst (All (IsGoodFor (Some base))) (sym idle.1) (All-nil (IsGoodFor (Some base)));
     }
@@ -121,16 +122,16 @@ keeps_open held views seat view base senders kept at is different =
       good = subst (All (IsGoodFor (Some base))) (sym empty.1) (All-nil (IsGoodFor (Some base)));
       from = subst (All (NamesOneOf senders)) (sym empty.1) (All-nil (NamesOneOf senders));
       once = λ number.
-          let changed = total_set (λ (v : View). times number v.numbers) views seat view new at in
-          let more = total_push (λ (v : View). times number v.numbers) (set views seat new) spent in
+          let changed = sum_set (λ (v : View). count_by (◌==◌ number) v.numbers) views seat view new at in
+          let more = sum_by_push (λ (v : View). count_by (◌==◌ number) v.numbers) (set views seat new) spent in
           let all = kept.once number in
-          let before : times number kept.senders ≡ 0 = ap (times number) nobody in
-          let own : times number view.numbers ≡ 0 = ap (times number) numbers in
+          let before : count_by (◌==◌ number) kept.senders ≡ 0 = ap (count_by (◌==◌ number)) nobody in
+          let own : count_by (◌==◌ number) view.numbers ≡ 0 = ap (count_by (◌==◌ number)) numbers in
           omega (arith, changed, more, all, before, own);
       apart = different;
       one =
-          let changed = total_set one_that_takes views seat view new at in
-          let more = total_push one_that_takes (set views seat new) spent in
+          let changed = sum_set one_that_takes views seat view new at in
+          let more = sum_by_push one_that_takes (set views seat new) spent in
           let all = kept.one in
           let own : one_that_takes view ≡ 1 = ap one_that_takes is in
           omega (arith, changed, more, all, own);

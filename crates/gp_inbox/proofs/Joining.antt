@@ -1,5 +1,5 @@
 -- To join two passes keeps the rule.
-use Rattle.std.proofs.Common.{◌≡◌, refl, sym, ◌∙◌, ℕ, zero, suc, ◌+◌, ◌<◌, ◌≤◌, ◌≢◌, ◌||◌, Bool, true, false, true≢false, Option, IsSome, List, [], ◌++◌, set, ⊎_elim, if◌then◌else◌, arith}
+use Rattle.std.proofs.Common.{◌≡◌, refl, sym, ◌∙◌, ℕ, zero, suc, ◌+◌, ◌<◌, ◌≤◌, ◌≢◌, ◌||◌, Bool, true, false, true≢false, Option, IsSome, List, [], ◌++◌, set, ⊎_elim, if◌then◌else◌, arith, count_by, ◌==◌}
 use Rattle.std.proofs.lemmas.List.{append-nil}
 use Rattle.std.proofs.lemmas.List.Elements.{All-append}
 use mathlib.Core.Option.{some}
@@ -10,10 +10,8 @@ use Rattle.gp_derivation.specs.declared.exchange.SharedClause.{SharedClause}
 use Rattle.gp_inbox.specs.declared.rule.View.{View}
 use Rattle.gp_inbox.specs.History.{sent_by}
 use Rattle.gp_inbox.specs.Rule.{Fits, Kept, one_that_takes}
-use Rattle.gp_inbox.specs.Senders.{times}
 use Rattle.gp_inbox.specs.Views.{IsGoodFor, joined, spent}
-use Rattle.gp_inbox.specs.TotalLaws.{total_set, two_most}
-use Rattle.gp_inbox.proofs.Members.{times_append}
+use Rattle.gp_base.specs.SumLaws.{sum_set, two_most, count_append}
 use Rattle.gp_inbox.proofs.Beginning.{spent_fits}
 use Rattle.gp_inbox.proofs.Parting.{some_not_none}
 use Rattle.gp_inbox.proofs.Sending.{sent_append}
@@ -48,7 +46,7 @@ join_own (suc n) m mine theirs pushes is_mine is_theirs no_mine no_theirs few ma
 
 -- the view that knows what both knew
 join_both : (base : Option Problem) (senders : List ℕ) (pushes : ℕ → List SharedClause) (got : List SharedClause) (view other : View) → Fits base senders pushes got view → Fits base senders pushes got other
-    → IsSome view.base → ((number : ℕ) → times number view.numbers + times number other.numbers ≤ 1) → one_that_takes view + one_that_takes other ≤ 1
+    → IsSome view.base → ((number : ℕ) → count_by (◌==◌ number) view.numbers + count_by (◌==◌ number) other.numbers ≤ 1) → one_that_takes view + one_that_takes other ≤ 1
     → (view.takes || other.takes ≡ true → (view.base ≡ base) × (view.senders ≡ senders)) → Fits base senders pushes got (joined view other)
 join_both base senders pushes got view other mine theirs there few alone known = record {
   same = mine.same;
@@ -61,10 +59,10 @@ join_both base senders pushes got view other mine theirs there few alone known =
   idle = λ none. absurd (some_not_none view.base there none);
   own = λ number may.
       sent_append number view.pushed other.pushed
-      ∙ join_own (times number view.numbers) (times number other.numbers) (sent_by number view.pushed) (sent_by number other.pushed) (pushes number) (mine.own number) (theirs.own number) (mine.none number)
-      (theirs.none number) (few number) (let both = times_append number view.numbers other.numbers in omega (arith, both, may));
+      ∙ join_own (count_by (◌==◌ number) view.numbers) (count_by (◌==◌ number) other.numbers) (sent_by number view.pushed) (sent_by number other.pushed) (pushes number) (mine.own number) (theirs.own number) (mine.none number)
+      (theirs.none number) (few number) (let both = count_append (◌==◌ number) view.numbers other.numbers in omega (arith, both, may));
   none = λ number without.
-      let both = times_append number view.numbers other.numbers in
+      let both = count_append (◌==◌ number) view.numbers other.numbers in
       sent_append number view.pushed other.pushed ∙ (λ i. mine.none number (omega (arith, both, without)) i ++ theirs.none number (omega (arith, both, without)) i);
   sound = All-append (IsGoodFor base) view.pushed other.pushed mine.sound theirs.sound;
 }
@@ -79,9 +77,9 @@ keeps_join held views seat view other one kept at apart there opened =
     let theirs = kept.fits other one was in
     let alone : one_that_takes view + one_that_takes one ≤ 1 =
     (let most = two_most one_that_takes views seat other view one at apart was in let all = kept.one in omega (arith, most, all)) in
-    let few : (number : ℕ) → times number view.numbers + times number one.numbers ≤ 1 =
+    let few : (number : ℕ) → count_by (◌==◌ number) view.numbers + count_by (◌==◌ number) one.numbers ≤ 1 =
     (λ number.
-    let most = two_most (λ (v : View). times number v.numbers) views seat other view one at apart was in
+    let most = two_most (λ (v : View). count_by (◌==◌ number) v.numbers) views seat other view one at apart was in
     let all = kept.once number in
     let once = kept.apart number in
     omega (arith, most, all, once)) in
@@ -99,15 +97,15 @@ keeps_join held views seat view other one kept at apart there opened =
       good = kept.good;
       from = kept.from;
       once = λ number.
-          let changed = total_set (λ (v : View). times number v.numbers) views seat view both at in
-          let emptied = total_set (λ (v : View). times number v.numbers) (set views seat both) other one spent there in
-          let parts = times_append number view.numbers one.numbers in
+          let changed = sum_set (λ (v : View). count_by (◌==◌ number) v.numbers) views seat view both at in
+          let emptied = sum_set (λ (v : View). count_by (◌==◌ number) v.numbers) (set views seat both) other one spent there in
+          let parts = count_append (◌==◌ number) view.numbers one.numbers in
           let all = kept.once number in
           omega (arith, changed, emptied, parts, all);
       apart = kept.apart;
       one =
-          let changed = total_set one_that_takes views seat view both at in
-          let emptied = total_set one_that_takes (set views seat both) other one spent there in
+          let changed = sum_set one_that_takes views seat view both at in
+          let emptied = sum_set one_that_takes (set views seat both) other one spent there in
           let parts : one_that_takes both ≡ one_that_takes view + one_that_takes one = join_one view.takes one.takes alone in
           let all = kept.one in
           omega (arith, changed, emptied, parts, all);

@@ -1,6 +1,7 @@
 -- To hand a number over keeps the rule.
-use Rattle.std.proofs.Common.{◌≡◌, refl, sym, subst, ap, ◌∙◌, ℕ, true≢false, Option, None, IsSome, List, [], ◌∷◌, ◌++◌, set, arith}
+use Rattle.std.proofs.Common.{◌≡◌, refl, sym, subst, ap, ◌∙◌, ℕ, true≢false, Option, None, IsSome, List, [], ◌∷◌, ◌++◌, set, arith, count_by, ◌==◌}
 use Rattle.std.proofs.lemmas.List.Elements.{All-nil}
+use Rattle.std.proofs.lemmas.List.Sums.{sum_by_push}
 use mathlib.Core.Option.{some}
 use lib.ListN.{get_elem?}
 use Rattle.gp_clause.specs.declared.problem.Problem.{Problem}
@@ -8,10 +9,9 @@ use Rattle.gp_derivation.specs.declared.exchange.SharedClause.{SharedClause}
 use Rattle.gp_inbox.specs.declared.rule.View.{View}
 use Rattle.gp_inbox.specs.History.{sent_by}
 use Rattle.gp_inbox.specs.Rule.{Fits, Kept, one_that_takes}
-use Rattle.gp_inbox.specs.Senders.{times}
 use Rattle.gp_inbox.specs.Views.{IsGoodFor, left_of, one_of}
-use Rattle.gp_inbox.specs.TotalLaws.{total_push, total_set}
-use Rattle.gp_inbox.proofs.Members.{times_parts}
+use Rattle.gp_base.specs.SumLaws.{sum_set}
+use Rattle.gp_inbox.proofs.Members.{count_parts}
 use Rattle.gp_inbox.proofs.Elements.{each_push, each_set}
 
 -- a base that is there is not missing
@@ -26,7 +26,7 @@ part_left base senders pushes got view fits there unused = record {
   taker = fits.taker;
   other = fits.other;
   idle = λ none. absurd (some_not_none view.base there none);
-  own = λ number may. fits.own number (let parts = times_parts number view.numbers in omega (arith, parts, may));
+  own = λ number may. fits.own number (let parts = count_parts (◌==◌ number) view.numbers in omega (arith, parts, may));
   none = λ number without. ap (sent_by number) unused;
   sound = fits.sound;
 }
@@ -39,7 +39,7 @@ part_right base senders pushes got view fits there unused = record {
   taker = λ may. absurd (true≢false (sym may));
   other = λ may_not. refl;
   idle = λ none. absurd (some_not_none view.base there none);
-  own = λ number may. sym (ap (sent_by number) unused) ∙ fits.own number (let parts = times_parts number view.numbers in omega (arith, parts, may));
+  own = λ number may. sym (ap (sent_by number) unused) ∙ fits.own number (let parts = count_parts (◌==◌ number) view.numbers in omega (arith, parts, may));
   none = λ number without. refl;
   sound = All-nil (IsGoodFor base);
 }
@@ -63,15 +63,15 @@ keeps_part held views seat view kept at there unused =
       good = kept.good;
       from = kept.from;
       once = λ number.
-          let changed = total_set (λ (v : View). times number v.numbers) views seat view left at in
-          let more = total_push (λ (v : View). times number v.numbers) (set views seat left) right in
-          let parts = times_parts number view.numbers in
+          let changed = sum_set (λ (v : View). count_by (◌==◌ number) v.numbers) views seat view left at in
+          let more = sum_by_push (λ (v : View). count_by (◌==◌ number) v.numbers) (set views seat left) right in
+          let parts = count_parts (◌==◌ number) view.numbers in
           let all = kept.once number in
           omega (arith, changed, more, parts, all);
       apart = kept.apart;
       one =
-          let changed = total_set one_that_takes views seat view left at in
-          let more = total_push one_that_takes (set views seat left) right in
+          let changed = sum_set one_that_takes views seat view left at in
+          let more = sum_by_push one_that_takes (set views seat left) right in
           let all = kept.one in
           omega (arith, changed, more, all);
       short = kept.short;

@@ -1,5 +1,5 @@
 -- A push keeps the rule.
-use Rattle.std.proofs.Common.{◌≡◌, refl, sym, subst, ap, ◌∙◌, ℕ, ◌+◌, ◌<◌, ◌≤◌, ◌==◌, Bool, true, false, Option, None, Some, IsSome, List, [], ◌∷◌, ◌++◌, length, set, All, append_assoc, length-append, if◌then◌else◌, arith}
+use Rattle.std.proofs.Common.{◌≡◌, refl, sym, subst, ap, ◌∙◌, ℕ, ◌+◌, ◌<◌, ◌≤◌, ◌==◌, Bool, true, false, Option, None, Some, IsSome, List, [], ◌∷◌, ◌++◌, length, set, All, append_assoc, length-append, if◌then◌else◌, arith, count_by, sum_by}
 use Rattle.std.proofs.lemmas.Bool.{eqb-true}
 use Rattle.std.proofs.lemmas.List.{append-nil}
 use Rattle.std.proofs.lemmas.List.Elements.{All-push}
@@ -9,10 +9,9 @@ use Rattle.gp_clause.specs.declared.problem.Problem.{Problem}
 use Rattle.gp_derivation.specs.declared.exchange.SharedClause.{SharedClause}
 use Rattle.gp_inbox.specs.declared.rule.View.{View}
 use Rattle.gp_inbox.specs.History.{history, sent_by}
-use Rattle.gp_inbox.specs.Rule.{Fits, Kept, one_that_takes, total}
-use Rattle.gp_inbox.specs.Senders.{times}
+use Rattle.gp_inbox.specs.Rule.{Fits, Kept, one_that_takes}
 use Rattle.gp_inbox.specs.Views.{IsGoodFor, MayPush, NamesOneOf, pushed_one}
-use Rattle.gp_inbox.specs.TotalLaws.{at_most, total_set, two_most}
+use Rattle.gp_base.specs.SumLaws.{one_most, sum_set, two_most}
 use Rattle.gp_inbox.proofs.Sending.{sent_append, sent_more, sent_other}
 use Rattle.gp_inbox.proofs.Elements.{each_set}
 
@@ -26,9 +25,9 @@ good_none base clause good none = subst (λ (b : Option Problem). IsGoodFor b cl
 
 -- a number under which a view may push is one of the senders
 pub is_sender : (held : List SharedClause) (views : List View) (seat : ℕ) (view : View) (number : ℕ) → Kept held views → get_elem? views seat ≡ some view → MayPush view number
-    → (senders : List ℕ) → ((n : ℕ) → total (λ (one : View). times n one.numbers) views ≡ times n senders) → 0 < times number senders
+    → (senders : List ℕ) → ((n : ℕ) → sum_by (λ (one : View). count_by (◌==◌ n) one.numbers) views ≡ count_by (◌==◌ n) senders) → 0 < count_by (◌==◌ number) senders
 is_sender held views seat view number kept at may senders once =
-    let most = at_most (λ (one : View). times number one.numbers) views seat view at in
+    let most = one_most (λ (one : View). count_by (◌==◌ number) one.numbers) views seat view at in
     let all = once number in omega (arith, most, all, may)
 
 -- the view that pushed
@@ -43,13 +42,13 @@ push_own base senders pushes got view clause fits good sound may = record {
   own = λ number mine. sent_append number view.pushed (clause ∷ []) ∙ ap (λ (l : List SharedClause). l ++ sent_by number (clause ∷ [])) (fits.own number mine);
   none = λ number without.
       sent_append number view.pushed (clause ∷ [])
-      ∙ (λ i. fits.none number without i ++ sent_other number clause (λ same. let is : times clause.sender view.numbers ≡ times number view.numbers = ap (λ n. times n view.numbers) same in omega (arith, is, without, may)) i);
+      ∙ (λ i. fits.none number without i ++ sent_other number clause (λ same. let is : count_by (◌==◌ clause.sender) view.numbers ≡ count_by (◌==◌ number) view.numbers = ap (λ n. count_by (◌==◌ n) view.numbers) same in omega (arith, is, without, may)) i);
   sound = All-push (IsGoodFor base) view.pushed clause fits.sound sound;
 }
 
 -- a view that may not push under that number
 push_other : (base : Option Problem) (senders : List ℕ) (pushes : ℕ → List SharedClause) (got : List SharedClause) (view : View) (clause : SharedClause) → Fits base senders pushes got view
-    → times clause.sender view.numbers ≡ 0 → Fits base senders (λ number. pushes number ++ sent_by number (clause ∷ [])) got view
+    → count_by (◌==◌ clause.sender) view.numbers ≡ 0 → Fits base senders (λ number. pushes number ++ sent_by number (clause ∷ [])) got view
 push_other base senders pushes got view clause fits without = record {
   same = fits.same;
   taker = fits.taker;
@@ -59,7 +58,7 @@ push_other base senders pushes got view clause fits without = record {
       fits.own number mine
       ∙ sym (append-nil (pushes number))
       ∙ ap (λ (l : List SharedClause). pushes number ++ l)
-      (sym (sent_other number clause (λ same. let is : times clause.sender view.numbers ≡ times number view.numbers = ap (λ n. times n view.numbers) same in omega (arith, is, without, mine))));
+      (sym (sent_other number clause (λ same. let is : count_by (◌==◌ clause.sender) view.numbers ≡ count_by (◌==◌ number) view.numbers = ap (λ n. count_by (◌==◌ n) view.numbers) same in omega (arith, is, without, mine))));
   none = fits.none;
   sound = fits.sound;
 }
@@ -85,7 +84,7 @@ keeps_push held views seat view clause kept at good may room =
     let new : View = pushed_one view clause in
     let pushes : ℕ → List SharedClause = λ number. kept.pushes number ++ sent_by number (clause ∷ []) in
     let longer : history kept.got held ++ clause ∷ [] ≡ history kept.got (held ++ clause ∷ []) = append_assoc kept.got held (clause ∷ []) in
-    let named : 0 < times clause.sender kept.senders = is_sender held views seat view clause.sender kept at may kept.senders kept.once in
+    let named : 0 < count_by (◌==◌ clause.sender) kept.senders = is_sender held views seat view clause.sender kept at may kept.senders kept.once in
     record {
       base = kept.base;
       senders = kept.senders;
@@ -93,7 +92,7 @@ keeps_push held views seat view clause kept at good may room =
       got = kept.got;
       fits = each_set (Fits kept.base kept.senders pushes kept.got) views seat new (push_own kept.base kept.senders kept.pushes kept.got view clause mine good sound may)
           (λ other one apart there.
-          let both = two_most (λ (v : View). times clause.sender v.numbers) views seat other view one at apart there in
+          let both = two_most (λ (v : View). count_by (◌==◌ clause.sender) v.numbers) views seat other view one at apart there in
           let all = kept.once clause.sender in
           let once = kept.apart clause.sender in
           push_other kept.base kept.senders kept.pushes kept.got one clause (kept.fits other one there) (omega (arith, both, all, once, may)));
@@ -103,9 +102,9 @@ keeps_push held views seat view clause kept at good may room =
           ∙ ap (λ (l : List SharedClause). l ++ sent_by number (clause ∷ [])) (kept.order number);
       good = subst (All (IsGoodFor kept.base)) longer (All-push (IsGoodFor kept.base) (history kept.got held) clause kept.good sound);
       from = subst (All (NamesOneOf kept.senders)) longer (All-push (NamesOneOf kept.senders) (history kept.got held) clause kept.from named);
-      once = λ number. let changed = total_set (λ (v : View). times number v.numbers) views seat view new at in let all = kept.once number in omega (arith, changed, all);
+      once = λ number. let changed = sum_set (λ (v : View). count_by (◌==◌ number) v.numbers) views seat view new at in let all = kept.once number in omega (arith, changed, all);
       apart = kept.apart;
-      one = let changed = total_set one_that_takes views seat view new at in let all = kept.one in omega (arith, changed, all);
+      one = let changed = sum_set one_that_takes views seat view new at in let all = kept.one in omega (arith, changed, all);
       short = λ number.
           still_short number clause (kept.pushes number) (kept.short number)
           (λ same.

@@ -1,5 +1,5 @@
 -- A take keeps the rule.
-use Rattle.std.proofs.Common.{◌≡◌, refl, sym, subst, ap, ◌∙◌, ℕ, ◌≢◌, Bool, true, true≢false, Option, List, [], ◌∷◌, ◌++◌, length, set, All, append_assoc, if◌then◌else◌, arith}
+use Rattle.std.proofs.Common.{◌≡◌, refl, sym, subst, ap, ◌∙◌, ℕ, ◌≢◌, Bool, true, true≢false, Option, List, [], ◌∷◌, ◌++◌, length, set, All, append_assoc, if◌then◌else◌, arith, count_by, sum_by, ◌==◌}
 use Rattle.std.proofs.lemmas.List.Elements.{All-head}
 use mathlib.Core.Option.{some}
 use lib.ListN.{get_elem?}
@@ -7,16 +7,15 @@ use Rattle.gp_clause.specs.declared.problem.Problem.{Problem}
 use Rattle.gp_derivation.specs.declared.exchange.SharedClause.{SharedClause}
 use Rattle.gp_inbox.specs.declared.rule.View.{View}
 use Rattle.gp_inbox.specs.History.{history, sent_by}
-use Rattle.gp_inbox.specs.Rule.{Fits, Kept, one_that_takes, total}
-use Rattle.gp_inbox.specs.Senders.{times}
+use Rattle.gp_inbox.specs.Rule.{Fits, Kept, one_that_takes}
 use Rattle.gp_inbox.specs.Views.{IsGoodFor, NamesOneOf, Takes, took_one}
-use Rattle.gp_inbox.specs.TotalLaws.{total_set, two_most}
+use Rattle.gp_base.specs.SumLaws.{sum_set, two_most}
 use Rattle.gp_inbox.proofs.Pushing.{good_none}
 use Rattle.gp_inbox.proofs.Sending.{all_behind, sent_first}
 use Rattle.gp_inbox.proofs.Elements.{each_set}
 
 -- one view alone may take
-pub no_other : (views : List View) (seat other : ℕ) (view one : View) → total one_that_takes views ≡ 1 → get_elem? views seat ≡ some view → other ≢ seat → get_elem? views other ≡ some one
+pub no_other : (views : List View) (seat other : ℕ) (view one : View) → sum_by one_that_takes views ≡ 1 → get_elem? views seat ≡ some view → other ≢ seat → get_elem? views other ≡ some one
     → view.takes ≡ true → one.takes ≡ true → ⊥
 no_other views seat other view one alone at apart there takes too =
     let both = two_most one_that_takes views seat other view one at apart there in
@@ -71,9 +70,9 @@ keeps_take held views seat view clause kept at takes =
         order = order;
         good = subst (All (IsGoodFor kept.base)) same kept.good;
         from = subst (All (NamesOneOf kept.senders)) same kept.from;
-        once = λ number. let changed = total_set (λ (v : View). times number v.numbers) views seat view new at in let all = kept.once number in omega (arith, changed, all);
+        once = λ number. let changed = sum_set (λ (v : View). count_by (◌==◌ number) v.numbers) views seat view new at in let all = kept.once number in omega (arith, changed, all);
         apart = kept.apart;
-        one = let changed = total_set one_that_takes views seat view new at in let all = kept.one in omega (arith, changed, all);
+        one = let changed = sum_set one_that_takes views seat view new at in let all = kept.one in omega (arith, changed, all);
         short = kept.short;
       },
       record {

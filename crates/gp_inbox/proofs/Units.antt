@@ -8,10 +8,10 @@ use Rattle.gp_clause.specs.declared.lit.Lit.{Lit}
 use Rattle.gp_clause.specs.declared.problem.Problem.{Problem}
 use Rattle.gp_clause.specs.Clause.{NamesBelow}
 use Rattle.gp_derivation.specs.declared.exchange.SharedClause.{SharedClause}
-use Rattle.gp_derivation.specs.declared.step.Step.{Step}
-use Rattle.gp_derivation.specs.Certificate.{hinted, Proves}
+use Rattle.gp_certificate.specs.declared.step.Step.{Step}
+use Rattle.gp_certificate.specs.Certificate.{Proves, usable}
 use Rattle.gp_derivation.specs.Exchange.{IsGoodBy}
-use Rattle.gp_derivation.specs.Step.{Passes}
+use Rattle.gp_certificate.specs.Step.{Passes}
 use Rattle.gp_inbox.specs.History.{sent_by}
 
 -- every clause of the problem's variables passes
@@ -27,7 +27,7 @@ one_step_proves problem clause step false_one below is plain = record {
   checks = (
     record {
       hints = subst (All (λ hint. hint < length problem.clauses)) (sym plain) (All-nil (λ hint. hint < length problem.clauses));
-      passes = subst (λ (x : List ℕ × List Lit). Passes problem.edges (problem.kinds ++ []) (hinted problem.clauses x.0) x.1) (λ i. (sym plain i, sym is i))
+      passes = subst (λ (x : List ℕ × List Lit). Passes problem.edges (problem.kinds ++ []) (usable problem.clauses problem.clauses x.0) x.1) (λ i. (sym plain i, sym is i))
           (any_passes problem clause false_one below);
     },
     tt,

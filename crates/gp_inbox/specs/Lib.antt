@@ -3,4 +3,3 @@ pub mod History
 pub mod Views
 pub mod Rule
 pub mod Passes
-pub mod TotalLaws

@@ -1,18 +1,13 @@
 -- The rule of an inbox: what holds, between any two steps, of what the queue holds and of what all passes know.
-use Rattle.std.specs.Prelude.{ℕ, ◌≡◌, ◌+◌, ◌≤◌, true, false, Option, None, IsSome, List, [], ◌∷◌, length, All, if◌then◌else◌}
+use Rattle.std.specs.Prelude.{ℕ, ◌≡◌, ◌≤◌, ◌==◌, true, false, Option, None, IsSome, List, [], length, All, if◌then◌else◌, count_by, sum_by}
 use mathlib.Core.Option.{some}
 use lib.ListN.{get_elem?}
 use Rattle.gp_clause.specs.declared.problem.Problem.{Problem}
 use Rattle.gp_derivation.specs.declared.exchange.SharedClause.{SharedClause}
 use Rattle.gp_inbox.specs.declared.rule.View.{View}
 use Rattle.gp_inbox.specs.History.{history, IsHistory, sent_by}
-use Rattle.gp_inbox.specs.Senders.{AllDifferent, times}
+use Rattle.gp_inbox.specs.Senders.{AllDifferent}
 use Rattle.gp_inbox.specs.Views.{IsGoodFor, MayPush, NamesOneOf}
-
--- a number of each, added up
-abbrev pub total : {V : Type 0} → (V → ℕ) → List V → ℕ
-total number [] = 0
-total number (first ∷ rest) = number first + total number rest
 
 -- one for a view that may take
 abbrev pub one_that_takes : View → ℕ
@@ -27,7 +22,7 @@ pub record Fits (base : Option Problem) (senders : List ℕ) (pushes : ℕ → L
   pub other : view.takes ≡ false → view.taken ≡ []
   pub idle : view.base ≡ None → (view.numbers ≡ []) × (view.pushed ≡ []) × (view.taken ≡ [])
   pub own : (number : ℕ) → MayPush view number → sent_by number view.pushed ≡ pushes number
-  pub none : (number : ℕ) → times number view.numbers ≡ 0 → sent_by number view.pushed ≡ []
+  pub none : (number : ℕ) → count_by (◌==◌ number) view.numbers ≡ 0 → sent_by number view.pushed ≡ []
   pub sound : All (IsGoodFor base) view.pushed
 
 -- the history has of each sender exactly what it pushed, in order; each clause in it is good for the base and names one of the
@@ -41,7 +36,7 @@ pub record Kept (held : List SharedClause) (views : List View) : Type 0 where
   pub order : IsHistory pushes (history got held)
   pub good : All (IsGoodFor base) (history got held)
   pub from : All (NamesOneOf senders) (history got held)
-  pub once : (number : ℕ) → total (λ (view : View). times number view.numbers) views ≡ times number senders
+  pub once : (number : ℕ) → sum_by (λ (view : View). count_by (◌==◌ number) view.numbers) views ≡ count_by (◌==◌ number) senders
   pub apart : AllDifferent senders
-  pub one : total one_that_takes views ≡ 1
+  pub one : sum_by one_that_takes views ≡ 1
   pub short : (number : ℕ) → length (pushes number) ≤ 1024

@@ -1,11 +1,10 @@
 -- What the passes of an inbox know, and what each step tells them.
-use Rattle.std.specs.Prelude.{ℕ, ◌≡◌, ◌*◌, ◌<◌, ◌≤◌, Bool, true, false, ◌||◌, Option, Some, None, IsSomeAnd, List, [], ◌∷◌, ◌++◌, length, take, drop}
+use Rattle.std.specs.Prelude.{ℕ, ◌≡◌, ◌*◌, ◌<◌, ◌≤◌, ◌==◌, Bool, true, false, ◌||◌, Option, Some, None, IsSomeAnd, List, [], ◌∷◌, ◌++◌, length, take, drop, count_by}
 use Rattle.gp_clause.specs.declared.problem.Problem.{Problem}
 use Rattle.gp_derivation.specs.declared.exchange.SharedClause.{SharedClause}
 use Rattle.gp_derivation.specs.Exchange.{IsGood}
 use Rattle.gp_inbox.specs.declared.rule.View.{View}
 use Rattle.gp_inbox.specs.History.{history, sent_by}
-use Rattle.gp_inbox.specs.Senders.{times}
 
 -- a clause is good for the base that a view carries; without a base none is
 abbrev pub IsGoodFor : Option Problem → SharedClause → Type 0
@@ -13,11 +12,11 @@ IsGoodFor base clause = IsSomeAnd base (λ problem. IsGood problem clause)
 
 -- a clause names one of these senders
 abbrev pub NamesOneOf : List ℕ → SharedClause → Type 0
-NamesOneOf senders clause = 0 < times clause.sender senders
+NamesOneOf senders clause = 0 < count_by (◌==◌ clause.sender) senders
 
 -- a pass may push under a number
 abbrev pub MayPush : View → ℕ → Type 0
-MayPush view number = 0 < times number view.numbers
+MayPush view number = 0 < count_by (◌==◌ number) view.numbers
 
 -- what a pass knows before anything was pushed or taken
 abbrev pub unused : Option Problem → List ℕ → List ℕ → Bool → View

@@ -7,8 +7,9 @@ ghost use Rattle.std.specs.Prelude.{◌≡◌, ◌<◌, ◌≤◌, ◌+◌, true
 
 use crate::inbox::{Inbox, Pass};
 use gp_base::Row;
+use gp_certificate::{Certificate, Step};
 use gp_clause::{Clause, Kind, Lit, Problem};
-use gp_derivation::{Certificate, SharedClause, Step};
+use gp_derivation::SharedClause;
 use std::alloc::Global;
 use std::sync::{Arc, Wait};
 use std::test::Fail;

@@ -14,7 +14,7 @@ use Rattle.gp_inbox.specs.declared.rule.View.{View}
 use Rattle.gp_inbox.specs.History.{sent_by}
 use Rattle.gp_search.specs.Mail.{taken_entry}
 use Rattle.gp_workers.specs.declared.work.WindowWork.{WindowWork}
-use Rattle.gp_workers.specs.Telling.{OffersLearned, taken_entries}
+use Rattle.gp_workers.specs.Mail.{OffersLearned, taken_entries}
 
 -- the numbers of so many workers, from 1, without that of the worker at a place
 abbrev pub others : ℕ → ℕ → List ℕ
@@ -69,7 +69,7 @@ pub record AllShared (problem : Problem) (count : ℕ) (work : WindowWork) : Typ
   pub each : (place : ℕ) (pass : Pass SharedClause View) → slice_get work.passes place ≡ Some pass → IsHandedOut problem count work.records place (view pass)
 
 -- nothing was offered, and nothing was taken
-pub record SharesNothing (work : WindowWork) : Type 0 where
+pub record WorksAlone (work : WindowWork) : Type 0 where
   pub offers : All (λ (own : WorkerRecord). own.offered ≡ []) work.records
   pub taken : All (λ (own : WorkerRecord). taken_entries own.log ≡ []) work.records
   pub passes : work.passes ≡ []

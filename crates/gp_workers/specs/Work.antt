@@ -5,13 +5,13 @@ use Rattle.gp_clause.specs.declared.problem.Query.{Query}
 use Rattle.gp_clause.specs.Problem.{IsValidProblem, IsValidQuery}
 use Rattle.gp_clause.specs.Valuation.{Meets}
 use Rattle.gp_derivation.specs.declared.record.WorkerRecord.{WorkerRecord}
-use Rattle.gp_derivation.specs.Certificate.{Refutes}
+use Rattle.gp_certificate.specs.Certificate.{Refutes}
 use Rattle.gp_derivation.specs.Spent.{HasTurnSpentOn}
-use Rattle.gp_search.specs.Verdict.{IsSolvable}
+use Rattle.gp_clause.specs.Edge.{IsSolvable}
 use Rattle.gp_workers.specs.declared.work.WindowWork.{WindowWork}
 use Rattle.gp_workers.specs.declared.work.WorkAnswer.{WorkAnswer}
 use Rattle.gp_workers.specs.declared.work.WorkAnswer.TheVariants.{Model, Refuted, Spent}
-use Rattle.gp_workers.specs.Records.{EachOnce, IsWorkerRecord}
+use Rattle.gp_workers.specs.Record.{EachOnce, IsWorkerRecord}
 
 -- the worker of this number, from 1, has a turn with the ticket that is spent on the entries from one number to another
 pub record IsSpentBy (problem : Problem) (query : Query) (budget : ℕ) (workers : List WorkerRecord) (ticket worker from to : ℕ) : Type 0 where

@@ -7,35 +7,14 @@
 // several in turn.
 #![tactic(auto)]
 
-mod all;
-mod bounded;
 mod crew;
 mod desk;
-mod drawers;
-mod drawing;
-mod finishing;
-mod gathering;
-mod hiring;
-mod in_order;
-mod in_turn;
-mod joining;
+mod inboxes;
 mod mail;
-mod offering;
-mod one;
-mod opening;
-mod prefixes;
 mod sharing;
-mod taking;
-mod ticket_rule;
+mod window;
 mod work;
 mod worker;
-mod working;
 
-pub use all::work_all;
-pub use drawers::{Drawer, Tickets};
-pub use in_order::drawn_in_order;
-pub use in_turn::work_in_turn;
-pub use one::work_one;
-pub use prefixes::takes_prefixes;
-pub use ticket_rule::Hand;
-pub use work::{WindowWork, WorkAnswer};
+pub use window::{work_all, work_in_turn, work_one};
+pub use work::{WindowWork, WorkAnswer, takes_prefixes};

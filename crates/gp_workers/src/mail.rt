@@ -1,10 +1,23 @@
-use crate::bounded::BoundedMail;
+ghost use Rattle.gp_workers.specs.Mail.{GivesFew, TellsOrGivesNone};
+
 use crate::desk::Desk;
 use gp_derivation::SharedClause;
-use gp_search::Mail;
+use gp_search::{Mail, NoMail};
 use std::alloc::AllocError;
 use std::marker::{Brand, Model, PhantomData};
 use std::sync::Wait;
+
+// A mail that gives so few clauses that the log of a worker has room for them.
+pub(crate) trait BoundedMail: Mail {
+    // What it gave so far is few; and it tells what it gives.
+    fn gives_few(&self)
+        ensures few { GivesFew (Self.told self.now) }
+        ensures tells { TellsOrGivesNone (Self.may_give self.now) (Self.told self.now) };
+}
+
+impl<'a> BoundedMail for NoMail<'a> {
+    fn gives_few(&self) {}
+}
 
 // The inboxes of the workers, which are the same as long as they work.
 pub(crate) trait Post {

@@ -1,19 +1,26 @@
-ghost use Rattle.std.specs.Prelude.{◌≡◌, ◌-◌, ◌<◌, ◌≤◌, Some, IfOk, length, map};
+ghost use Rattle.std.specs.Prelude.{◌≡◌, ◌-◌, ◌<◌, ◌≤◌, Some, IfOk, length, map, ℕ, List};
 ghost use Rattle.gp_workers.specs.Crew.{IsDone};
 ghost use Rattle.gp_workers.specs.Desk.{IsDesk, offers_of, told_by};
-ghost use Rattle.gp_workers.specs.Telling.{SharesSoFar};
-ghost use Rattle.gp_workers.specs.Together.{IsShared, IsSharingJob, SameButOffers};
-ghost use Rattle.gp_workers.specs.Work.{CanBeAsked};
+ghost use Rattle.gp_workers.specs.Mail.{SharesSoFar};
+ghost use Rattle.gp_workers.specs.SharedCrew.{IsShared, IsSharingJob, SameButOffers, AreHandedBack};
+ghost use Rattle.gp_workers.specs.Work.{CanBeAsked, IsWork};
+ghost use Rattle.gp_clause.specs.declared.problem.Problem.{Problem};
+ghost use Rattle.gp_clause.specs.declared.problem.Query.{Query};
+ghost use Rattle.gp_workers.specs.Sharing.{AllShared};
 
-use crate::crew::{Shared, SharingJob, Worked, Workload};
+use crate::crew::{Shared, SharingJob, Worked, Workload, gather};
 use crate::desk::{Desk, Outgoing};
+use crate::inboxes::{drain_all, join_all};
 use crate::mail::{Post, WorkerMail};
-use crate::working::work;
+use crate::work::WindowWork;
+use crate::worker::work;
 use gp_base::Row;
 use gp_derivation::{Offered, WorkerRecord};
-use gp_inbox::Inbox;
+use gp_inbox::{Inbox, Pass};
 use gp_outside::Gate;
+use gp_tickets::Tickets;
 use std::alloc::{AllocError, Global};
+use std::collections::VecDeque;
 use std::marker::Brand;
 use std::sync::Wait;
 
@@ -80,11 +87,7 @@ impl<'a> Desk<'a> {
             outgoing,
             ..
         } = self;
-        let Worked {
-            answers,
-            record,
-            drawer,
-        } = worked;
+        let Worked { drawn, record } = worked;
         let WorkerRecord { log, turns, .. } = record;
         let offered = Row::from_vec(offers_of(alloc, outgoing)?);
         let record = WorkerRecord {
@@ -92,11 +95,7 @@ impl<'a> Desk<'a> {
             turns,
             offered,
         };
-        let worked = Worked {
-            answers,
-            record,
-            drawer,
-        };
+        let worked = Worked { drawn, record };
         Ok(Shared { worked, passes })
     }
 }
@@ -106,4 +105,42 @@ fn offers_of(alloc: Global, outgoing: Vec<Outgoing>) -> Result<Vec<Offered>, All
     ensures { IfOk result (λ offers. offers.items ≡ offers_of outgoing.items) }
 {
     outgoing.into_iter().map(|one| one.offered).collect(alloc)
+}
+
+// What the workers handed back, put together: the passes of each inbox are joined, and what is left is taken.
+pub(crate) fn finish<R: Wait>(
+    rt: &R,
+    alloc: Global,
+    tickets: &Tickets,
+    inboxes: &[Inbox],
+    crew: VecDeque<Shared>,
+) -> Result<WindowWork, AllocError>
+    requires some { (1 ≤ length crew.items) × (length crew.items ≡ length inboxes.now) }
+    requires crew { tickets.now.crew ≡ length crew.items }
+    requires back { (problem : Problem) × (queries : List Query) × (budget : ℕ) × AreHandedBack tickets.now problem queries budget inboxes.now 0 crew.items }
+    ensures work { (problem : Problem) (queries : List Query) (budget : ℕ) → AreHandedBack tickets.now problem queries budget inboxes.now 0 crew.items → tickets.now.count ≡ length queries → IfOk result (IsWork problem queries tickets.now.crew budget) }
+    ensures shared { (problem : Problem) (queries : List Query) (budget : ℕ) → AreHandedBack tickets.now problem queries budget inboxes.now 0 crew.items → IfOk result (AllShared problem (length inboxes.now)) }
+{
+    let (crew, rows) = parted(alloc, crew)?;
+    let mut passes = join_all(inboxes, rows);
+    drain_all(rt, inboxes, &mut passes);
+    gather(alloc, tickets, crew)?.into_work(alloc, passes)
+}
+
+// The work of each worker, and its passes.
+fn parted(
+    alloc: Global,
+    mut crew: VecDeque<Shared>,
+) -> Result<(VecDeque<Worked>, VecDeque<Vec<Pass>>), AllocError>
+    ensures worked { IfOk result (λ parts. parts.0.items ≡ map (λ shared. shared.worked) crew.items) }
+    ensures passes { IfOk result (λ parts. parts.1.items ≡ map (λ shared. shared.passes) crew.items) }
+{
+    let mut all = VecDeque::new(alloc);
+    let mut rows = VecDeque::new(alloc);
+    while let Some(shared) = crew.pop_front() {
+        let Shared { worked, passes } = shared;
+        all.push_back(worked)?;
+        rows.push_back(passes)?;
+    }
+    Ok((all, rows))
 }

@@ -1,6 +1,9 @@
+ghost use Rattle.gp_workers.specs.Prefixes.{TakesPrefixes};
+
 use gp_base::Row;
+use gp_certificate::Certificate;
 use gp_clause::Valuation;
-use gp_derivation::{Certificate, WorkerRecord};
+use gp_derivation::WorkerRecord;
 use gp_inbox::Pass;
 
 /// The answer to a query of a window.
@@ -22,3 +25,9 @@ pub struct WindowWork {
     pub records: Row<WorkerRecord>,
     pub passes: Row<Pass>,
 }
+
+/// A law: among workers that shared all, what one of them took from another is a prefix of what the other's record marks
+/// as pushed to it.
+pub fn takes_prefixes()
+    ensures { TakesPrefixes }
+{}

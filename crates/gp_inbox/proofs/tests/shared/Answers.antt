@@ -2,7 +2,7 @@
 use Rattle.std.proofs.Common.{◌≡◌, ◌∙◌, ap, List, [], ◌∷◌, ◌++◌, refl, subst, sym}
 use Rattle.std.specs.Arc.{arc_value}
 use Rattle.gp_clause.specs.Clause.{NamesBelow}
-use Rattle.gp_derivation.specs.declared.step.Step.{Step}
+use Rattle.gp_certificate.specs.declared.step.Step.{Step}
 use Rattle.gp_derivation.specs.Exchange.{IsGoodBy}
 use Rattle.gp_inbox.proofs.Units.{good_by_falsity}
 use Rattle.gp_inbox.proofs.tests.shared.Goals as goal

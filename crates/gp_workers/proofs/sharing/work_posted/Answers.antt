@@ -3,9 +3,9 @@ use Rattle.std.proofs.Common.{◌≡◌, ◌∙◌, sym, ap, arith, ◌-◌}
 use Rattle.gp_workers.specs.declared.crew.Shared.{Shared}
 use Rattle.gp_workers.specs.declared.desk.Desk.{Desk}
 use Rattle.gp_workers.specs.Crew.{IsDone}
-use Rattle.gp_workers.specs.Together.{SameButOffers}
-use Rattle.gp_workers.proofs.SharingCrew.{new_desk, shared_among, silent_yet, still_done}
-use Rattle.gp_workers.proofs.SharingNone.{same_if_ok}
+use Rattle.gp_workers.specs.SharedCrew.{SameButOffers}
+use Rattle.gp_workers.proofs.SharedCrew.{new_desk, shared_among, silent_yet, still_done}
+use Rattle.gp_workers.proofs.CrewAlone.{same_if_ok}
 use Rattle.gp_workers.proofs.sharing.work_posted.Goals as goal
 
 pub new-mail-requires-clause-desk : goal.new-mail-requires-clause-desk

@@ -1,6 +1,6 @@
 -- The record marks what was pushed, which the passes know.
 use Rattle.std.proofs.Common.{◌∙◌, refl}
-use Rattle.gp_workers.proofs.SharingBack.{handed_back}
+use Rattle.gp_workers.proofs.DeskBack.{handed_back}
 use Rattle.gp_workers.proofs.desk.Desk.hand_back.Goals as goal
 
 pub returns-clause-shared : goal.returns-clause-shared

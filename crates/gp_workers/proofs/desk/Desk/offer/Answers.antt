@@ -1,6 +1,6 @@
 -- An offer is kept, and pushed to all others where they have room.
 use Rattle.std.proofs.Common.{length, arith}
-use Rattle.gp_workers.proofs.Offers.{copies_last, desk_same, note_kept, offer_pushed, pushed_to_none}
+use Rattle.gp_workers.proofs.DeskOffers.{copies_last, desk_same, note_kept, offer_pushed, pushed_to_none}
 use Rattle.gp_workers.proofs.desk.Desk.offer.Goals as goal
 
 pub returns-then-len-ge-MOST_PUSHED-clause-desk : goal.returns-then-len-ge-MOST_PUSHED-clause-desk

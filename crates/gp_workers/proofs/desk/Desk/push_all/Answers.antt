@@ -4,7 +4,7 @@ use Rattle.std.proofs.lemmas.List.{length_push}
 use Rattle.std.proofs.lemmas.List.Elements.{All-pop}
 use Rattle.gp_derivation.specs.declared.exchange.SharedClause.{SharedClause}
 use Rattle.gp_workers.specs.Desk.{IsLastOffer, PushesBelow}
-use Rattle.gp_workers.proofs.Pushing.{last_stays, skips_own}
+use Rattle.gp_workers.proofs.DeskPushes.{last_stays, skips_own}
 use Rattle.gp_workers.proofs.desk.Desk.push_all.Goals as goal
 
 pub loop-taker-preserved-then-taker-self : goal.loop-taker-preserved-then-taker-self

@@ -1,6 +1,5 @@
 use Rattle.std.proofs.Common.{◌≡◌, ◌+◌, ◌≤◌, ◌<◌, All, length}
-use Rattle.gp_workers.specs.Desk.{IsLastOffer, PushesBelow, taken_of}
-use Rattle.gp_workers.specs.Offering.{SameWorker}
+use Rattle.gp_workers.specs.Desk.{IsLastOffer, PushesBelow, taken_of, SameWorker}
 use Rattle.gp_workers.proofs.desk.Desk.push_all.Given as goal
 
 abbrev pub invariant-loop-taker : goal.invariant-loop-taker

@@ -1,8 +1,8 @@
 -- The last offer goes to one worker more.
 use Rattle.std.proofs.Common.{refl, sym, ap}
 use Rattle.gp_workers.specs.Desk.{taken_by}
-use Rattle.gp_workers.proofs.Passing.{got_other}
-use Rattle.gp_workers.proofs.Pushing.{good_there, its_inbox, may_push, pushed_there, room_there}
+use Rattle.gp_workers.proofs.DeskPasses.{got_other}
+use Rattle.gp_workers.proofs.DeskPushes.{good_there, its_inbox, may_push, pushed_there, room_there}
 use Rattle.gp_workers.proofs.desk.Desk.push_to.Goals as goal
 
 pub offer-requires-clause-pass : goal.offer-requires-clause-pass

@@ -2,7 +2,7 @@
 use Rattle.std.proofs.Common.{refl}
 use Rattle.std.specs.Vec.{with_item}
 use Rattle.gp_workers.specs.declared.desk.Desk.{Desk}
-use Rattle.gp_workers.proofs.Offers.{found_empty, good_taken, may_take, own_inbox, took_from}
+use Rattle.gp_workers.proofs.DeskOffers.{found_empty, good_taken, may_take, own_inbox, took_from}
 use Rattle.gp_workers.proofs.desk.Desk.take.Goals as goal
 
 pub take-requires-clause-pass : goal.take-requires-clause-pass

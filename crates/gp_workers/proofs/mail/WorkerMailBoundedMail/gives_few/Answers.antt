@@ -1,7 +1,7 @@
 use Rattle.std.proofs.Common.{◌≤◌, length, subst}
 use Rattle.gp_workers.specs.declared.desk.Desk.{Desk}
 use Rattle.gp_workers.specs.Desk.{taken_of}
-use Rattle.gp_workers.proofs.FewTaken.{few_taken}
+use Rattle.gp_workers.proofs.DeskTaken.{few_taken}
 use Rattle.gp_workers.proofs.mail.WorkerMailBoundedMail.gives_few.Goals as goal
 
 pub returns-clause-few : goal.returns-clause-few

@@ -3,8 +3,8 @@ use Rattle.std.proofs.Common.{◌≡◌, ◌∙◌, sym, subst, [], ◌∷◌, �
 use Rattle.gp_derivation.specs.declared.record.WorkerRecord.{WorkerRecord}
 use Rattle.gp_search.specs.Verdict.{turn_of}
 use Rattle.gp_workers.specs.declared.work.WorkAnswer.{WorkAnswer}
-use Rattle.gp_workers.specs.Inside.{IsAnswerBy, record_of}
-use Rattle.gp_workers.proofs.Answering.{answer_due}
+use Rattle.gp_workers.specs.Worker.{IsAnswerBy, record_of}
+use Rattle.gp_workers.proofs.WorkerAnswers.{answer_due}
 use Rattle.gp_workers.proofs.worker.Worker.answer.Goals as goal
 
 pub returns-clause-answer : goal.returns-clause-answer

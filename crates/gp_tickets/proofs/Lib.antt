@@ -1,0 +1,5 @@
+mod Hands
+mod Moves
+mod Steps
+mod Order
+mod Parts

@@ -1,0 +1,192 @@
+ghost use Rattle.std.specs.Prelude.{◌≡◌, ◌≤◌, ◌<◌, ◌+◌, ◌-◌, ℕ, IfOk, Ok, length, map, slice_index_or, All};
+ghost use Rattle.gp_workers.specs.SharedCrew.{IsHandedBack, IsSharingJob};
+ghost use Rattle.gp_workers.specs.Sharing.{AllShared, WorksAlone};
+ghost use Rattle.gp_workers.specs.Work.{CanBeAsked, IsWork};
+ghost use Rattle.gp_workers.specs.Crew.{AreDone, IsJob, SharesNone};
+
+use crate::crew::{Gathered, Job, Shared, SharingJob, Worked, Workload, gather, hire};
+use crate::inboxes::{hire_sharing, open_inboxes};
+use crate::sharing::{finish, work_beside};
+use crate::work::WindowWork;
+use crate::worker::work;
+use gp_clause::{Problem, Query};
+use gp_inbox::Inbox;
+use gp_outside::Gate;
+use gp_search::NoMail;
+use gp_tickets::Tickets;
+use std::alloc::{AllocError, Global};
+use std::collections::VecDeque;
+use std::sync::Wait;
+use std::thread;
+use std::thread::Threads;
+
+/// Answers the queries by so many workers, numbered from 1, each by a search of its own. Each draws tickets until none is
+/// left, and passes the gate after each. They run side by side, or one after another where no thread can be made, and pass
+/// to each other what they learn and is fit to share.
+pub fn work_all<R: Threads + Wait + Sync, G: Gate + Sync>(
+    rt: &R,
+    alloc: Global,
+    problem: &Problem,
+    queries: &[Query],
+    workers: u32,
+    budget: u64,
+    gate: &G,
+) -> Result<WindowWork, AllocError>
+    requires workers { (1 ≤ workers) × (workers ≤ 16) }
+    requires asked { CanBeAsked problem.now queries.now budget }
+    ensures work { IfOk result (IsWork problem.now queries.now workers budget) }
+    ensures alone { workers ≡ 1 → IfOk result WorksAlone }
+    ensures shared { 2 ≤ workers → IfOk result (AllShared problem.now workers) }
+{
+    if workers == 1 {
+        return work_one(alloc, problem, queries, budget, gate);
+    }
+    work_together(rt, alloc, problem, queries, workers, budget, gate)
+}
+
+// Two workers or more.
+fn work_together<R: Threads + Wait + Sync, G: Gate + Sync>(
+    rt: &R,
+    alloc: Global,
+    problem: &Problem,
+    queries: &[Query],
+    workers: u32,
+    budget: u64,
+    gate: &G,
+) -> Result<WindowWork, AllocError>
+    requires workers { (2 ≤ workers) × (workers ≤ 16) }
+    requires asked { CanBeAsked problem.now queries.now budget }
+    ensures work { IfOk result (IsWork problem.now queries.now workers budget) }
+    ensures shared { IfOk result (AllShared problem.now workers) }
+{
+    let (inboxes, columns) = open_inboxes(alloc, problem, workers)?;
+    let inboxes = inboxes.as_slice();
+    let (tickets, jobs) = hire_sharing(alloc, queries.len() as u64, workers, columns)?;
+    let load = Workload {
+        tickets: &tickets,
+        problem,
+        queries,
+        budget,
+        gate,
+    };
+    let handed = run_all(rt, alloc, &load, inboxes, jobs)?;
+    let crew = in_order(alloc, handed)?;
+    finish(rt, alloc, &tickets, inboxes, crew)
+}
+
+fn run_all<R: Threads + Wait + Sync, G: Gate + Sync>(
+    rt: &R,
+    alloc: Global,
+    load: &Workload<'_, G>,
+    inboxes: &[Inbox],
+    jobs: Vec<SharingJob>,
+) -> Result<Vec<Result<Shared, AllocError>>, AllocError>
+    requires asked { CanBeAsked load.now.problem.now load.now.queries.now load.now.budget }
+    requires count { load.now.tickets.now.count ≡ length load.now.queries.now }
+    requires few { (length inboxes.now ≤ 16) × (length jobs.items ≡ length inboxes.now) }
+    requires jobs { (place : ℕ) (d : _) → place < length jobs.items → IsSharingJob load.now.tickets.now load.now.problem.now inboxes.now place (slice_index_or jobs.items place d) }
+    ensures len { IfOk result (λ handed. length handed.items ≡ length jobs.items) }
+    ensures done { IfOk result (λ handed. (place : ℕ) (d : _) → place < length handed.items → IfOk (slice_index_or handed.items place d) (IsHandedBack load.now.tickets.now load.now.problem.now load.now.queries.now load.now.budget inboxes.now place)) }
+{
+    thread::map_vec(
+        rt,
+        jobs,
+        &|sharing: SharingJob| -> Result<Shared, AllocError>
+            requires { CanBeAsked load.now.problem.now load.now.queries.now load.now.budget × (load.now.tickets.now.count ≡ length load.now.queries.now) × (length inboxes.now ≤ 16) × (1 ≤ sharing.job.number) × (sharing.job.number ≤ length inboxes.now) × IsSharingJob load.now.tickets.now load.now.problem.now inboxes.now (sharing.job.number - 1) sharing }
+            ensures { IfOk result (IsHandedBack load.entry.now.tickets.now load.entry.now.problem.now load.entry.now.queries.now load.entry.now.budget inboxes.entry.now (sharing.job.number - 1)) }
+        { work_beside(rt, alloc, load, inboxes, sharing) },
+    )
+}
+
+// What each worker handed back, by number.
+fn in_order(
+    alloc: Global,
+    mut handed: Vec<Result<Shared, AllocError>>,
+) -> Result<VecDeque<Shared>, AllocError>
+    ensures { IfOk result (λ crew. handed.items ≡ map Ok crew.items) }
+{
+    let mut crew = VecDeque::new(alloc);
+    while let Some(shared) = handed.pop() {
+        crew.push_front(shared?)?;
+    }
+    Ok(crew)
+}
+
+/// Answers the queries by so many workers, numbered from 1, one after another in the calling thread, for windows of few
+/// queries that are worked on side by side. Each draws tickets until none is left, and passes the gate after each. So the
+/// first answers all queries, and the others make no search.
+pub fn work_in_turn<G: Gate>(
+    alloc: Global,
+    problem: &Problem,
+    queries: &[Query],
+    workers: u32,
+    budget: u64,
+    gate: &G,
+) -> Result<WindowWork, AllocError>
+    requires workers { (1 ≤ workers) × (workers ≤ 16) }
+    requires asked { CanBeAsked problem.now queries.now budget }
+    ensures work { IfOk result (IsWork problem.now queries.now workers budget) }
+    ensures alone { IfOk result WorksAlone }
+{
+    let (tickets, jobs) = hire(alloc, queries.len() as u64, workers)?;
+    let load = Workload {
+        tickets: &tickets,
+        problem,
+        queries,
+        budget,
+        gate,
+    };
+    let crew = run_in_turn(alloc, &load, jobs)?;
+    gather(alloc, &tickets, crew)?.into_work(alloc, Vec::new(alloc))
+}
+
+// What each worker hands back, by number, where one works after another.
+fn run_in_turn<G: Gate>(
+    alloc: Global,
+    load: &Workload<'_, G>,
+    jobs: Vec<Job>,
+) -> Result<VecDeque<Worked>, AllocError>
+    requires asked { CanBeAsked load.now.problem.now load.now.queries.now load.now.budget }
+    requires count { load.now.tickets.now.count ≡ length load.now.queries.now }
+    requires jobs { (i : ℕ) (d : _) → i < length jobs.items → IsJob load.now.tickets.now (i + 1) (slice_index_or jobs.items i d) }
+    ensures len { IfOk result (λ crew. length crew.items ≡ length jobs.items) }
+    ensures alone { IfOk result (λ crew. All SharesNone crew.items) }
+    ensures done { IfOk result (λ crew. AreDone load.now.tickets.now load.now.problem.now load.now.queries.now load.now.budget 1 crew.items) }
+{
+    let mut crew = VecDeque::new(alloc);
+    for job in jobs {
+        let mut mail = NoMail::new(load.problem);
+        let worked = work(alloc, load, job, &mut mail)?;
+        crew.push_back(worked)?;
+    }
+    Ok(crew)
+}
+
+/// Answers the queries by one search, as worker 1, which passes the gate after each ticket that it draws.
+pub fn work_one<G: Gate>(
+    alloc: Global,
+    problem: &Problem,
+    queries: &[Query],
+    budget: u64,
+    gate: &G,
+) -> Result<WindowWork, AllocError>
+    requires asked { CanBeAsked problem.now queries.now budget }
+    ensures work { IfOk result (IsWork problem.now queries.now 1 budget) }
+    ensures alone { IfOk result WorksAlone }
+{
+    let (tickets, mut drawers) = Tickets::new(alloc, queries.len() as u64, 1)?;
+    let Some(drawer) = drawers.pop() else {
+        unreachable!()
+    };
+    let job = Job { number: 1, drawer };
+    let mut mail = NoMail::new(problem);
+    let load = Workload {
+        tickets: &tickets,
+        problem,
+        queries,
+        budget,
+        gate,
+    };
+    let worked = work(alloc, &load, job, &mut mail)?;
+    Gathered::of(alloc, worked)?.into_work(alloc, Vec::new(alloc))
+}

@@ -113,25 +113,3 @@ first_past [] (suc i) zero past = refl
 first_past [] (suc i) (suc n) past = refl
 first_past (size ∷ sizes) zero n past = absurd (omega (arith, past))
 first_past (size ∷ sizes) (suc i) n past = first_past sizes i n (omega (arith, past))
-
-pub first_zero : (sizes : List ℕ) (n : ℕ) → n ≡ 0 → first_of sizes n ≡ 0
-first_zero sizes n e = ap (first_of sizes) e
-
--- the same of segments
-pub first_step_in : (segments : List (List Event)) (i more n : ℕ) (d : List Event) → i < length segments → i < n → more ≡ i + 1
-    → first_of (map (λ segment. length segment) (drop i segments)) (n - i) ≡ length (get_or segments i d) + first_of (map (λ segment. length segment) (drop more segments)) (n - more)
-first_step_in segments i more n d below left m =
-    let k : ℕ = n - more in
-    let one : n - i ≡ suc k = omega (arith, left, m) in
-    let up : suc i ≡ more = omega (arith, m) in
-    ap (first_of (map (λ segment. length segment) (drop i segments))) one
-    ∙ ap (λ (ss : List (List Event)). first_of (map (λ segment. length segment) ss) (suc k)) (next_drop segments i d below)
-    ∙ ap (λ (j : ℕ). length (get_or segments i d) + first_of (map (λ segment. length segment) (drop j segments)) k) up
-
-pub first_past_in : (segments : List (List Event)) (i n : ℕ) → length segments ≤ i → first_of (map (λ segment. length segment) (drop i segments)) n ≡ 0
-first_past_in [] zero zero past = refl
-first_past_in [] zero (suc n) past = refl
-first_past_in [] (suc i) zero past = refl
-first_past_in [] (suc i) (suc n) past = refl
-first_past_in (segment ∷ segments) zero n past = absurd (omega (arith, past))
-first_past_in (segment ∷ segments) (suc i) n past = first_past_in segments i n (omega (arith, past))

@@ -23,3 +23,5 @@ pub mod EncodedIs
 pub mod Backward
 pub mod PointsFirst
 pub mod Sided
+pub mod Further
+pub mod ExtendedValid

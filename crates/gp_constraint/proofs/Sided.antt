@@ -1,12 +1,12 @@
 -- On which side of an event another one stands, by their numbers.
-use Rattle.std.proofs.Common.{ℕ, zero, suc, ◌≡◌, ◌<◌, ◌∙◌, ap, refl, subst, inl, inr, List, [], ◌∷◌, Bool, true, false, arith, get_or, length}
-use Rattle.std.specs.Prelude.{◌==◌, if◌then◌else◌, nat_lt}
+use Rattle.std.proofs.Common.{ℕ, ◌≡◌, ◌<◌, ◌∙◌, ap, refl, subst, List, [], ◌∷◌, Bool, true, false, get_or, length}
+use Rattle.std.specs.Prelude.{◌==◌, if◌then◌else◌, nat_lt, Contains}
+use Rattle.std.proofs.lemmas.List.Elements.{Contains-get_or}
 use Rattle.gp_window.specs.declared.schedule.EventId.{EventId}
 use Rattle.gp_window.specs.WindowForm.{WindowForm}
 use Rattle.gp_constraint.specs.declared.point.Point.{Point}
 use Rattle.gp_constraint.specs.declared.symbol.Symbol.{Symbol}
 use Rattle.gp_constraint.specs.declared.symbol.Symbol.TheVariants.{Order}
-use Rattle.gp_base.specs.HasLaws.{Has}
 use Rattle.gp_constraint.specs.PointLaws.{points_named}
 use Rattle.gp_constraint.specs.Points.{number_in, points_of}
 use Rattle.gp_constraint.specs.Query.{holds, ordered, side}
@@ -25,13 +25,8 @@ side_is window id p number symbol own other differ is =
     ∙ either (nat_lt (number_in window id) (number_in window p.id)) (number_in window id) (number_in window p.id) in
     rw differ (ap (λ (s : Symbol). s ∷ []) numbers)
 
-has_get : {X : Type 0} (xs : List X) (i : ℕ) (d : X) → i < length xs → Has (get_or xs i d) xs
-has_get [] i d below = absurd (omega (arith, below))
-has_get (x ∷ xs) zero d below = inl refl
-has_get (x ∷ xs) (suc i) d below = inr (has_get xs i d (omega (arith, below)))
-
 -- a point of a window has its number
 pub numbered_get : (window : WindowForm) (points : List Point) (i : ℕ) (d : Point) → points ≡ points_of window → i < length points
     → (get_or points i d).number ≡ number_in window (get_or points i d).id
 numbered_get window points i d are below =
-    ((points_named window).own (get_or points i d) (subst (λ (ps : List Point). Has (get_or points i d) ps) are (has_get points i d below))).3
+    ((points_named window).own (get_or points i d) (subst (λ (ps : List Point). Contains ps (get_or points i d)) are (Contains-get_or points i d below))).3

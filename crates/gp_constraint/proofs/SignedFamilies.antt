@@ -1,6 +1,6 @@
 -- No symbol has both signs in a clause of a window.
 use Rattle.std.proofs.Common.{ℕ, suc, ◌≡◌, ap, sym, ◌∙◌, refl, subst, List, [], ◌∷◌, ◌++◌, Bool, true, false, arith, eqb-true}
-use Rattle.std.specs.Prelude.{◌==◌, ◌&&◌, not, Option, Some, None, nat_lt, nat_le, flat_map, find, if◌then◌else◌, ◌-◌, ◌≢◌}
+use Rattle.std.specs.Prelude.{◌==◌, ◌&&◌, not, Option, Some, None, nat_lt, nat_le, flat_map, find, if◌then◌else◌, ◌-◌, ◌≢◌, Contains}
 use Rattle.std.specs.List.{AllByRecursion, list_any}
 use Rattle.std.specs.Str.{bytes_eq}
 use Rattle.std.proofs.lemmas.Bool.{and_parts, false≢true}
@@ -23,7 +23,7 @@ use Rattle.gp_constraint.specs.declared.term.Term.{Term}
 use Rattle.gp_constraint.specs.declared.term.Term.TheVariants.{Always, Never, Literal}
 use Rattle.gp_constraint.specs.Action.{action_of}
 use Rattle.gp_constraint.specs.Base.{clauses_of}
-use Rattle.gp_base.specs.HasLaws.{find_has, Has, Pairwise, rec_append, rec_at, rec_flat, rec_from}
+use Rattle.gp_base.specs.ListLaws.{contains_found, Pairwise, recursion_append, recursion_at, recursion_flat_map, recursion_from_each}
 use Rattle.gp_constraint.specs.HeldLocks.{held_apart, holds_at_start}
 use Rattle.gp_constraint.specs.Joins.{ended, is_last_of, join_of, joined_by}
 use Rattle.gp_constraint.specs.PointLaws.{one_point, points_named}
@@ -104,7 +104,7 @@ before_after other w r differ =
     (fits_if down (r.id.thread == other.id.thread) (constant (nat_lt r.id.index other.id.index)) second (fits_constant down (nat_lt r.id.index other.id.index))
     (fits_if down (nat_lt r.number other.number) up_too down_too (λ same. absurd (differ (ap low_of same))) (λ same. refl))))
 
-executed_fits : (window : WindowForm) (p q : Point) → Has p (points_of window) → Has q (points_of window) → (p ≡ q → ⊥) → Fits (executed p false) (executed q true)
+executed_fits : (window : WindowForm) (p q : Point) → Contains (points_of window) p → Contains (points_of window) q → (p ≡ q → ⊥) → Fits (executed p false) (executed q true)
 executed_fits window p q i j differ = λ same. absurd (differ (one_point window p q i j (ap low_of same)))
 
 tags_fit : (a b : Symbol) (positive other : Bool) → (tag_of a ≡ tag_of b → ⊥) → Fits (literal a positive) (literal b other)
@@ -148,20 +148,20 @@ one : (x : Term) → Pairwise Fits (x ∷ [])
 one x = (tt, tt)
 
 -- a search for an event other than f
-signed_needs : (window : WindowForm) (f : Point) (test : Point → Bool) → Has f (points_of window) → ((s : Point) → Has s (points_of window) → test s ≡ true → f ≡ s → ⊥)
+signed_needs : (window : WindowForm) (f : Point) (test : Point → Bool) → Contains (points_of window) f → ((s : Point) → Contains (points_of window) s → test s ≡ true → f ≡ s → ⊥)
     → AreSigned (needs f (find test (points_of window)))
 signed_needs window f test i differ = of (find test (points_of window)) refl
   where
     of : (found : Option Point) → find test (points_of window) ≡ found → AreSigned (needs f found)
     of None e = signed (executed f false ∷ []) (one (executed f false))
     of (Some s) e =
-        let got = find_has test (points_of window) s e in
-        rec_append (Pairwise Agree) (simplified (executed f false ∷ executed s true ∷ [])) (simplified (executed f false ∷ before s f ∷ []))
+        let got = contains_found test (points_of window) s e in
+        recursion_append (Pairwise Agree) (simplified (executed f false ∷ executed s true ∷ [])) (simplified (executed f false ∷ before s f ∷ []))
         (signed (executed f false ∷ executed s true ∷ []) (two (executed f false) (executed s true) (executed_fits window f s i got.0 (differ s got.0 got.1))))
         (signed (executed f false ∷ before s f ∷ []) (two (executed f false) (before s f) (fits_before (Executed f.number) false s f (λ e. absurd (omega (arith, e))))))
 
 -- program order
-signed_linked : (window : WindowForm) (f : Point) → Has f (points_of window) → AreSigned (linked f)
+signed_linked : (window : WindowForm) (f : Point) → Contains (points_of window) f → AreSigned (linked f)
 signed_linked window f i =
     let own = ((points_named window).own f i).3 in
     signed_later (f.id.index == 0) (simplified (executed f false ∷ literal (Executed (f.number - 1)) true ∷ [])) (λ later.
@@ -196,13 +196,13 @@ join_event thread (event.Op operation) h = absurd cc
 join_event thread (event.Begin region) h = absurd cc
 join_event thread (event.End region) h = absurd cc
 
-starts_other : (window : WindowForm) → IsFormed window → (p : Point) → Has p (points_of window) → (thread : ℕ) → p.action ≡ Start thread → thread ≢ p.id.thread
+starts_other : (window : WindowForm) → IsFormed window → (p : Point) → Contains (points_of window) p → (thread : ℕ) → p.action ≡ Start thread → thread ≢ p.id.thread
 starts_other window w p i thread is =
     let own = (points_named window).own p i in
     let e = start_event thread own.0 (sym own.2 ∙ is) in
     (w.starts p.id thread (own.1 ∙ ap Some e)).1
 
-joins_other : (window : WindowForm) → IsFormed window → (p : Point) → Has p (points_of window) → (thread : ℕ) → p.action ≡ Join thread → thread ≢ p.id.thread
+joins_other : (window : WindowForm) → IsFormed window → (p : Point) → Contains (points_of window) p → (thread : ℕ) → p.action ≡ Join thread → thread ≢ p.id.thread
 joins_other window w p i thread is =
     let own = (points_named window).own p i in
     let e = join_event thread own.0 (sym own.2 ∙ is) in
@@ -217,7 +217,7 @@ start_is thread (Join other) e = absurd (false≢true e)
 start_is thread Other e = absurd (false≢true e)
 
 -- starts
-signed_start : (window : WindowForm) → IsFormed window → (f : Point) → Has f (points_of window) → AreSigned (start_of window (points_of window) f)
+signed_start : (window : WindowForm) → IsFormed window → (f : Point) → Contains (points_of window) f → AreSigned (start_of window (points_of window) f)
 signed_start window w f i =
     signed_when (f.id.index == 0 && not (is_among window.started f.id.thread)) (needs f (find (is_start_of f.id.thread) (points_of window))) (λ e.
     signed_needs window f (is_start_of f.id.thread) i (λ s j starts same.
@@ -228,7 +228,7 @@ signed_start window w f i =
 join_no_start : (thread other : ℕ) → ◌≡◌ {A = Action} (Join thread) (Start other) → ⊥
 join_no_start thread other e = cc
 
-signed_ended : (window : WindowForm) → IsFormed window → (j : Point) → Has j (points_of window) → (thread : ℕ) → j.action ≡ Join thread
+signed_ended : (window : WindowForm) → IsFormed window → (j : Point) → Contains (points_of window) j → (thread : ℕ) → j.action ≡ Join thread
     → AreSigned (ended window (points_of window) j thread)
 signed_ended window w j i thread joins =
     let points : List Point = points_of window in
@@ -242,7 +242,7 @@ signed_ended window w j i thread joins =
     let threads : thread ≡ j.id.thread = sym (eqb-true g.id.thread thread parts.0) ∙ sym (ap (λ (p : Point). p.id.thread) same) in
     joins_other window w j i thread joins threads))
 
-signed_join : (window : WindowForm) → IsFormed window → (j : Point) → Has j (points_of window) → (action : Action) → j.action ≡ action
+signed_join : (window : WindowForm) → IsFormed window → (j : Point) → Contains (points_of window) j → (action : Action) → j.action ≡ action
     → AreSigned (joined_by window (points_of window) j action)
 signed_join window w j i (Join thread) is =
     signed_either (is_among window.exited thread) (ended window (points_of window) j thread) (simplified (executed j false ∷ []))
@@ -272,7 +272,7 @@ executed_positive r (Literal l) k = λ same. let tags : 1 ≡ tag_of l.symbol = 
 
 positives_fit : (terms : List Term) → AllByRecursion IsPositive terms → Pairwise Fits terms
 positives_fit [] h = tt
-positives_fit (x ∷ terms) h = (rec_from (Fits x) terms (λ y i. positive_fits x y h.0 (rec_at IsPositive y terms h.1 i)), positives_fit terms h.1)
+positives_fit (x ∷ terms) h = (recursion_from_each (Fits x) terms (λ y i. positive_fits x y h.0 (recursion_at IsPositive terms y h.1 i)), positives_fit terms h.1)
 
 positive_if : (b : Bool) (term : Term) → IsPositive term → AllByRecursion IsPositive (if b then term ∷ [] else [])
 positive_if true term h = (h, tt)
@@ -282,12 +282,12 @@ signed_reads : (window : WindowForm) (r : Point) → AreSigned (choices_of windo
 signed_reads window r =
     let points : List Point = points_of window in
     let terms : List Term = flat_map (choice r) points ++ start_choice window r in
-    let positive = rec_append IsPositive (flat_map (choice r) points) (start_choice window r)
-    (rec_flat IsPositive (choice r) points (λ w i. positive_if (is_choice r w) (chosen r w true) (refl, refl)))
+    let positive = recursion_append IsPositive (flat_map (choice r) points) (start_choice window r)
+    (recursion_flat_map IsPositive (choice r) points (λ w i. positive_if (is_choice r w) (chosen r w true) (refl, refl)))
     (positive_if (finds_at_start window r.action) (start_chosen r true) (refl, refl)) in
     signed_when (is_read r.action) (simplified (executed r false ∷ terms)) (λ e.
     signed (executed r false ∷ terms)
-    (rec_from (Fits (executed r false)) terms (λ y i. executed_positive r y (rec_at IsPositive y terms positive i)), positives_fit terms positive))
+    (recursion_from_each (Fits (executed r false)) terms (λ y i. executed_positive r y (recursion_at IsPositive terms y positive i)), positives_fit terms positive))
 
 -- choices
 sees_itself : (action : Action) → sees action action ≡ true → ⊥
@@ -298,7 +298,7 @@ sees_itself (Start thread) h = cc
 sees_itself (Join thread) h = cc
 sees_itself Other h = cc
 
-signed_seen : (window : WindowForm) (r w : Point) → Has r (points_of window) → Has w (points_of window) → AreSigned (seen_from (points_of window) r w)
+signed_seen : (window : WindowForm) (r w : Point) → Contains (points_of window) r → Contains (points_of window) w → AreSigned (seen_from (points_of window) r w)
 signed_seen window r w i j =
     let points : List Point = points_of window in
     let symbol : Symbol = Choice r.number w.number in
@@ -312,11 +312,11 @@ signed_seen window r w i j =
     let differ : w.number ≢ r.number = λ numbers.
     let same : w ≡ r = one_point window w r j i numbers in
     sees_itself r.action (subst (λ (p : Point). sees r.action p.action ≡ true) same parts.0) in
-    rec_append (Pairwise Agree) (first ++ second) third
-    (rec_append (Pairwise Agree) first second
+    recursion_append (Pairwise Agree) (first ++ second) third
+    (recursion_append (Pairwise Agree) first second
     (signed (choice ∷ executed w true ∷ []) (two choice (executed w true) (tags_fit symbol (Executed w.number) false true (λ e. absurd (omega (arith, e))))))
     (signed (choice ∷ before w r ∷ []) (two choice (before w r) (fits_before symbol false w r free))))
-    (rec_flat (Pairwise Agree) (kept_apart r w) points (λ other k.
+    (recursion_flat_map (Pairwise Agree) (kept_apart r w) points (λ other k.
     signed_when (is_rival r.action other.action) (simplified (choice ∷ executed other false ∷ before other w ∷ before r other ∷ [])) (λ e.
     let done : tag_of (Executed other.number) ≢ 2 = λ t. absurd (omega (arith, t)) in
     signed (choice ∷ executed other false ∷ before other w ∷ before r other ∷ []) (
@@ -334,7 +334,7 @@ signed_later_writes window r =
     let symbol : Symbol = StartChoice r.number in
     let choice : Term = start_chosen r false in
     let free : tag_of symbol ≢ 2 = λ e. absurd (omega (arith, e)) in
-    rec_flat (Pairwise Agree) (kept_later window r) points (λ other k.
+    recursion_flat_map (Pairwise Agree) (kept_later window r) points (λ other k.
     signed_when (finds_at_start window r.action && is_rival r.action other.action) (simplified (choice ∷ executed other false ∷ before r other ∷ [])) (λ e.
     let done : tag_of (Executed other.number) ≢ 2 = λ t. absurd (omega (arith, t)) in
     signed (choice ∷ executed other false ∷ before r other ∷ []) (
@@ -348,7 +348,7 @@ take_gives_none p b m mode l lock takes gives same =
     let is : b.action ≡ Lock (Take m l) = sym (ap (λ (q : Point). q.action) same) ∙ takes in
     false≢true (subst (λ (action : Action). gives_back mode lock action ≡ true) is gives)
 
-signed_side : (window : WindowForm) (a c : Point) (positive : Bool) (test : Point → Bool) (next : Point) → Has a (points_of window) → Has c (points_of window)
+signed_side : (window : WindowForm) (a c : Point) (positive : Bool) (test : Point → Bool) (next : Point) → Contains (points_of window) a → Contains (points_of window) c
     → ((b : Point) → test b ≡ true → (a ≡ b → ⊥) × (c ≡ b → ⊥))
     → AreSigned (preceded (executed a false ∷ executed c false ∷ first a c positive ∷ []) (find test (points_of window)) next)
 signed_side window a c positive test next i j differ = of (find test (points_of window)) refl
@@ -362,11 +362,11 @@ signed_side window a c positive test next i j differ = of (find test (points_of 
     of (Some b) e =
         let start : Term = first a c positive in
         let symbol : Symbol = First a.number c.number in
-        let got = find_has test (points_of window) b e in
+        let got = contains_found test (points_of window) b e in
         let others = differ b got.1 in
         let a_start = tags_fit (Executed a.number) symbol false positive (λ t. absurd (omega (arith, t))) in
         let c_start = tags_fit (Executed c.number) symbol false positive (λ t. absurd (omega (arith, t))) in
-        rec_append (Pairwise Agree) (simplified (executed a false ∷ executed c false ∷ start ∷ executed b true ∷ []))
+        recursion_append (Pairwise Agree) (simplified (executed a false ∷ executed c false ∷ start ∷ executed b true ∷ []))
         (simplified (executed a false ∷ executed c false ∷ start ∷ before b next ∷ []))
         (signed (executed a false ∷ executed c false ∷ start ∷ executed b true ∷ []) (
           ((λ same. refl), (a_start, (executed_fits window a b i got.0 others.0, tt))),
@@ -382,13 +382,13 @@ gives_from mode lock thread from b e =
     let late = (and_parts (b.id.thread == thread) (nat_le from b.id.index && gives_back mode lock b.action) e).1 in
     (and_parts (nat_le from b.id.index) (gives_back mode lock b.action) late).1
 
-signed_order : (window : WindowForm) (a c : Point) → Has a (points_of window) → Has c (points_of window) → (mode other : LockMode) (lock again : List ℕ)
+signed_order : (window : WindowForm) (a c : Point) → Contains (points_of window) a → Contains (points_of window) c → (mode other : LockMode) (lock again : List ℕ)
     → a.action ≡ Lock (Take mode lock) → c.action ≡ Lock (Take other again) → AreSigned (in_either_order (points_of window) a mode c other lock)
 signed_order window a c i j mode other lock again a_takes c_takes =
     let points : List Point = points_of window in
     let a_ends : Point → Bool = ends_hold mode lock a.id.thread (suc a.id.index) in
     let c_ends : Point → Bool = ends_hold other lock c.id.thread (suc c.id.index) in
-    rec_append (Pairwise Agree) (preceded (executed a false ∷ executed c false ∷ first a c false ∷ []) (find a_ends points) c)
+    recursion_append (Pairwise Agree) (preceded (executed a false ∷ executed c false ∷ first a c false ∷ []) (find a_ends points) c)
     (preceded (executed a false ∷ executed c false ∷ first a c true ∷ []) (find c_ends points) a)
     (signed_side window a c false a_ends c i j (λ b e.
     let gives = gives_from mode lock a.id.thread (suc a.id.index) b e in
@@ -397,7 +397,7 @@ signed_order window a c i j mode other lock again a_takes c_takes =
     let gives = gives_from other lock c.id.thread (suc c.id.index) b e in
     (take_gives_none a b mode other lock lock a_takes gives, take_gives_none c b other other again lock c_takes gives)))
 
-signed_apart : (window : WindowForm) (a c : Point) → Has a (points_of window) → Has c (points_of window) → (one other : Action) → a.action ≡ one → c.action ≡ other
+signed_apart : (window : WindowForm) (a c : Point) → Contains (points_of window) a → Contains (points_of window) c → (one other : Action) → a.action ≡ one → c.action ≡ other
     → AreSigned (apart (points_of window) a c one other)
 signed_apart window a c i j (Lock (Take mode lock)) (Lock (Take other again)) a_is c_is =
     signed_when (bytes_eq lock again && (exclude mode other && nat_lt a.id.thread c.id.thread)) (in_either_order (points_of window) a mode c other lock)
@@ -425,7 +425,7 @@ against_or_back mode other lock again (Start thread) h g = false≢true h
 against_or_back mode other lock again (Join thread) h g = false≢true h
 against_or_back mode other lock again Other h g = false≢true h
 
-signed_held : (window : WindowForm) (hold : Holding) (c : Point) → Has c (points_of window) → AreSigned (held_apart (points_of window) hold c)
+signed_held : (window : WindowForm) (hold : Holding) (c : Point) → Contains (points_of window) c → AreSigned (held_apart (points_of window) hold c)
 signed_held window hold c i =
     let ends : Point → Bool = ends_hold hold.1 hold.0.0 hold.0.1 0 in
     signed_when (takes_against hold.1 hold.0.0 c.action && not (c.id.thread == hold.0.1)) (needs c (find ends (points_of window))) (λ e.
@@ -439,20 +439,20 @@ pub signed_families : (window : WindowForm) → IsFormed window → AreSigned (c
 signed_families window w =
     let points : List Point = points_of window in
     let P = Pairwise Agree in
-    let c1 = rec_flat P linked points (signed_linked window) in
-    let c2 = rec_flat P (start_of window points) points (signed_start window w) in
-    let c3 = rec_flat P (join_of window points) points (λ j i. signed_join window w j i j.action refl) in
-    let c4 = rec_flat P (choices_of window points) points (λ r i. signed_reads window r) in
-    let c5 = rec_flat P (λ r. flat_map (seen_from points r) points) points (λ r i. rec_flat P (seen_from points r) points (λ v j. signed_seen window r v i j)) in
-    let c6 = rec_flat P (λ r. flat_map (kept_later window r) points) points (λ r i. signed_later_writes window r) in
-    let c7 = rec_flat P (λ a. flat_map (sections_apart points a) points) points (λ a i.
-    rec_flat P (sections_apart points a) points (λ c j. signed_apart window a c i j a.action c.action refl refl)) in
-    let c8 = rec_flat P (λ hold. flat_map (held_apart points hold) points) (holds_at_start window) (λ hold k.
-    rec_flat P (held_apart points hold) points (λ c i. signed_held window hold c i)) in
-    rec_append P (flat_map linked points) _ c1
-    (rec_append P (flat_map (start_of window points) points) _ c2
-    (rec_append P (flat_map (join_of window points) points) _ c3
-    (rec_append P (flat_map (choices_of window points) points) _ c4
-    (rec_append P (flat_map (λ r. flat_map (seen_from points r) points) points) _ c5
-    (rec_append P (flat_map (λ r. flat_map (kept_later window r) points) points) _ c6
-    (rec_append P (flat_map (λ a. flat_map (sections_apart points a) points) points) _ c7 c8))))))
+    let c1 = recursion_flat_map P linked points (signed_linked window) in
+    let c2 = recursion_flat_map P (start_of window points) points (signed_start window w) in
+    let c3 = recursion_flat_map P (join_of window points) points (λ j i. signed_join window w j i j.action refl) in
+    let c4 = recursion_flat_map P (choices_of window points) points (λ r i. signed_reads window r) in
+    let c5 = recursion_flat_map P (λ r. flat_map (seen_from points r) points) points (λ r i. recursion_flat_map P (seen_from points r) points (λ v j. signed_seen window r v i j)) in
+    let c6 = recursion_flat_map P (λ r. flat_map (kept_later window r) points) points (λ r i. signed_later_writes window r) in
+    let c7 = recursion_flat_map P (λ a. flat_map (sections_apart points a) points) points (λ a i.
+    recursion_flat_map P (sections_apart points a) points (λ c j. signed_apart window a c i j a.action c.action refl refl)) in
+    let c8 = recursion_flat_map P (λ hold. flat_map (held_apart points hold) points) (holds_at_start window) (λ hold k.
+    recursion_flat_map P (held_apart points hold) points (λ c i. signed_held window hold c i)) in
+    recursion_append P (flat_map linked points) _ c1
+    (recursion_append P (flat_map (start_of window points) points) _ c2
+    (recursion_append P (flat_map (join_of window points) points) _ c3
+    (recursion_append P (flat_map (choices_of window points) points) _ c4
+    (recursion_append P (flat_map (λ r. flat_map (seen_from points r) points) points) _ c5
+    (recursion_append P (flat_map (λ r. flat_map (kept_later window r) points) points) _ c6
+    (recursion_append P (flat_map (λ a. flat_map (sections_apart points a) points) points) _ c7 c8))))))

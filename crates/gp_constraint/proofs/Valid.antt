@@ -4,25 +4,25 @@ use Rattle.std.specs.Prelude.{ℤ, pos, negsuc, ◌-ℤ◌, ◌≤ℤ◌, ◌<�
 use Rattle.std.specs.List.{AllByRecursion, list_any}
 use Rattle.std.proofs.lemmas.Int.{ints}
 use Rattle.std.proofs.lemmas.List.{length-map}
+use Rattle.std.proofs.lemmas.List.Elements.{All-from_recursion}
 use Rattle.gp_clause.specs.declared.edge.Edge.{Edge}
 use Rattle.gp_clause.specs.declared.lit.Lit.{Lit}
 use Rattle.gp_clause.specs.Clause.{NamesBelow}
-use Rattle.gp_clause.specs.Edge.{Keeps}
+use Rattle.gp_clause.specs.Edge.{Keeps, IsSolvable}
 use Rattle.gp_clause.specs.Problem.{IsValidEdge, IsValidKind, IsValidProblem}
 use Rattle.gp_window.specs.WindowForm.{WindowForm}
 use Rattle.gp_constraint.specs.declared.point.Point.{Point}
 use Rattle.gp_constraint.specs.declared.symbol.Symbol.{Symbol}
 use Rattle.gp_constraint.specs.declared.symbol.Symbol.TheVariants.{Executed}
 use Rattle.gp_constraint.specs.declared.symbol.SymbolicLit.{SymbolicLit}
-use Rattle.gp_base.specs.HasLaws.{rec_all, rec_append, rec_at, rec_flat, rec_from, rec_map}
+use Rattle.gp_base.specs.ListLaws.{nothing_in, recursion_append, recursion_at, recursion_flat_map, recursion_from_each, recursion_map}
 use Rattle.gp_constraint.specs.Base.{base_of, clauses_of, names_in}
 use Rattle.gp_constraint.specs.Numbering.{lits_onto, names_after, names_of, numbered, point_names, with_mention, with_mentions}
 use Rattle.gp_constraint.specs.PointLaws.{next_number, point_within, points_named}
 use Rattle.gp_constraint.specs.Points.{number_at, points_of, sizes_of}
 use Rattle.gp_constraint.specs.ProgramOrder.{edge_to}
 use Rattle.gp_constraint.specs.Symbols.{kind_of, symbol_eq}
-use Rattle.gp_constraint.specs.Laws.{IsSolvable}
-use Rattle.gp_constraint.proofs.Good.{AreGood, AreValidLits, good_families, IsValidSymbol}
+use Rattle.gp_constraint.proofs.Good.{AreGood, AreValidLits, good_families, IsValidSymbol, valid_kind}
 use Rattle.gp_constraint.proofs.Names.{Grows, grows_none, grows_on, number_within, of_grows, onto_stems, size_names}
 
 abbrev pub AreValidNames : ℕ → List Symbol → Type 0
@@ -34,7 +34,7 @@ valid_if n false names more h k = k
 
 pub valid_mention : (n : ℕ) (names : List Symbol) (s : Symbol) → AreValidNames n names → IsValidSymbol n s → AreValidNames n (with_mention names s)
 valid_mention n names s h k =
-    valid_if n (list_any (symbol_eq s) names) names (names ++ s ∷ []) h (rec_append (IsValidSymbol n) names (s ∷ []) h (k, tt))
+    valid_if n (list_any (symbol_eq s) names) names (names ++ s ∷ []) h (recursion_append (IsValidSymbol n) names (s ∷ []) h (k, tt))
 
 few_if : (b : Bool) (names : List Symbol) (s : Symbol) → length (if b then names else names ++ s ∷ []) ≤ length names + 1
 few_if true names s = omega arith
@@ -43,7 +43,7 @@ few_if false names s = let joined = length-append names (s ∷ []) in omega (ari
 pub few_mention : (names : List Symbol) (s : Symbol) → length (with_mention names s) ≤ length names + 1
 few_mention names s = few_if (list_any (symbol_eq s) names) names s
 
-few_after : (names : List Symbol) (lits : List SymbolicLit) → length (names_after names lits) ≤ length names + length lits
+pub few_after : (names : List Symbol) (lits : List SymbolicLit) → length (names_after names lits) ≤ length names + length lits
 few_after names [] = omega arith
 few_after names (lit ∷ lits) =
     let one = few_mention names lit.symbol in
@@ -79,27 +79,27 @@ valid_mentions n names (s ∷ symbols) h k = valid_mentions n (with_mention name
 
 valid_points : (n m : ℕ) → AreValidNames n (point_names m)
 valid_points n zero = tt
-valid_points n (suc m) = rec_append (IsValidSymbol n) (point_names m) (Executed m ∷ []) (valid_points n m) (tt, tt)
+valid_points n (suc m) = recursion_append (IsValidSymbol n) (point_names m) (Executed m ∷ []) (valid_points n m) (tt, tt)
 
 -- numbered clauses name variables below the number of names
 lits_below : (final : List Symbol) (names : List Symbol) (lits : List SymbolicLit) → Grows (names_after names lits) final
     → NamesBelow (length final) (lits_onto [] names lits)
 lits_below final names lits g =
-    rec_all (λ (l : Lit). l.variable < length final) (lits_onto [] names lits)
-    (rec_from (λ (l : Lit). l.variable < length final) (lits_onto [] names lits) (λ l i.
+    All-from_recursion (λ (l : Lit). l.variable < length final) (lits_onto [] names lits)
+    (recursion_from_each (λ (l : Lit). l.variable < length final) (lits_onto [] names lits) (λ l i.
     elim (onto_stems final l [] names lits g i) [
-      | inl none ↦ absurd none
+      | inl none ↦ absurd (nothing_in _ none)
       | inr s ↦ subst (λ (m : Lit). m.variable < length final) s.is (number_within s.lit.symbol final s.named)
     ]))
 
-clauses_below : (final : List Symbol) (names : List Symbol) (clauses : List (List SymbolicLit)) → Grows (names_of names clauses) final
+pub clauses_below : (final : List Symbol) (names : List Symbol) (clauses : List (List SymbolicLit)) → Grows (names_of names clauses) final
     → AllByRecursion (NamesBelow (length final)) (numbered names clauses)
 clauses_below final names [] g = tt
 clauses_below final names (clause ∷ clauses) g =
     let next : List Symbol = names_after names clause in
     (lits_below final names clause (grows_on next (names_of next clauses) final (of_grows next clauses) g), clauses_below final next clauses g)
 
-size_numbered : (names : List Symbol) (clauses : List (List SymbolicLit)) → length (numbered names clauses) ≡ length clauses
+pub size_numbered : (names : List Symbol) (clauses : List (List SymbolicLit)) → length (numbered names clauses) ≡ length clauses
 size_numbered names [] = refl
 size_numbered names (clause ∷ clauses) = ap suc (size_numbered (names_after names clause) clauses)
 
@@ -108,7 +108,7 @@ names_valid window few =
     let n : ℕ = length (points_of window) in
     valid_of n (point_names n) (clauses_of window) (valid_points n n) (good_families window few)
 
-few_names : (window : WindowForm) → length (points_of window) ≤ 2048 → length (names_in window) ≤ 2048 + 2052 * length (clauses_of window)
+pub few_names : (window : WindowForm) → length (points_of window) ≤ 2048 → length (names_in window) ≤ 2048 + 2052 * length (clauses_of window)
 few_names window few =
     let n : ℕ = length (points_of window) in
     let all = few_of n (point_names n) (clauses_of window) (good_families window few) in
@@ -139,12 +139,12 @@ base_valid window few limit =
       few_points = omega (arith, few);
       few_kinds = omega (arith, named, limit, kinds);
       few_clauses = omega (arith, clauses, limit);
-      kinds = rec_all (IsValidKind n) (map kind_of names) (rec_map (IsValidKind n) kind_of names (λ s i. rec_at (IsValidSymbol n) s names (names_valid window few) i));
-      edges = rec_all (IsValidEdge n) (flat_map edge_to points) (rec_flat (IsValidEdge n) edge_to points (λ f i.
+      kinds = All-from_recursion (IsValidKind n) (map kind_of names) (recursion_map (IsValidKind n) kind_of names (λ s i. valid_kind n s (recursion_at (IsValidSymbol n) names s (names_valid window few) i)));
+      edges = All-from_recursion (IsValidEdge n) (flat_map edge_to points) (recursion_flat_map (IsValidEdge n) edge_to points (λ f i.
           one_unless (IsValidEdge n) (f.id.index == 0) (record { a = f.number - 1; b = f.number; c = negsuc 0 })
           (λ later. edge_valid n f.number (point_within window f i))));
       clauses = subst (λ (k : ℕ). All (NamesBelow k) (numbered start (clauses_of window))) (sym kinds)
-          (rec_all (NamesBelow (length names)) (numbered start (clauses_of window)) (clauses_below names start (clauses_of window) (grows_none names)));
+          (All-from_recursion (NamesBelow (length names)) (numbered start (clauses_of window)) (clauses_below names start (clauses_of window) (grows_none names)));
     }
 
 less_from : (x y : ℤ) → x <ℤ y → (x -ℤ y) ≤ℤ negsuc 0
@@ -162,7 +162,7 @@ edges_solvable window =
     let points : List Point = points_of window in
     let place : ℕ → ℤ = λ k. pos k in (
       place,
-      rec_all (Keeps place) (flat_map edge_to points) (rec_flat (Keeps place) edge_to points (λ f i.
+      All-from_recursion (Keeps place) (flat_map edge_to points) (recursion_flat_map (Keeps place) edge_to points (λ f i.
           one_unless (Keeps place) (f.id.index == 0) (record { a = f.number - 1; b = f.number; c = negsuc 0 }) (λ later.
           let own = ((points_named window).own f i).3 in
           let positive = positive_number window f.id.thread f.id.index later in

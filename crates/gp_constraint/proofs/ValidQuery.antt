@@ -1,20 +1,21 @@
 -- The symbols of an instance's query are valid, and few.
 use Rattle.std.proofs.Common.{ℕ, zero, suc, ◌≡◌, ◌≤◌, ◌+◌, ◌*◌, ap, sym, ◌∙◌, subst, inl, inr, List, [], ◌∷◌, ◌++◌, Bool, true, false, arith, eq-eqb, length, length-append, take, drop}
-use Rattle.std.specs.Prelude.{◌==◌, ◌-◌, ◌≢◌, map, flat_map, if◌then◌else◌, nat_lt}
+use Rattle.std.specs.Prelude.{◌==◌, ◌-◌, ◌≢◌, map, flat_map, if◌then◌else◌, nat_lt, Contains}
 use Rattle.std.proofs.lemmas.Bool.{false≢true}
 use Rattle.std.proofs.lemmas.List.{length-map}
+use Rattle.std.proofs.lemmas.List.Elements.{Contains-append_left, Contains-append_right, Contains-append_cases}
 use native.Mathlib.Nat.{suc-mul}
 use Rattle.gp_property.specs.declared.property.PatternStep.{PatternStep}
 use Rattle.gp_property.specs.PropertyForm.{PropertyForm}
-use Rattle.gp_instance.specs.Instance.{is_same}
 use Rattle.gp_instance.specs.Matches.{groups_of}
 use Rattle.gp_window.specs.WindowForm.{WindowForm}
 use Rattle.gp_window.specs.declared.schedule.EventId.{EventId}
+use Rattle.gp_window.specs.Ids.{is_same}
 use Rattle.gp_constraint.specs.declared.point.Point.{Point}
 use Rattle.gp_constraint.specs.declared.symbol.Symbol.{Symbol}
 use Rattle.gp_constraint.specs.declared.symbol.Symbol.TheVariants.{Order, Span}
 use Rattle.gp_constraint.specs.declared.symbol.SymbolicLit.{SymbolicLit}
-use Rattle.gp_base.specs.HasLaws.{flat_back, Has, has_cut, has_dropped, has_left, has_right, has_taken, parts_back, rec_append, rec_from, rec_map, unless_back}
+use Rattle.gp_base.specs.ListLaws.{contains_from_cut, contains_from_drop, contains_from_flat_map, contains_from_take, contains_from_unless, nothing_in, recursion_append, recursion_from_each, recursion_map}
 use Rattle.gp_constraint.specs.PointLaws.{event_below, IsEventOf, points_named, same_event}
 use Rattle.gp_constraint.specs.Points.{number_in, points_of}
 use Rattle.gp_constraint.specs.Query.{holds, mentioned, order_lit, ordered, orders_from, side, sides_of, span_lit, spans_in}
@@ -23,7 +24,7 @@ use Rattle.gp_constraint.proofs.Valid.{AreValidNames}
 
 -- each of these is an event of the window
 abbrev pub AreEvents : WindowForm → List EventId → Type 0
-AreEvents window ids = (id : EventId) → Has id ids → IsEventOf window id
+AreEvents window ids = (id : EventId) → Contains ids id → IsEventOf window id
 
 cut_size : (n : ℕ) (ids : List EventId) → length (take n ids) + length (drop n ids) ≡ length ids
 cut_size zero ids = omega arith
@@ -34,34 +35,34 @@ cut_size (suc n) (id ∷ ids) = let rest = cut_size n ids in omega (arith, rest)
 pub record OrderOf (window : WindowForm) (ones others : List EventId) (lit : SymbolicLit) : Type 0 where
   pub one : EventId
   pub other : EventId
-  pub first : Has one ones
-  pub second : Has other others
+  pub first : Contains ones one
+  pub second : Contains others other
   pub threads : (one.thread == other.thread) ≡ false
   pub is : ordered window one other ≡ lit
 
-pub between_back : (window : WindowForm) (before group : List EventId) (lit : SymbolicLit) → Has lit (flat_map (λ one. flat_map (order_lit window one) group) before)
+pub between_back : (window : WindowForm) (before group : List EventId) (lit : SymbolicLit) → Contains (flat_map (λ one. flat_map (order_lit window one) group) before) lit
     → OrderOf window before group lit
 between_back window before group lit i =
-    let outer = flat_back (λ one. flat_map (order_lit window one) group) lit before i in
-    let inner = flat_back (order_lit window outer.0) lit group outer.2 in
-    let own = unless_back (outer.0.thread == inner.0.thread) (ordered window outer.0 inner.0) lit inner.2 in
+    let outer = contains_from_flat_map (λ one. flat_map (order_lit window one) group) before lit i in
+    let inner = contains_from_flat_map (order_lit window outer.0) group lit outer.2 in
+    let own = contains_from_unless (outer.0.thread == inner.0.thread) (ordered window outer.0 inner.0) lit inner.2 in
     record { one = outer.0; other = inner.0; first = outer.1; second = inner.1; threads = own.0; is = own.1 }
 
 pub orders_back : (window : WindowForm) (before : List EventId) (pattern : List PatternStep) (ids : List EventId) (lit : SymbolicLit)
-    → Has lit (orders_from window before (groups_of pattern ids)) → OrderOf window (before ++ ids) (before ++ ids) lit
-orders_back window before [] ids lit i = absurd i
+    → Contains (orders_from window before (groups_of pattern ids)) lit → OrderOf window (before ++ ids) (before ++ ids) lit
+orders_back window before [] ids lit i = absurd (nothing_in _ i)
 orders_back window before (step ∷ steps) ids lit i =
     let n : ℕ = length step.atoms in
     let group : List EventId = take n ids in
     let rest : List EventId = drop n ids in
-    elim (parts_back lit (flat_map (λ one. flat_map (order_lit window one) group) before) (orders_from window group (groups_of steps rest)) i) [
+    elim (Contains-append_cases (flat_map (λ one. flat_map (order_lit window one) group) before) (orders_from window group (groups_of steps rest)) lit i) [
       | inl here ↦
           let o = between_back window before group lit here in
           record {
             one = o.one;
             other = o.other;
-            first = has_left o.one before ids o.first;
-            second = has_right o.other before ids (has_taken o.other n ids o.second);
+            first = Contains-append_left before ids o.one o.first;
+            second = Contains-append_right before ids o.other (contains_from_take n ids o.other o.second);
             threads = o.threads;
             is = o.is;
           }
@@ -70,8 +71,8 @@ orders_back window before (step ∷ steps) ids lit i =
           record {
             one = o.one;
             other = o.other;
-            first = has_right o.one before ids (has_cut o.one n ids o.first);
-            second = has_right o.other before ids (has_cut o.other n ids o.second);
+            first = Contains-append_right before ids o.one (contains_from_cut n ids o.one o.first);
+            second = Contains-append_right before ids o.other (contains_from_cut n ids o.other o.second);
             threads = o.threads;
             is = o.is;
           }
@@ -82,25 +83,25 @@ pub record SpanOf (window : WindowForm) (ids : List EventId) (lit : SymbolicLit)
   pub one : EventId
   pub other : EventId
   pub width : ℕ
-  pub first : Has one ids
-  pub second : Has other ids
+  pub first : Contains ids one
+  pub second : Contains ids other
   pub narrow : width ≤ length ids
   pub is : holds (Span (number_in window one) (number_in window other) width) ≡ lit
 
-pub spans_in_back : (window : WindowForm) (group : List EventId) (lit : SymbolicLit) → Has lit (spans_in window group) → SpanOf window group lit
+pub spans_in_back : (window : WindowForm) (group : List EventId) (lit : SymbolicLit) → Contains (spans_in window group) lit → SpanOf window group lit
 spans_in_back window group lit i =
-    let outer = flat_back (λ one. flat_map (span_lit window (length group - 1) one) group) lit group i in
-    let inner = flat_back (span_lit window (length group - 1) outer.0) lit group outer.2 in
-    let own = unless_back (is_same outer.0 inner.0) (holds (Span (number_in window outer.0) (number_in window inner.0) (length group - 1))) lit inner.2 in
+    let outer = contains_from_flat_map (λ one. flat_map (span_lit window (length group - 1) one) group) group lit i in
+    let inner = contains_from_flat_map (span_lit window (length group - 1) outer.0) group lit outer.2 in
+    let own = contains_from_unless (is_same outer.0 inner.0) (holds (Span (number_in window outer.0) (number_in window inner.0) (length group - 1))) lit inner.2 in
     record { one = outer.0; other = inner.0; width = length group - 1; first = outer.1; second = inner.1; narrow = omega arith; is = own.1 }
 
 pub spans_back : (window : WindowForm) (pattern : List PatternStep) (ids : List EventId) (lit : SymbolicLit)
-    → Has lit (flat_map (spans_in window) (groups_of pattern ids)) → SpanOf window ids lit
-spans_back window [] ids lit i = absurd i
+    → Contains (flat_map (spans_in window) (groups_of pattern ids)) lit → SpanOf window ids lit
+spans_back window [] ids lit i = absurd (nothing_in _ i)
 spans_back window (step ∷ steps) ids lit i =
     let n : ℕ = length step.atoms in
     let size = cut_size n ids in
-    elim (parts_back lit (spans_in window (take n ids)) (flat_map (spans_in window) (groups_of steps (drop n ids))) i) [
+    elim (Contains-append_cases (spans_in window (take n ids)) (flat_map (spans_in window) (groups_of steps (drop n ids))) lit i) [
       | inl here ↦
           let s = spans_in_back window (take n ids) lit here in
           let narrow = s.narrow in
@@ -108,8 +109,8 @@ spans_back window (step ∷ steps) ids lit i =
             one = s.one;
             other = s.other;
             width = s.width;
-            first = has_taken s.one n ids s.first;
-            second = has_taken s.other n ids s.second;
+            first = contains_from_take n ids s.one s.first;
+            second = contains_from_take n ids s.other s.second;
             narrow = omega (arith, narrow, size);
             is = s.is;
           }
@@ -120,8 +121,8 @@ spans_back window (step ∷ steps) ids lit i =
             one = s.one;
             other = s.other;
             width = s.width;
-            first = has_dropped s.one n ids s.first;
-            second = has_dropped s.other n ids s.second;
+            first = contains_from_drop n ids s.one s.first;
+            second = contains_from_drop n ids s.other s.second;
             narrow = omega (arith, narrow, size);
             is = s.is;
           }
@@ -131,32 +132,32 @@ spans_back window (step ∷ steps) ids lit i =
 record SideOf (window : WindowForm) (ids : List EventId) (symbol : Symbol) : Type 0 where
   one : EventId
   point : Point
-  first : Has one ids
-  second : Has point (points_of window)
+  first : Contains ids one
+  second : Contains (points_of window) point
   threads : (one.thread == point.id.thread) ≡ false
   is : (ordered window one point.id).symbol ≡ symbol
 
-sides_in_back : (window : WindowForm) (group : List EventId) (symbol : Symbol) → Has symbol (sides_of window group) → SideOf window group symbol
-sides_in_back window [] symbol i = absurd i
-sides_in_back window (single ∷ []) symbol i = absurd i
+sides_in_back : (window : WindowForm) (group : List EventId) (symbol : Symbol) → Contains (sides_of window group) symbol → SideOf window group symbol
+sides_in_back window [] symbol i = absurd (nothing_in _ i)
+sides_in_back window (single ∷ []) symbol i = absurd (nothing_in _ i)
 sides_in_back window (first ∷ second ∷ rest) symbol i =
-    let outer = flat_back (λ id. flat_map (side window id) (points_of window)) symbol (first ∷ second ∷ rest) i in
-    let inner = flat_back (side window outer.0) symbol (points_of window) outer.2 in
-    let own = unless_back (outer.0.thread == inner.0.id.thread) (ordered window outer.0 inner.0.id).symbol symbol inner.2 in
+    let outer = contains_from_flat_map (λ id. flat_map (side window id) (points_of window)) (first ∷ second ∷ rest) symbol i in
+    let inner = contains_from_flat_map (side window outer.0) (points_of window) symbol outer.2 in
+    let own = contains_from_unless (outer.0.thread == inner.0.id.thread) (ordered window outer.0 inner.0.id).symbol symbol inner.2 in
     record { one = outer.0; point = inner.0; first = outer.1; second = inner.1; threads = own.0; is = own.1 }
 
 sides_back : (window : WindowForm) (pattern : List PatternStep) (ids : List EventId) (symbol : Symbol)
-    → Has symbol (flat_map (sides_of window) (groups_of pattern ids)) → SideOf window ids symbol
-sides_back window [] ids symbol i = absurd i
+    → Contains (flat_map (sides_of window) (groups_of pattern ids)) symbol → SideOf window ids symbol
+sides_back window [] ids symbol i = absurd (nothing_in _ i)
 sides_back window (step ∷ steps) ids symbol i =
     let n : ℕ = length step.atoms in
-    elim (parts_back symbol (sides_of window (take n ids)) (flat_map (sides_of window) (groups_of steps (drop n ids))) i) [
+    elim (Contains-append_cases (sides_of window (take n ids)) (flat_map (sides_of window) (groups_of steps (drop n ids))) symbol i) [
       | inl here ↦
           let s = sides_in_back window (take n ids) symbol here in
-          record { one = s.one; point = s.point; first = has_taken s.one n ids s.first; second = s.second; threads = s.threads; is = s.is }
+          record { one = s.one; point = s.point; first = contains_from_take n ids s.one s.first; second = s.second; threads = s.threads; is = s.is }
       | inr there ↦
           let s = sides_back window steps (drop n ids) symbol there in
-          record { one = s.one; point = s.point; first = has_dropped s.one n ids s.first; second = s.second; threads = s.threads; is = s.is }
+          record { one = s.one; point = s.point; first = contains_from_drop n ids s.one s.first; second = s.second; threads = s.threads; is = s.is }
     ]
 
 -- the symbols of a query are valid
@@ -183,8 +184,8 @@ mentioned_valid window property ids events few =
     let groups : List (List EventId) = groups_of property.pattern ids in
     let orders : List SymbolicLit = orders_from window [] groups in
     let spans : List SymbolicLit = flat_map (spans_in window) groups in
-    rec_append (IsValidSymbol n) (map (λ (lit : SymbolicLit). lit.symbol) (orders ++ spans)) (flat_map (sides_of window) groups)
-    (rec_map (IsValidSymbol n) (λ (lit : SymbolicLit). lit.symbol) (orders ++ spans) (λ lit i. elim (parts_back lit orders spans i) [
+    recursion_append (IsValidSymbol n) (map (λ (lit : SymbolicLit). lit.symbol) (orders ++ spans)) (flat_map (sides_of window) groups)
+    (recursion_map (IsValidSymbol n) (λ (lit : SymbolicLit). lit.symbol) (orders ++ spans) (λ lit i. elim (Contains-append_cases orders spans lit i) [
       | inl order ↦
           let o = orders_back window [] property.pattern ids lit order in
           subst (λ (l : SymbolicLit). IsValidSymbol n l.symbol) o.is (valid_apart window o.one o.other (events o.one o.first) (events o.other o.second) o.threads)
@@ -194,7 +195,7 @@ mentioned_valid window property ids events few =
           subst (λ (l : SymbolicLit). IsValidSymbol n l.symbol) s.is
           (event_below window s.one (events s.one s.first), event_below window s.other (events s.other s.second), omega (arith, narrow, few))
     ]))
-    (rec_from (IsValidSymbol n) (flat_map (sides_of window) groups) (λ symbol i.
+    (recursion_from_each (IsValidSymbol n) (flat_map (sides_of window) groups) (λ symbol i.
     let s = sides_back window property.pattern ids symbol i in
     let own = (points_named window).own s.point s.second in
     subst (IsValidSymbol n) s.is (valid_apart window s.one s.point.id (events s.one s.first) (own.0, own.1) s.threads)))

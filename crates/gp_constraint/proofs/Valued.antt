@@ -1,9 +1,10 @@
 -- What an answer to the problem of a window and to a query says of symbols.
 use Rattle.std.proofs.Common.{ℕ, zero, suc, ◌≡◌, ◌<◌, ap, sym, ◌∙◌, subst, inl, inr, List, [], ◌∷◌, ◌++◌, Bool, true, false, arith, length}
-use Rattle.std.specs.Prelude.{ℤ, negsuc, ◌-ℤ◌, ◌≤ℤ◌, ◌<ℤ◌, ◌-◌, ◌==◌, Some, slice_get, map, flat_map, if◌then◌else◌}
+use Rattle.std.specs.Prelude.{ℤ, negsuc, ◌-ℤ◌, ◌≤ℤ◌, ◌<ℤ◌, ◌-◌, ◌==◌, Some, slice_get, map, flat_map, if◌then◌else◌, Contains}
 use Rattle.std.specs.List.{AllByRecursion}
 use Rattle.std.proofs.lemmas.Bool.{ne_eqb}
 use Rattle.std.proofs.lemmas.Int.{ints}
+use Rattle.std.proofs.lemmas.List.Elements.{recursion_from_All, Contains-append_left, Contains-append_right}
 use Rattle.gp_clause.specs.declared.edge.Edge.{Edge}
 use Rattle.gp_clause.specs.declared.kind.Kind.{Kind}
 use Rattle.gp_clause.specs.declared.lit.Lit.{Lit}
@@ -22,11 +23,11 @@ use Rattle.gp_window.specs.WindowForm.{WindowForm}
 use Rattle.gp_window.specs.declared.schedule.EventId.{EventId}
 use Rattle.gp_constraint.specs.declared.point.Point.{Point}
 use Rattle.gp_constraint.specs.declared.symbol.Symbol.{Symbol}
-use Rattle.gp_constraint.specs.declared.symbol.Symbol.TheVariants.{Executed, Order, Choice, StartChoice, First, Span}
+use Rattle.gp_constraint.specs.declared.symbol.Symbol.TheVariants.{Executed, Order, Choice, StartChoice, First, Last, Signal, Span}
 use Rattle.gp_constraint.specs.declared.symbol.SymbolicLit.{SymbolicLit}
 use Rattle.gp_constraint.specs.Action.{action_of}
 use Rattle.gp_constraint.specs.Base.{base_of, clauses_of, first_names, names_in}
-use Rattle.gp_base.specs.HasLaws.{all_rec, Has, has_at, has_left, has_map, has_right, rec_at, rec_flat_at}
+use Rattle.gp_base.specs.ListLaws.{contains_map, first_or_rest, nothing_in, recursion_at, recursion_flat_map_at}
 use Rattle.gp_constraint.specs.Laws.{BaseMeans, QueryMeans}
 use Rattle.gp_constraint.specs.Numbering.{lits_onto, names_after, names_of, number_of, numbered, numbered_lit}
 use Rattle.gp_constraint.specs.PointLaws.{event_id, points_named}
@@ -39,12 +40,12 @@ use Rattle.gp_constraint.proofs.Names.{all_kinds, Grows, grows_none, grows_on, k
 
 -- a truth of variables and places keeps the bounds of these names
 pub record Kept (final : List Symbol) (truth : ℕ → Bool) (place : ℕ → ℤ) : Type 0 where
-  pub bounds : (s : Symbol) → Has s final → KeepsBound place (bound_of (kind_of s) (truth (number_of final s)))
+  pub bounds : (s : Symbol) → Contains final s → KeepsBound place (bound_of (kind_of s) (truth (number_of final s)))
 
 abbrev pub truth_from : List Symbol → (ℕ → Bool) → (ℕ → ℤ) → SymbolTruth
 truth_from final truth place = record { symbols = λ s. truth (number_of final s); places = place }
 
-less_from : (a b : ℤ) → (a -ℤ b) ≤ℤ negsuc 0 → a <ℤ b
+pub less_from : (a b : ℤ) → (a -ℤ b) ≤ℤ negsuc 0 → a <ℤ b
 less_from a b h = omega (arith, ints, h)
 
 -- the bound of a variable's kind is that of its symbol
@@ -55,27 +56,32 @@ bound_from t (Order a b) false h = less_from (t.places b) (t.places a) h
 bound_from t (Choice a b) positive h = tt
 bound_from t (StartChoice a) positive h = tt
 bound_from t (First a b) positive h = tt
+bound_from t (Last a) positive h = tt
+bound_from t (Signal a b) positive h = tt
 bound_from t (Span a b c) true h = h
 bound_from t (Span a b c) false h = h
 
 -- a literal that is true as a variable is true as a symbol
-pub lit_from : (final : List Symbol) (truth : ℕ → Bool) (place : ℕ → ℤ) (lit : SymbolicLit) → Kept final truth place → Has lit.symbol final
+pub lit_from : (final : List Symbol) (truth : ℕ → Bool) (place : ℕ → ℤ) (lit : SymbolicLit) → Kept final truth place → Contains final lit.symbol
     → HoldsLit truth (numbered_lit final lit) → IsTrueLit (truth_from final truth place) lit
 lit_from final truth place lit kept named true_now = (
   true_now,
   bound_from (truth_from final truth place) lit.symbol lit.positive (subst (λ b. KeepsBound place (bound_of (kind_of lit.symbol) b)) true_now (kept.bounds lit.symbol named)),
 )
 
-holds_from : (t : SymbolTruth) (lit : SymbolicLit) (lits : List SymbolicLit) → Has lit lits → IsTrueLit t lit → HoldsSymbolic t lits
-holds_from t lit [] i h = absurd i
-holds_from t lit (first ∷ lits) (inl same) h = inl (subst (λ (l : SymbolicLit). IsTrueLit t l) (sym same) h)
-holds_from t lit (first ∷ lits) (inr i) h = inr (holds_from t lit lits i h)
+holds_from : (t : SymbolTruth) (lit : SymbolicLit) (lits : List SymbolicLit) → Contains lits lit → IsTrueLit t lit → HoldsSymbolic t lits
+holds_from t lit [] i h = absurd (nothing_in _ i)
+holds_from t lit (first ∷ lits) i h =
+    elim (first_or_rest _ _ _ i) [
+      | inl same ↦ inl (subst (λ (l : SymbolicLit). IsTrueLit t l) (sym same) h)
+      | inr i ↦ inr (holds_from t lit lits i h)
+    ]
 
 clause_from : (final : List Symbol) (truth : ℕ → Bool) (place : ℕ → ℤ) (names : List Symbol) (lits : List SymbolicLit) → Kept final truth place
     → Grows (names_after names lits) final → IsTrueClause truth (lits_onto [] names lits) → HoldsSymbolic (truth_from final truth place) lits
 clause_from final truth place names lits kept g (k, l, below, is, true_now) =
-    elim (onto_stems final l [] names lits g (has_at (lits_onto [] names lits) k l below is)) [
-      | inl none ↦ absurd none
+    elim (onto_stems final l [] names lits g (k, below, is)) [
+      | inl none ↦ absurd (nothing_in _ none)
       | inr s ↦ holds_from (truth_from final truth place) s.lit lits s.own
           (lit_from final truth place s.lit kept s.named (subst (λ (m : Lit). HoldsLit truth m) (sym s.is) true_now))
     ]
@@ -90,7 +96,7 @@ clauses_from final truth place names (clause ∷ clauses) kept g h =
       clauses_from final truth place next clauses kept g h.1,
     )
 
-got_front : {X : Type 0} (xs ys : List X) (k : ℕ) (x : X) → slice_get xs k ≡ Some x → slice_get (xs ++ ys) k ≡ Some x
+pub got_front : {X : Type 0} (xs ys : List X) (k : ℕ) (x : X) → slice_get xs k ≡ Some x → slice_get (xs ++ ys) k ≡ Some x
 got_front [] ys k x e = cc
 got_front (first ∷ xs) ys zero x e = e
 got_front (first ∷ xs) ys (suc k) x e = got_front xs ys k x e
@@ -119,7 +125,7 @@ query_kept window property ids v m =
           (kind_there final (number_of final s) s (name_there s final i)));
     }
 
-one_edge : (place : ℕ → ℤ) (b : Bool) (edge : Edge) → b ≡ false → AllByRecursion (Keeps place) (if b then [] else edge ∷ []) → Keeps place edge
+pub one_edge : (place : ℕ → ℤ) (b : Bool) (edge : Edge) → b ≡ false → AllByRecursion (Keeps place) (if b then [] else edge ∷ []) → Keeps place edge
 one_edge place true edge e h = cc
 one_edge place false edge e h = h.0
 
@@ -133,7 +139,7 @@ answer_edges window query v thread index event m there =
     let f : Point = record { number = number_in window id; id = id; action = action_of event } in
     let has = named.all id event there in
     let later : (suc index == 0) ≡ false = ne_eqb (suc index) 0 (λ e. absurd (omega (arith, e))) in
-    let own = rec_flat_at (Keeps (place_of v)) edge_to f (points_of window) (all_rec (Keeps (place_of v)) (flat_map edge_to (points_of window)) m.edges) has in
+    let own = recursion_flat_map_at (Keeps (place_of v)) edge_to (points_of window) f (recursion_from_All (Keeps (place_of v)) (flat_map edge_to (points_of window)) m.edges) has in
     let kept = one_edge (place_of v) (suc index == 0) (record { a = f.number - 1; b = f.number; c = negsuc 0 }) later own in
     let less = less_from (place_of v (f.number - 1)) (place_of v f.number) kept in
     let next = named.next thread index in
@@ -146,7 +152,7 @@ answer_holds : (window : WindowForm) (query : Query) (v : Valuation) (final : Li
 answer_holds window query v final m kept grows =
     let start : List Symbol = first_names window in
     clauses_from final (truth_of v) (place_of v) start (clauses_of window) kept grows
-    (all_rec (IsTrueClause (truth_of v)) (numbered start (clauses_of window)) m.clauses)
+    (recursion_from_All (IsTrueClause (truth_of v)) (numbered start (clauses_of window)) m.clauses)
 
 pub answer_base : (window : WindowForm) (query : Query) (v : Valuation) → Meets (base_of window) query v → BaseMeans window (read_by (names_in window) v)
 answer_base window query v m = record {
@@ -172,17 +178,17 @@ answer_query window property ids v m =
     let lits : List SymbolicLit = executed_lits window ids ++ locals in
     let sides : List Symbol = flat_map (sides_of window) (groups_of property.pattern ids) in
     let symbols : List Symbol = map (λ (l : SymbolicLit). l.symbol) locals in
-    let assumed = all_rec (HoldsLit (truth_of v)) (map (numbered_lit final) lits) m.assumed in
-    let true_now : (lit : SymbolicLit) → Has lit lits → HoldsLit (truth_of v) (numbered_lit final lit) =
-    λ lit i. rec_at (HoldsLit (truth_of v)) (numbered_lit final lit) (map (numbered_lit final) lits) assumed (has_map (numbered_lit final) lit lits i) in
+    let assumed = recursion_from_All (HoldsLit (truth_of v)) (map (numbered_lit final) lits) m.assumed in
+    let true_now : (lit : SymbolicLit) → Contains lits lit → HoldsLit (truth_of v) (numbered_lit final lit) =
+    λ lit i. recursion_at (HoldsLit (truth_of v)) (map (numbered_lit final) lits) (numbered_lit final lit) assumed (contains_map (numbered_lit final) lits lit i) in
     record {
       executed = λ id i.
-          true_now (holds (Executed (number_in window id))) (has_left (holds (Executed (number_in window id))) (executed_lits window ids) locals
-          (has_map (λ (e : EventId). holds (Executed (number_in window e))) id ids i));
+          true_now (holds (Executed (number_in window id))) (Contains-append_left (executed_lits window ids) locals (holds (Executed (number_in window id)))
+          (contains_map (λ (e : EventId). holds (Executed (number_in window e))) ids id i));
       pattern = λ lit i.
           lit_from final (truth_of v) (place_of v) lit kept
-          (mentions_have lit.symbol names (mentioned window property ids) (has_left lit.symbol symbols sides (has_map (λ (l : SymbolicLit). l.symbol) lit locals i)))
-          (true_now lit (has_right lit (executed_lits window ids) locals i));
+          (mentions_have lit.symbol names (mentioned window property ids) (Contains-append_left symbols sides lit.symbol (contains_map (λ (l : SymbolicLit). l.symbol) locals lit i)))
+          (true_now lit (Contains-append_right (executed_lits window ids) locals lit i));
       mentioned = λ symbol i.
           bound_from (read_by final v) symbol ((read_by final v).symbols symbol) (kept.bounds symbol (mentions_have symbol names (mentioned window property ids) i));
     }

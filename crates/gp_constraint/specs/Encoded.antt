@@ -1,38 +1,42 @@
--- What the base of a window gives: its problem, and the numbers of its symbols and events.
-use Rattle.std.specs.Prelude.{◌≡◌, ℕ, zero, suc, ◌+◌, ◌<◌, ◌^◌, Bool, true, false, ◌==◌, List, Option, Some, None, Result, Ok, Err, if◌then◌else◌, length, nat_lt, option_map, position, slice_get, unwrap_or}
+-- What the base of a window gives: the window with its problem, and the numbers of its symbols and events. Contracts see it
+-- as its window, of which all the rest is made.
+use Rattle.std.specs.Prelude.{◌≡◌, ℕ, zero, suc, ◌<◌, ◌≤◌, ◌^◌, Bool, true, false, ◌==◌, List, Option, Some, None, Result, Ok, Err, if◌then◌else◌, length, nat_lt, option_map, position, slice_get, unwrap_or}
 use Rattle.gp_clause.specs.declared.lit.Lit.{Lit}
 use Rattle.gp_clause.specs.declared.problem.Problem.{Problem}
 use Rattle.gp_window.specs.declared.schedule.EventId.{EventId}
 use Rattle.gp_window.specs.WindowForm.{WindowForm}
 use Rattle.gp_constraint.specs.declared.fault.BaseFault.{BaseFault}
 use Rattle.gp_constraint.specs.declared.fault.BaseFault.TheVariants.{TooLarge}
-use Rattle.gp_constraint.specs.declared.fault.TheConstants.{MOST_CLAUSES, MOST_POINTS}
+use Rattle.gp_constraint.specs.declared.point.Point.{Point}
 use Rattle.gp_constraint.specs.declared.symbol.Symbol.{Symbol}
 use Rattle.gp_constraint.specs.declared.symbol.Symbol.TheVariants.{Order}
 use Rattle.gp_constraint.specs.Base.{base_of, clauses_of, names_in}
 use Rattle.gp_constraint.specs.Points.{number_at, points_of, sizes_of}
 use Rattle.gp_constraint.specs.Symbols.{symbol_eq}
 
--- a problem, the symbol of each of its variables, and how many events each thread has
-pub record EncodedForm : Type 0 where
-  pub problem : Problem
-  pub names : List Symbol
-  pub sizes : List ℕ
-
--- what the base of a window gives
-abbrev pub encoded_of : WindowForm → EncodedForm
-encoded_of window = record { problem = base_of window; names = names_in window; sizes = sizes_of window }
-
 -- a window of so many events is too large, and so many of its clauses were counted
-abbrev pub too_large : ℕ → ℕ → Result EncodedForm BaseFault
+abbrev pub too_large : ℕ → ℕ → Result WindowForm BaseFault
 too_large events clauses = Err (TooLarge events clauses)
 
 -- the base of a window of at most 2,048 events and 500,000 clauses
-abbrev pub base_due : WindowForm → Result EncodedForm BaseFault
+abbrev pub base_due : WindowForm → Result WindowForm BaseFault
 base_due window =
-    if nat_lt MOST_POINTS (length (points_of window)) then too_large (length (points_of window)) 0
-    else (if nat_lt MOST_CLAUSES (length (clauses_of window)) then too_large (length (points_of window)) (MOST_CLAUSES + 1)
-    else Ok (encoded_of window))
+    if nat_lt 2048 (length (points_of window)) then too_large (length (points_of window)) 0
+    else (if nat_lt 500000 (length (clauses_of window)) then too_large (length (points_of window)) 500001
+    else Ok window)
+
+-- the window is not too large
+pub record IsEncodable (window : WindowForm) : Type 0 where
+  pub points : length (points_of window) ≤ 2048
+  pub clauses : length (clauses_of window) ≤ 500000
+
+-- points, names of variables, sizes of threads and a problem are those of a window that is not too large
+pub record IsBase (window : WindowForm) (points : List Point) (names : List Symbol) (sizes : List ℕ) (problem : Problem) : Type 0 where
+  pub points_are : points ≡ points_of window
+  pub names_are : names ≡ names_in window
+  pub sizes_are : sizes ≡ sizes_of window
+  pub problem_is : problem ≡ base_of window
+  pub encodable : IsEncodable window
 
 -- how many events a thread has; threads count from 1
 abbrev pub size_at : List ℕ → ℕ → ℕ
@@ -59,10 +63,10 @@ order_found names _ _ = None
 
 -- that one event is before another, as a literal; nothing where one of them is not there, both are of one thread, or the
 -- constraints do not speak of their order
-abbrev pub order_in : EncodedForm → EventId → EventId → Option Lit
-order_in encoded one other =
+abbrev pub order_in : WindowForm → EventId → EventId → Option Lit
+order_in window one other =
     if one.thread == other.thread then None
-    else order_found encoded.names (point_in encoded.sizes one) (point_in encoded.sizes other)
+    else order_found (names_in window) (point_in (sizes_of window) one) (point_in (sizes_of window) other)
 
 -- each number of an event fits
 abbrev pub IsSmall : List ℕ → Type 0

@@ -1,5 +1,5 @@
 -- Laws: what the conditions of an instance say of its events.
-use Rattle.std.specs.Prelude.{ℕ, zero, suc, ◌≡◌, ◌≢◌, ◌<◌, ◌+◌, ◌==◌, ◌&&◌, ◌||◌, not, Bool, true, false, List, [], ◌∷◌, ◌++◌, Option, Some, None, length, take, drop, nat_lt, flat_map}
+use Rattle.std.specs.Prelude.{ℕ, zero, suc, ◌≡◌, ◌≢◌, ◌<◌, ◌+◌, ◌==◌, ◌&&◌, ◌||◌, not, Bool, true, false, List, [], ◌∷◌, ◌++◌, Option, Some, None, length, take, drop, nat_lt, flat_map, Contains}
 use Rattle.std.specs.List.{AllByRecursion, list_all}
 use Rattle.std.specs.Str.{bytes_eq}
 use Rattle.std.proofs.Common.{ap, sym, ◌∙◌, refl, subst, inl, inr, arith, eqb-true, eq-eqb, length-append}
@@ -16,17 +16,18 @@ use Rattle.gp_property.specs.PropertyForm.{PropertyForm}
 use Rattle.gp_window.specs.Events.{event_in}
 use Rattle.gp_window.specs.WindowForm.{WindowForm}
 use Rattle.gp_window.specs.declared.schedule.EventId.{EventId}
-use Rattle.gp_instance.specs.Instance.{agree, are_apart, bindings, Choice, choice_of, choices_of, fits_shape, is_instance, is_like_atom, is_same, keep_regions, keep_threads, keeps_conditions, rise}
+use Rattle.gp_window.specs.Ids.{is_same}
+use Rattle.gp_instance.specs.Instance.{agree, are_apart, bindings, Choice, choice_of, choices_of, fits_shape, is_instance, is_like_atom, keep_regions, keep_threads, keeps_conditions, rise}
 use Rattle.gp_instance.specs.Matches.{groups_of}
 use Rattle.gp_instance.specs.Pairs.{all_pairs}
-use Rattle.gp_base.specs.HasLaws.{AreDifferent, Has, has_taken, rec_append, rec_flat}
+use Rattle.gp_base.specs.ListLaws.{AreDifferent, contains_from_take, first_or_rest, nothing_in, recursion_append, recursion_flat_map}
 use Rattle.gp_constraint.specs.PointLaws.{IsEventOf}
 
 -- events of one thread rise from each step to the next; these, of the step before, come before the first
 abbrev pub RiseAlong : List EventId → List (List EventId) → Type 0
 RiseAlong before [] = Unit {0}
 RiseAlong before (group ∷ groups) =
-    ((one other : EventId) → Has one before → Has other group → one.thread ≡ other.thread → one.index < other.index) × RiseAlong group groups
+    ((one other : EventId) → Contains before one → Contains group other → one.thread ≡ other.thread → one.index < other.index) × RiseAlong group groups
 
 -- an atom of this step, and one of a later step
 abbrev IsOf : ℕ → PatternAtom → Type 0
@@ -41,7 +42,7 @@ placed_step step atom (Some shape) = (refl, tt)
 
 placed_steps : (definitions : List EventDef) (step : ℕ) (atoms : List Atom) → AllByRecursion (IsOf step) (flat_map (placed definitions step) atoms)
 placed_steps definitions step atoms =
-    rec_flat (IsOf step) (placed definitions step) atoms (λ atom i. placed_step step atom (shape_named definitions atom.event))
+    recursion_flat_map (IsOf step) (placed definitions step) atoms (λ atom i. placed_step step atom (shape_named definitions atom.event))
 
 of_later : (step from : ℕ) (atoms : List PatternAtom) → step < from → AllByRecursion (IsOf from) atoms → AllByRecursion (IsLater step) atoms
 of_later step from [] less h = tt
@@ -50,7 +51,7 @@ of_later step from (atom ∷ atoms) less h = let own = h.0 in (omega (arith, own
 later_steps : (definitions : List EventDef) (step from : ℕ) (pattern : List PatternStep) → step < from → AllByRecursion (IsLater step) (atoms_from definitions from pattern)
 later_steps definitions step from [] less = tt
 later_steps definitions step from (first ∷ rest) less =
-    rec_append (IsLater step) (flat_map (placed definitions from) first.atoms) (atoms_from definitions (from + 1) rest)
+    recursion_append (IsLater step) (flat_map (placed definitions from) first.atoms) (atoms_from definitions (from + 1) rest)
     (of_later step from (flat_map (placed definitions from) first.atoms) less (placed_steps definitions from first.atoms))
     (later_steps definitions step (from + 1) rest (omega arith))
 
@@ -85,20 +86,23 @@ record IsChosen (test : Choice → Bool) (step : ℕ) (other : EventId) : Type 0
   passes : test choice ≡ true
 
 choice_in : (segments : List (List Event)) (test : Choice → Bool) (step : ℕ) (atoms : List PatternAtom) (ids : List EventId) (other : EventId)
-    → list_all test (choices_of segments atoms ids) ≡ true → length ids ≡ length atoms → AllByRecursion (IsLater step) atoms → Has other ids → IsChosen test step other
-choice_in segments test step [] [] other h size later i = absurd i
+    → list_all test (choices_of segments atoms ids) ≡ true → length ids ≡ length atoms → AllByRecursion (IsLater step) atoms → Contains ids other → IsChosen test step other
+choice_in segments test step [] [] other h size later i = absurd (nothing_in _ i)
 choice_in segments test step [] (id ∷ ids) other h size later i = absurd (omega (arith, size))
-choice_in segments test step (atom ∷ atoms) [] other h size later i = absurd i
-choice_in segments test step (atom ∷ atoms) (id ∷ ids) other h size later (inl same) =
-    let parts = and_parts (test (choice_of segments atom id)) (list_all test (choices_of segments atoms ids)) h in
-    record { choice = choice_of segments atom id; own = same; later = later.0; passes = parts.0 }
-choice_in segments test step (atom ∷ atoms) (id ∷ ids) other h size later (inr i) =
-    let parts = and_parts (test (choice_of segments atom id)) (list_all test (choices_of segments atoms ids)) h in
-    choice_in segments test step atoms ids other parts.1 (omega (arith, size)) later.1 i
+choice_in segments test step (atom ∷ atoms) [] other h size later i = absurd (nothing_in _ i)
+choice_in segments test step (atom ∷ atoms) (id ∷ ids) other h size later i =
+    elim (first_or_rest _ _ _ i) [
+      | inl same ↦
+          let parts = and_parts (test (choice_of segments atom id)) (list_all test (choices_of segments atoms ids)) h in
+          record { choice = choice_of segments atom id; own = same; later = later.0; passes = parts.0 }
+      | inr i ↦
+          let parts = and_parts (test (choice_of segments atom id)) (list_all test (choices_of segments atoms ids)) h in
+          choice_in segments test step atoms ids other parts.1 (omega (arith, size)) later.1 i
+    ]
 
 choice_past : (segments : List (List Event)) (test : Choice → Bool) (step : ℕ) (atoms more : List PatternAtom) (ids : List EventId)
     (other : EventId) → list_all test (choices_of segments (atoms ++ more) ids) ≡ true → length ids ≡ length atoms + length more
-    → AllByRecursion (IsLater step) more → Has other (drop (length atoms) ids) → IsChosen test step other
+    → AllByRecursion (IsLater step) more → Contains (drop (length atoms) ids) other → IsChosen test step other
 choice_past segments test step [] more ids other h size later i = choice_in segments test step more ids other h (omega (arith, size)) later i
 choice_past segments test step (atom ∷ atoms) more [] other h size later i = absurd (omega (arith, size))
 choice_past segments test step (atom ∷ atoms) more (id ∷ ids) other h size later i =
@@ -119,16 +123,16 @@ rise_less earlier later h same less =
 split_rise : (segments : List (List Event)) (step : ℕ) (atoms more : List PatternAtom) (ids : List EventId)
     → length ids ≡ length atoms + length more → AllByRecursion (IsOf step) atoms → AllByRecursion (IsLater step) more
     → all_pairs rise (choices_of segments (atoms ++ more) ids) ≡ true
-    → ((one other : EventId) → Has one (take (length atoms) ids) → Has other (drop (length atoms) ids) → one.thread ≡ other.thread → one.index < other.index)
+    → ((one other : EventId) → Contains (take (length atoms) ids) one → Contains (drop (length atoms) ids) other → one.thread ≡ other.thread → one.index < other.index)
     × (all_pairs rise (choices_of segments more (drop (length atoms) ids)) ≡ true)
-split_rise segments step [] more ids size own later h = ((λ one other i j same. absurd i), h)
+split_rise segments step [] more ids size own later h = ((λ one other i j same. absurd (nothing_in _ i)), h)
 split_rise segments step (atom ∷ atoms) more [] size own later h = absurd (omega (arith, size))
 split_rise segments step (atom ∷ atoms) more (id ∷ ids) size own later h =
     let chosen : Choice = choice_of segments atom id in
     let parts = and_parts (list_all (rise chosen) (choices_of segments (atoms ++ more) ids)) (all_pairs rise (choices_of segments (atoms ++ more) ids)) h in
     let more_split = split_rise segments step atoms more ids (omega (arith, size)) own.1 later parts.1 in
     let here : atom.step ≡ step = own.0 in (
-      (λ one other i j same. elim i [
+      (λ one other i j same. elim (first_or_rest _ _ _ i) [
         | inl first ↦
             let c = choice_past segments (rise chosen) step atoms more ids other parts.0 (omega (arith, size)) later j in
             let threads : id.thread ≡ c.choice.id.thread = ap (λ (e : EventId). e.thread) first ∙ same ∙ sym (ap (λ (e : EventId). e.thread) c.own) in
@@ -150,7 +154,7 @@ drop_size (suc n) m (id ∷ ids) size = drop_size n m ids (omega (arith, size))
 rise_steps : (segments : List (List Event)) (definitions : List EventDef) (step : ℕ) (before : List EventId) (pattern : List PatternStep) (ids : List EventId)
     → are_defined definitions pattern ≡ true
     → length ids ≡ length (atoms_from definitions step pattern) → all_pairs rise (choices_of segments (atoms_from definitions step pattern) ids) ≡ true
-    → ((one other : EventId) → Has one before → Has other ids → one.thread ≡ other.thread → one.index < other.index) → RiseAlong before (groups_of pattern ids)
+    → ((one other : EventId) → Contains before one → Contains ids other → one.thread ≡ other.thread → one.index < other.index) → RiseAlong before (groups_of pattern ids)
 rise_steps segments definitions step before [] ids known size h rises = tt
 rise_steps segments definitions step before (first ∷ rest) ids known size h rises =
     let here : List PatternAtom = flat_map (placed definitions step) first.atoms in
@@ -160,12 +164,12 @@ rise_steps segments definitions step before (first ∷ rest) ids known size h ri
     let count : length here ≡ length first.atoms = placed_size definitions step first.atoms defined.0 in
     let whole : length ids ≡ length here + length more = size ∙ joined in
     let split = split_rise segments step here more ids whole (placed_steps definitions step first.atoms) (later_steps definitions step (step + 1) rest (omega arith)) h in
-    let told : ((one other : EventId) → Has one (take (length first.atoms) ids) → Has other (drop (length first.atoms) ids) → one.thread ≡ other.thread → one.index < other.index)
+    let told : ((one other : EventId) → Contains (take (length first.atoms) ids) one → Contains (drop (length first.atoms) ids) other → one.thread ≡ other.thread → one.index < other.index)
     × (all_pairs rise (choices_of segments more (drop (length first.atoms) ids)) ≡ true) =
-    subst (λ (n : ℕ). ((one other : EventId) → Has one (take n ids) → Has other (drop n ids) → one.thread ≡ other.thread → one.index < other.index)
+    subst (λ (n : ℕ). ((one other : EventId) → Contains (take n ids) one → Contains (drop n ids) other → one.thread ≡ other.thread → one.index < other.index)
     × (all_pairs rise (choices_of segments more (drop n ids)) ≡ true)) count split in
     let cut : length (drop (length first.atoms) ids) ≡ length more = drop_size (length first.atoms) (length more) ids (omega (arith, whole, count)) in (
-      (λ one other i j. rises one other i (has_taken other (length first.atoms) ids j)),
+      (λ one other i j. rises one other i (contains_from_take (length first.atoms) ids other j)),
       rise_steps segments definitions (step + 1) (take (length first.atoms) ids) rest (drop (length first.atoms) ids) defined.1 cut told.1 told.0,
     )
 
@@ -201,19 +205,22 @@ fits_some shape None e = cc
 fits_some shape (Some event) e = (event, refl)
 
 there_in : (segments : List (List Event)) (atoms : List PatternAtom) (ids : List EventId) (id : EventId) → length ids ≡ length atoms
-    → list_all is_like_atom (choices_of segments atoms ids) ≡ true → Has id ids → (event : Event) × (event_in segments id ≡ Some event)
-there_in segments atoms [] id size h i = absurd i
+    → list_all is_like_atom (choices_of segments atoms ids) ≡ true → Contains ids id → (event : Event) × (event_in segments id ≡ Some event)
+there_in segments atoms [] id size h i = absurd (nothing_in _ i)
 there_in segments [] (first ∷ ids) id size h i = absurd (omega (arith, size))
-there_in segments (atom ∷ atoms) (first ∷ ids) id size h (inl same) =
-    let parts = and_parts (is_like_atom (choice_of segments atom first)) (list_all is_like_atom (choices_of segments atoms ids)) h in
-    subst (λ o. (event : Event) × (event_in segments o ≡ Some event)) same (fits_some atom.shape (event_in segments first) parts.0)
-there_in segments (atom ∷ atoms) (first ∷ ids) id size h (inr i) =
-    let parts = and_parts (is_like_atom (choice_of segments atom first)) (list_all is_like_atom (choices_of segments atoms ids)) h in
-    there_in segments atoms ids id (omega (arith, size)) parts.1 i
+there_in segments (atom ∷ atoms) (first ∷ ids) id size h i =
+    elim (first_or_rest _ _ _ i) [
+      | inl same ↦
+          let parts = and_parts (is_like_atom (choice_of segments atom first)) (list_all is_like_atom (choices_of segments atoms ids)) h in
+          subst (λ o. (event : Event) × (event_in segments o ≡ Some event)) same (fits_some atom.shape (event_in segments first) parts.0)
+      | inr i ↦
+          let parts = and_parts (is_like_atom (choice_of segments atom first)) (list_all is_like_atom (choices_of segments atoms ids)) h in
+          there_in segments atoms ids id (omega (arith, size)) parts.1 i
+    ]
 
 -- what an instance is, of its events alone; their threads rise along a pattern whose events are all defined
 pub record InstanceMeans (window : WindowForm) (property : PropertyForm) (ids : List EventId) : Type 0 where
-  pub there : (id : EventId) → Has id ids → IsEventOf window id
+  pub there : (id : EventId) → Contains ids id → IsEventOf window id
   pub different : AreDifferent ids
   pub rises : are_defined property.events property.pattern ≡ true → RiseAlong [] (groups_of property.pattern ids)
 
@@ -235,5 +242,5 @@ instance_means window property ids h =
     record {
       there = λ id i. there_in window.segments atoms ids id size two.0 i;
       different = different_from window.segments atoms ids size five.1;
-      rises = λ known. rise_steps window.segments property.events 0 [] property.pattern ids known size six.1 (λ one other i j same. absurd i);
+      rises = λ known. rise_steps window.segments property.events 0 [] property.pattern ids known size six.1 (λ one other i j same. absurd (nothing_in _ i));
     }

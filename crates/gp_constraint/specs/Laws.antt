@@ -1,9 +1,8 @@
 -- What is true of the problem of a window and of the query of an instance.
-use Rattle.std.specs.Prelude.{ℕ, ℤ, ◌≡◌, ◌≤◌, ◌<◌, true, length, List, All}
-use Rattle.gp_clause.specs.declared.edge.Edge.{Edge}
+use Rattle.std.specs.Prelude.{ℕ, ◌≡◌, ◌≤◌, ◌<◌, true, length, List, Contains}
 use Rattle.gp_clause.specs.declared.problem.Query.{Query}
 use Rattle.gp_clause.specs.declared.valuation.Valuation.{Valuation}
-use Rattle.gp_clause.specs.Edge.{Keeps}
+use Rattle.gp_clause.specs.Edge.{IsSolvable}
 use Rattle.gp_clause.specs.Problem.{IsValidProblem, IsValidQuery}
 use Rattle.gp_clause.specs.Valuation.{Meets, truth_of}
 use Rattle.gp_instance.specs.Instance.{is_instance}
@@ -14,14 +13,9 @@ use Rattle.gp_constraint.specs.declared.symbol.Symbol.{Symbol}
 use Rattle.gp_constraint.specs.declared.symbol.Symbol.TheVariants.{Executed}
 use Rattle.gp_constraint.specs.declared.symbol.SymbolicLit.{SymbolicLit}
 use Rattle.gp_constraint.specs.Base.{base_of, clauses_of, names_in}
-use Rattle.gp_base.specs.HasLaws.{Has}
 use Rattle.gp_constraint.specs.Points.{number_in, points_of}
 use Rattle.gp_constraint.specs.Query.{mentioned, pattern_lits, query_names, query_of}
 use Rattle.gp_constraint.specs.SymbolTruth.{Bound, HoldAll, IsTrueLit, KeepsEdges, read_by, SymbolTruth}
-
--- some places keep all edges
-abbrev pub IsSolvable : List Edge → Type 0
-IsSolvable edges = (place : ℕ → ℤ) × All (Keeps place) edges
 
 -- up to the limits on events and clauses the problem of a window is valid, as is the query of an instance of up to 6 events;
 -- its edges can be kept at any size
@@ -38,9 +32,9 @@ pub record BaseMeans (window : WindowForm) (t : SymbolTruth) : Type 0 where
 
 -- all that the query assumes is true, and the places keep what each symbol says that it mentions
 pub record QueryMeans (window : WindowForm) (property : PropertyForm) (ids : List EventId) (t : SymbolTruth) : Type 0 where
-  pub executed : (id : EventId) → Has id ids → t.symbols (Executed (number_in window id)) ≡ true
-  pub pattern : (lit : SymbolicLit) → Has lit (pattern_lits window property ids) → IsTrueLit t lit
-  pub mentioned : (symbol : Symbol) → Has symbol (mentioned window property ids) → Bound t symbol (t.symbols symbol)
+  pub executed : (id : EventId) → Contains ids id → t.symbols (Executed (number_in window id)) ≡ true
+  pub pattern : (lit : SymbolicLit) → Contains (pattern_lits window property ids) lit → IsTrueLit t lit
+  pub mentioned : (symbol : Symbol) → Contains (mentioned window property ids) symbol → Bound t symbol (t.symbols symbol)
 
 -- what an answer to the problem of a window says of symbols, whatever the query, and what it says by the query of an instance;
 -- point p is executed is variable p

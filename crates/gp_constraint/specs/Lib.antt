@@ -29,3 +29,13 @@ pub mod QueryNames
 pub mod StartTables
 pub mod NumberingLaws
 pub mod EncodedLaws
+pub mod Extended
+pub mod Limited
+pub mod Extending
+pub mod AmongLaws
+pub mod ByPlace
+pub mod ClauseLaws
+pub mod PointIds
+pub mod ScheduleModels
+pub mod StandingLaws
+pub mod TrueLaws

@@ -1,11 +1,11 @@
 -- The query of an instance: what it assumes, and its own variables.
 use Rattle.std.specs.Prelude.{ℕ, ◌-◌, ◌==◌, true, false, List, [], ◌∷◌, ◌++◌, if◌then◌else◌, drop, flat_map, length, map, nat_lt}
 use Rattle.gp_clause.specs.declared.problem.Query.{Query}
-use Rattle.gp_instance.specs.Instance.{is_same}
 use Rattle.gp_instance.specs.Matches.{groups_of}
 use Rattle.gp_property.specs.PropertyForm.{PropertyForm}
 use Rattle.gp_window.specs.declared.schedule.EventId.{EventId}
 use Rattle.gp_window.specs.WindowForm.{WindowForm}
+use Rattle.gp_window.specs.Ids.{is_same}
 use Rattle.gp_constraint.specs.declared.point.Point.{Point}
 use Rattle.gp_constraint.specs.declared.symbol.Symbol.{Symbol}
 use Rattle.gp_constraint.specs.declared.symbol.Symbol.TheVariants.{Executed, Order, Span}

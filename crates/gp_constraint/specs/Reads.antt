@@ -1,20 +1,14 @@
 -- What a read sees: a write of its value, or the start value, and no write of another value between.
-use Rattle.std.specs.Prelude.{ℕ, ℤ, pos, Bool, true, false, not, ◌==◌, ◌&&◌, List, [], ◌∷◌, ◌++◌, if◌then◌else◌, flat_map, nat_lt, unwrap_or, Some}
-use Rattle.std.specs.Cmp.Lexicographic.{slice_cmp}
-use Rattle.std.specs.Ordering.{int_eq, nat_cmp}
+use Rattle.std.specs.Prelude.{Bool, true, false, not, ◌==◌, ◌&&◌, List, [], ◌∷◌, ◌++◌, if◌then◌else◌, flat_map, nat_lt, Some}
+use Rattle.std.specs.Ordering.{int_eq}
 use Rattle.std.specs.Str.{bytes_eq}
-use Rattle.gp_base.specs.Table.{value_at}
-use Rattle.gp_window.specs.WindowForm.{WindowForm}
+use Rattle.gp_window.specs.WindowForm.{start_value, WindowForm}
 use Rattle.gp_constraint.specs.declared.action.Action.{Action}
 use Rattle.gp_constraint.specs.declared.action.Action.TheVariants.{Read, Write}
 use Rattle.gp_constraint.specs.declared.point.Point.{Point}
 use Rattle.gp_constraint.specs.declared.symbol.SymbolicLit.{SymbolicLit}
 use Rattle.gp_constraint.specs.declared.term.Term.{Term}
 use Rattle.gp_constraint.specs.Terms.{before, chosen, executed, preceded, simplified, start_chosen}
-
--- the value of a variable when the window begins; 0 where nothing is kept for it
-abbrev pub start_value : WindowForm → List ℕ → ℤ
-start_value window variable = unwrap_or (value_at (slice_cmp nat_cmp) window.start_values variable) (pos 0)
 
 -- whether it is a read
 abbrev pub is_read : Action → Bool

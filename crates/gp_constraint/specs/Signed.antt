@@ -2,7 +2,7 @@
 use Rattle.std.specs.Prelude.{◌≡◌, List}
 use Rattle.std.specs.List.{AllByRecursion}
 use Rattle.gp_constraint.specs.declared.symbol.SymbolicLit.{SymbolicLit}
-use Rattle.gp_base.specs.HasLaws.{Pairwise}
+use Rattle.gp_base.specs.ListLaws.{Pairwise}
 
 -- two literals of one symbol have one sign
 abbrev pub Agree : SymbolicLit → SymbolicLit → Type 0

@@ -1,5 +1,5 @@
 -- When clauses over symbols are true, and that they are true by their numbers then.
-use Rattle.std.specs.Prelude.{ℕ, ◌≡◌, ◌<◌, ◌++◌, Bool, true, false, not, All, List, length, map, slice_index_or}
+use Rattle.std.specs.Prelude.{ℕ, ◌≡◌, ◌<◌, ◌++◌, Bool, true, false, not, All, List, length, map, slice_index_or, Contains}
 use Rattle.std.specs.List.{AllByRecursion, list_any}
 use Rattle.gp_clause.specs.Clause.{HoldsAll}
 use Rattle.gp_clause.specs.Lit.{HoldsLit}
@@ -10,7 +10,6 @@ use Rattle.gp_constraint.specs.declared.symbol.Symbol.{Symbol}
 use Rattle.gp_constraint.specs.declared.symbol.Symbol.TheVariants.{Executed}
 use Rattle.gp_constraint.specs.declared.symbol.SymbolicLit.{SymbolicLit}
 use Rattle.gp_constraint.specs.Base.{base_of, clauses_of, names_in}
-use Rattle.gp_base.specs.HasLaws.{Has}
 use Rattle.gp_constraint.specs.PointLaws.{IsEventOf}
 use Rattle.gp_constraint.specs.Points.{points_of}
 use Rattle.gp_constraint.specs.Query.{executed_lits, pattern_lits, query_names, query_of}
@@ -44,7 +43,7 @@ pub record TruthsAreNumbered : Type 0 where
       → HoldsAll (variable_true (names_in window) truth) (base_of window).clauses
   pub clauses : (window : WindowForm) (property : PropertyForm) (ids : List EventId) (truth : Symbol → Bool) → AreTrue truth (clauses_of window)
       → HoldsAll (variable_true (query_names window property ids) truth) (base_of window).clauses
-  pub assumed : (window : WindowForm) (property : PropertyForm) (ids : List EventId) (truth : Symbol → Bool) → ((id : EventId) → Has id ids → IsEventOf window id)
+  pub assumed : (window : WindowForm) (property : PropertyForm) (ids : List EventId) (truth : Symbol → Bool) → ((id : EventId) → Contains ids id → IsEventOf window id)
       → AreTrueLits truth (executed_lits window ids ++ pattern_lits window property ids)
       → All (HoldsLit (variable_true (query_names window property ids) truth)) (query_of window property ids).assumed
   pub kinds : (window : WindowForm) (property : PropertyForm) (ids : List EventId)

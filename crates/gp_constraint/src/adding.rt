@@ -8,25 +8,63 @@ use crate::symbol::SymbolicLit;
 use crate::term::{Term, before, executed, has_always, is_always, lits_of, push_lit};
 use gp_base::Row;
 use std::alloc::Global;
+use std::marker::Model;
 
-/// Clauses over symbols.
-pub type SymbolicClauses = Row<Row<SymbolicLit>>;
+/// At most 500,000 clauses over symbols.
+#[derive(Drop)]
+pub struct SymbolicClauses {
+    clauses: Row<Row<SymbolicLit>>,
+}
+
+impl Model for SymbolicClauses {
+    ghost use Rattle.std.specs.Prelude.{List, ◌≤◌, length};
+    ghost use Rattle.gp_constraint.specs.declared.symbol.SymbolicLit.{SymbolicLit};
+
+    ghost Value = { List (List SymbolicLit) };
+
+    ghost view = { λ limited. limited.clauses };
+
+    ghost invariant = { λ limited. length limited.clauses ≤ 500000 };
+}
+
+impl SymbolicClauses {
+    pub fn new(alloc: Global) -> SymbolicClauses
+        ensures { result ≡ [] }
+    {
+        SymbolicClauses {
+            clauses: Row::new(alloc),
+        }
+    }
+
+    /// Adds a clause, where there is room.
+    pub fn push(&mut self, clause: Row<SymbolicLit>) -> Result<(), Full>
+        ensures { Adds result self.old self.new (clause ∷ []) }
+    {
+        if self.clauses.len() == MOST_CLAUSES {
+            return Err(Full::TooMany);
+        }
+        self.clauses.push(clause)?;
+        Ok(())
+    }
+
+    pub fn into_row(self) -> Row<Row<SymbolicLit>>
+        ensures all { result ≡ self }
+        ensures few { length result ≤ 500000 }
+    {
+        let SymbolicClauses { clauses } = self;
+        clauses
+    }
+}
 
 /// Adds the clause of these terms, where there is one.
 pub fn add(alloc: Global, clauses: &mut SymbolicClauses, terms: &[Term]) -> Result<(), Full>
-    requires { length clauses.old ≤ MOST_CLAUSES }
-    ensures room { length clauses.new ≤ MOST_CLAUSES }
-    ensures adds { Adds result clauses.old clauses.new (simplified terms.now) }
+    ensures { Adds result clauses.old clauses.new (simplified terms.now) }
 {
     if has_always(terms) {
         return Ok(());
     }
-    if clauses.len() == MOST_CLAUSES {
-        return Err(Full::TooMany);
-    }
     let lits = lits_of(alloc, terms)?;
-    clauses.push(lits)?;
-    Ok(())
+    clauses.push(lits)
 }
 
 /// Adds the clause of the guards and one more term.
@@ -36,9 +74,7 @@ pub fn add_guarded(
     guards: &[Term],
     term: Term,
 ) -> Result<(), Full>
-    requires { length clauses.old ≤ MOST_CLAUSES }
-    ensures room { length clauses.new ≤ MOST_CLAUSES }
-    ensures adds { Adds result clauses.old clauses.new (simplified (guards.now ++ term ∷ [])) }
+    ensures { Adds result clauses.old clauses.new (simplified (guards.now ++ term ∷ [])) }
 {
     if has_always(guards) {
         return Ok(());
@@ -46,13 +82,9 @@ pub fn add_guarded(
     if is_always(term) {
         return Ok(());
     }
-    if clauses.len() == MOST_CLAUSES {
-        return Err(Full::TooMany);
-    }
     let mut lits = lits_of(alloc, guards)?;
     push_lit(&mut lits, term)?;
-    clauses.push(lits)?;
-    Ok(())
+    clauses.push(lits)
 }
 
 /// Unless one of the guards holds, there is such an event, executed and before `f`.
@@ -63,9 +95,7 @@ pub fn preceded(
     found: Option<Point>,
     f: &Point,
 ) -> Result<(), Full>
-    requires { length clauses.old ≤ MOST_CLAUSES }
-    ensures room { length clauses.new ≤ MOST_CLAUSES }
-    ensures adds { Adds result clauses.old clauses.new (preceded guards.now found f.now) }
+    ensures { Adds result clauses.old clauses.new (preceded guards.now found f.now) }
 {
     match found {
         Some(s) => {
@@ -83,9 +113,7 @@ pub fn needs(
     f: &Point,
     found: Option<Point>,
 ) -> Result<(), Full>
-    requires { length clauses.old ≤ MOST_CLAUSES }
-    ensures room { length clauses.new ≤ MOST_CLAUSES }
-    ensures adds { Adds result clauses.old clauses.new (needs f.now found) }
+    ensures { Adds result clauses.old clauses.new (needs f.now found) }
 {
     preceded(alloc, clauses, &[executed(f, false)], found, f)
 }

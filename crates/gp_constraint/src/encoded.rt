@@ -1,77 +1,132 @@
-ghost use Rattle.std.specs.Prelude.{◌≡◌, ◌≤◌};
-ghost use Rattle.gp_constraint.specs.Encoded.{IsSmall, found_lit, order_between, order_in, point_in};
+ghost use Rattle.std.specs.Prelude.{◌≡◌, IfOk};
+ghost use Rattle.gp_clause.specs.Problem.{IsValidProblem};
+ghost use Rattle.gp_constraint.specs.Base.{base_of, names_in};
+ghost use Rattle.gp_constraint.specs.Encoded.{IsBase, IsEncodable, IsSmall, found_lit, order_between, order_in, point_in};
+ghost use Rattle.gp_constraint.specs.Points.{number_in, points_of, sizes_of};
 
-use crate::fault::MOST_POINTS;
 use crate::naming::Names;
-use crate::numbers::point_in;
+use crate::numbers::{number_at, point_in};
+use crate::point::Point;
 use crate::symbol::Symbol;
 use gp_base::Row;
 use gp_clause::{Lit, Problem};
-use gp_window::EventId;
+use gp_window::{EventId, Window};
+use std::alloc::AllocError;
 use std::marker::Model;
 
-/// The problem of a window, with the numbers of its symbols and of its events.
+/// What is made of a window: its points, and its problem with the numbers of its symbols and of its events.
+#[derive(Drop)]
+pub(crate) struct Parts {
+    pub(crate) points: Row<Point>,
+    pub(crate) names: Names,
+    pub(crate) sizes: Row<u32>,
+    pub(crate) problem: Problem,
+}
+
+/// A window with its problem, and the numbers of its symbols and of its events. Contracts see the window, of which all
+/// the rest is made.
 #[derive(Drop)]
 pub struct Encoded {
-    problem: Problem,
+    window: Window,
+    points: Row<Point>,
     names: Names,
     sizes: Row<u32>,
+    problem: Problem,
 }
 
 impl Model for Encoded {
-    ghost use Rattle.std.specs.Prelude.{◌≤◌};
-    ghost use Rattle.gp_constraint.specs.declared.fault.TheConstants.{MOST_POINTS};
-    ghost use Rattle.gp_constraint.specs.Encoded.{EncodedForm, IsSmall};
+    ghost use Rattle.gp_window.specs.WindowForm.{WindowForm};
+    ghost use Rattle.gp_constraint.specs.Encoded.{IsBase};
 
-    ghost Value = { EncodedForm };
+    ghost Value = { WindowForm };
 
-    ghost view = { λ encoded. record { problem = encoded.problem; names = encoded.names; sizes = encoded.sizes } };
+    ghost view = { λ encoded. encoded.window };
 
-    ghost invariant = { λ encoded. IsSmall encoded.sizes × (encoded.problem.points ≤ MOST_POINTS) };
+    ghost invariant = { λ encoded. IsBase encoded.window encoded.points encoded.names encoded.sizes encoded.problem };
 }
 
 impl Encoded {
-    pub(crate) fn new(problem: Problem, names: Names, sizes: Row<u32>) -> Encoded
-        requires small { IsSmall sizes }
-        requires few { problem.points ≤ MOST_POINTS }
-        ensures { result ≡ record { problem = problem; names = names; sizes = sizes } }
+    pub(crate) fn new(window: Window, parts: Parts) -> Encoded
+        requires { IsBase window parts.points parts.names parts.sizes parts.problem }
+        ensures { result ≡ window }
     {
-        Encoded {
-            problem,
+        let Parts {
+            points,
             names,
             sizes,
+            problem,
+        } = parts;
+        Encoded {
+            window,
+            points,
+            names,
+            sizes,
+            problem,
         }
     }
 
+    /// The window, which is not too large.
+    pub fn window(&self) -> &Window
+        ensures window { result.now ≡ self.now }
+        ensures encodable { IsEncodable self.now }
+    {
+        &self.window
+    }
+
     pub fn problem(&self) -> &Problem
-        ensures problem { result.now ≡ self.now.problem }
-        ensures few { self.now.problem.points ≤ MOST_POINTS }
+        ensures problem { result.now ≡ base_of self.now }
+        ensures valid { IsValidProblem result.now }
+        ensures encodable { IsEncodable self.now }
     {
         &self.problem
     }
 
+    pub(crate) fn points(&self) -> &[Point]
+        ensures { result.now ≡ points_of self.now }
+    {
+        self.points.as_slice()
+    }
+
+    /// The problem with the numbers of its symbols and of its events, without the window.
+    pub(crate) fn into_parts(self) -> (Problem, Names, Row<u32>)
+        ensures problem { result.0 ≡ base_of self }
+        ensures names { result.1 ≡ names_in self }
+        ensures sizes { result.2 ≡ sizes_of self }
+        ensures small { IsSmall result.2 }
+    {
+        let Encoded {
+            window: _,
+            points: _,
+            names,
+            sizes,
+            problem,
+        } = self;
+        (problem, names, sizes)
+    }
+
     pub(crate) fn names(&self) -> &Names
-        ensures { result.now ≡ self.now.names }
+        ensures { result.now ≡ names_in self.now }
     {
         &self.names
     }
 
-    pub(crate) fn sizes(&self) -> &[u32]
-        ensures { result.now ≡ self.now.sizes }
+    /// The number of an event, or that it would have. One that does not fit wants more memory than there is.
+    pub(crate) fn number(&self, event: EventId) -> Result<u32, AllocError>
+        ensures { IfOk result (λ number. number ≡ number_in self.now event) }
     {
-        self.sizes.as_slice()
+        number_at(self.sizes.as_slice(), event)
     }
 
     /// The point of an event, where there is one.
     pub fn point_of(&self, event: EventId) -> Option<u32>
-        ensures { result ≡ point_in self.now.sizes event }
+        ensures { result ≡ point_in (sizes_of self.now) event }
     {
         point_in(self.sizes.as_slice(), event)
     }
 
     /// The variable that is true where an event is executed.
     pub fn executed(&self, event: EventId) -> Option<u32>
-        ensures { result ≡ point_in self.now.sizes event }
+        ensures { result ≡ point_in (sizes_of self.now) event }
     {
         self.point_of(event)
     }
@@ -86,7 +141,7 @@ impl Encoded {
         }
         let one = self.point_of(first)?;
         let other = self.point_of(second)?;
-        order_between(&self.names, one, other)
+        order_between(self.names(), one, other)
     }
 }
 

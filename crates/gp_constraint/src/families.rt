@@ -1,4 +1,4 @@
-ghost use Rattle.std.specs.Prelude.{◌≡◌, ◌≢◌, Err};
+ghost use Rattle.std.specs.Prelude.{◌≡◌, ◌≢◌, ◌≤◌, Err, IfOk, length};
 ghost use Rattle.gp_constraint.specs.Base.{all_families};
 ghost use Rattle.gp_constraint.specs.Adding.{limited};
 
@@ -12,6 +12,7 @@ use crate::reads::{choices, reads, start_choices};
 use crate::sections::sections;
 use crate::start_values::StartValues;
 use crate::starts::starts;
+use crate::symbol::SymbolicLit;
 use gp_base::Row;
 use gp_window::Window;
 use std::alloc::Global;
@@ -22,10 +23,11 @@ pub fn all_families(
     alloc: Global,
     window: &Window,
     points: &Points,
-) -> Result<SymbolicClauses, Full>
-    ensures { result ≢ Err Full.Memory → result ≡ limited (all_families window.now points.now) }
+) -> Result<Row<Row<SymbolicLit>>, Full>
+    ensures due { result ≢ Err Full.Memory → result ≡ limited (all_families window.now points.now) }
+    ensures few { IfOk result (λ clauses. length clauses ≤ 500000) }
 {
-    let mut clauses = Row::new(alloc);
+    let mut clauses = SymbolicClauses::new(alloc);
     program_order(alloc, &mut clauses, points.as_slice())?;
     starts(alloc, &mut clauses, window, points)?;
     joins(alloc, &mut clauses, window, points)?;
@@ -35,5 +37,5 @@ pub fn all_families(
     start_choices(alloc, &mut clauses, &values, points)?;
     sections(alloc, &mut clauses, points)?;
     held_locks(alloc, &mut clauses, window, points)?;
-    Ok(clauses)
+    Ok(clauses.into_row())
 }

@@ -1,4 +1,4 @@
-ghost use Rattle.std.specs.Prelude.{◌≡◌, ◌≤◌, ◌==◌, ◌&&◌, not, ◌++◌, [], IfOk, OnOk, Option, find, flat_map, length};
+ghost use Rattle.std.specs.Prelude.{◌≡◌, ◌==◌, ◌&&◌, not, ◌++◌, [], IfOk, OnOk, Option, find, flat_map};
 ghost use Rattle.gp_base.specs.Table.{with_entries};
 ghost use Rattle.gp_window.specs.Holders.{holder_cmp};
 ghost use Rattle.gp_constraint.specs.Adding.{Adds};
@@ -8,7 +8,7 @@ ghost use Rattle.gp_constraint.specs.Sections.{ends_hold, takes_against};
 
 use crate::action::Action;
 use crate::adding::{SymbolicClauses, needs};
-use crate::fault::{Full, MOST_CLAUSES};
+use crate::fault::Full;
 use crate::point::Point;
 use crate::points::Points;
 use crate::sections::{exclude, first_end};
@@ -37,9 +37,7 @@ pub fn held_locks(
     window: &Window,
     points: &Points,
 ) -> Result<(), Full>
-    requires { length clauses.old ≤ MOST_CLAUSES }
-    ensures room { length clauses.new ≤ MOST_CLAUSES }
-    ensures adds { Adds result clauses.old clauses.new (held_locks window.now points.now) }
+    ensures { Adds result clauses.old clauses.new (held_locks window.now points.now) }
 {
     let holds = holds_at_start(alloc, window)?;
     for hold in holds.as_slice() {
@@ -54,9 +52,7 @@ fn held_by(
     points: &Points,
     hold: &Holding,
 ) -> Result<(), Full>
-    requires { length clauses.old ≤ MOST_CLAUSES }
-    ensures room { length clauses.new ≤ MOST_CLAUSES }
-    ensures adds { Adds result clauses.old clauses.new (flat_map (held_apart points.now hold.now) points.now) }
+    ensures { Adds result clauses.old clauses.new (flat_map (held_apart points.now hold.now) points.now) }
 {
     let uses = points.uses_of(&hold.0.0);
     let end = first_end(uses, hold.1, &hold.0.0, hold.0.1, 0);
@@ -70,9 +66,7 @@ fn held_among(
     end: &Option<Point>,
     hold: &Holding,
 ) -> Result<(), Full>
-    requires { length clauses.old ≤ MOST_CLAUSES }
-    ensures room { length clauses.new ≤ MOST_CLAUSES }
-    ensures adds { Adds result clauses.old clauses.new (flat_map (held_with end.now hold.now) uses.now) }
+    ensures { Adds result clauses.old clauses.new (flat_map (held_with end.now hold.now) uses.now) }
 {
     for c in uses {
         held_with(alloc, clauses, end, hold, c)?;
@@ -87,9 +81,7 @@ fn held_with(
     hold: &Holding,
     c: &Point,
 ) -> Result<(), Full>
-    requires { length clauses.old ≤ MOST_CLAUSES }
-    ensures room { length clauses.new ≤ MOST_CLAUSES }
-    ensures adds { Adds result clauses.old clauses.new (held_with end.now hold.now c.now) }
+    ensures { Adds result clauses.old clauses.new (held_with end.now hold.now c.now) }
 {
     if !is_against(hold, c) {
         return Ok(());

@@ -1,46 +1,39 @@
-ghost use Rattle.std.specs.Prelude.{◌≡◌, ◌≤◌, ◌++◌, [], take, drop, IfOk, OnOk, flat_map, if◌then◌else◌, length, map, nat_lt};
+ghost use Rattle.std.specs.Prelude.{◌≡◌, ◌++◌, [], take, drop, IfOk, OnOk, flat_map, if◌then◌else◌, length, map, nat_lt};
 ghost use Rattle.gp_instance.specs.Matches.{groups_of};
 ghost use Rattle.gp_constraint.specs.declared.symbol.Symbol.TheVariants.{Order};
-ghost use Rattle.gp_constraint.specs.Encoded.{encoded_of};
 ghost use Rattle.gp_constraint.specs.Numbering.{numbered_lit};
 ghost use Rattle.gp_constraint.specs.Points.{number_in, points_of};
 ghost use Rattle.gp_constraint.specs.QueryNames.{AreMentioned, all_names};
 ghost use Rattle.gp_constraint.specs.Query.{executed_lits, holds, order_lit, ordered, orders_from, pattern_lits, query_of, side, sides_of, span_lit, spans_in};
 
 use crate::encoded::Encoded;
-use crate::fault::MOST_POINTS;
 use crate::naming::kinds_of;
-use crate::numbers::number_in;
 use crate::point::Point;
-use crate::points::points_of;
 use crate::query_names::QueryNames;
 use crate::symbol::{Symbol, SymbolicLit};
 use gp_base::Row;
 use gp_clause::{Lit, Query};
 use gp_instance::Instance;
 use gp_property::{PatternStep, Property};
-use gp_window::{EventId, Window};
+use gp_window::EventId;
 use std::alloc::{AllocError, Global};
 
-/// The query of an instance of a property in a window, whose problem is encoded. Its time is that of its own lists, and
+/// The query of an instance of a property in the window that is encoded. Its time is that of its own lists, and
 /// of the events for each event of a step that is a group.
 pub fn query(
     alloc: Global,
     encoded: &Encoded,
-    window: &Window,
     property: &Property,
     instance: &Instance,
 ) -> Result<Query, AllocError>
-    requires { encoded.now ≡ encoded_of window.now }
-    ensures { IfOk result (λ query. query ≡ query_of window.now property.now instance.now.events) }
+    ensures { IfOk result (λ query. query ≡ query_of encoded.now property.now instance.now.events) }
 {
-    let _problem = encoded.problem();
     let ids = instance.events.as_slice();
-    let lits = pattern_lits(alloc, window, property, ids)?;
+    let lits = pattern_lits(alloc, encoded, property, ids)?;
     let mut names = QueryNames::new(alloc, encoded.names());
     mention_lits(&mut names, lits.as_slice())?;
-    mention_sides(alloc, &mut names, window, property.pattern(), ids)?;
-    let assumed = assumed(alloc, &names, window, ids, lits.as_slice())?;
+    mention_sides(&mut names, encoded, property.pattern(), ids)?;
+    let assumed = assumed(alloc, &names, encoded, ids, lits.as_slice())?;
     let locals = kinds_of(alloc, names.own())?;
     Ok(Query { locals, assumed })
 }
@@ -55,11 +48,11 @@ fn holds(symbol: Symbol) -> SymbolicLit
 }
 
 /// One event before another, of a different thread.
-fn ordered(window: &Window, one: EventId, other: EventId) -> Result<SymbolicLit, AllocError>
-    ensures { IfOk result (λ lit. lit ≡ ordered window.now one other) }
+fn ordered(encoded: &Encoded, one: EventId, other: EventId) -> Result<SymbolicLit, AllocError>
+    ensures { IfOk result (λ lit. lit ≡ ordered encoded.now one other) }
 {
-    let first = number_in(window, one)?;
-    let second = number_in(window, other)?;
+    let first = encoded.number(one)?;
+    let second = encoded.number(other)?;
     if first < second {
         return Ok(holds(Symbol::Order(first, second)));
     }
@@ -80,32 +73,32 @@ fn cut<'a>(step: &PatternStep, ids: &'a [EventId]) -> (&'a [EventId], &'a [Event
 /// The orders of steps, and the spans of groups.
 fn pattern_lits(
     alloc: Global,
-    window: &Window,
+    encoded: &Encoded,
     property: &Property,
     ids: &[EventId],
 ) -> Result<Row<SymbolicLit>, AllocError>
-    ensures { IfOk result (λ lits. lits ≡ pattern_lits window.now property.now ids.now) }
+    ensures { IfOk result (λ lits. lits ≡ pattern_lits encoded.now property.now ids.now) }
 {
     let mut lits = Row::new(alloc);
-    push_orders(&mut lits, window, property.pattern(), ids)?;
-    push_spans(&mut lits, window, property.pattern(), ids)?;
+    push_orders(&mut lits, encoded, property.pattern(), ids)?;
+    push_spans(&mut lits, encoded, property.pattern(), ids)?;
     Ok(lits)
 }
 
 /// Each event of a step before each event of the next step.
 fn push_orders(
     lits: &mut Row<SymbolicLit>,
-    window: &Window,
+    encoded: &Encoded,
     pattern: &[PatternStep],
     ids: &[EventId],
 ) -> Result<(), AllocError>
-    ensures { OnOk result (lits.new ≡ lits.old ++ orders_from window.now [] (groups_of pattern.now ids.now)) }
+    ensures { OnOk result (lits.new ≡ lits.old ++ orders_from encoded.now [] (groups_of pattern.now ids.now)) }
 {
     let mut before: &[EventId] = &[];
     let mut rest = ids;
     for step in pattern {
         let (group, after) = cut(step, rest);
-        push_orders_between(lits, window, before, group)?;
+        push_orders_between(lits, encoded, before, group)?;
         before = group;
         rest = after;
     }
@@ -114,60 +107,60 @@ fn push_orders(
 
 fn push_orders_between(
     lits: &mut Row<SymbolicLit>,
-    window: &Window,
+    encoded: &Encoded,
     before: &[EventId],
     group: &[EventId],
 ) -> Result<(), AllocError>
-    ensures { OnOk result (lits.new ≡ lits.old ++ flat_map (λ one. flat_map (order_lit window.now one) group.now) before.now) }
+    ensures { OnOk result (lits.new ≡ lits.old ++ flat_map (λ one. flat_map (order_lit encoded.now one) group.now) before.now) }
 {
     for one in before {
-        push_orders_after(lits, window, *one, group)?;
+        push_orders_after(lits, encoded, *one, group)?;
     }
     Ok(())
 }
 
 fn push_orders_after(
     lits: &mut Row<SymbolicLit>,
-    window: &Window,
+    encoded: &Encoded,
     one: EventId,
     group: &[EventId],
 ) -> Result<(), AllocError>
-    ensures { OnOk result (lits.new ≡ lits.old ++ flat_map (order_lit window.now one) group.now) }
+    ensures { OnOk result (lits.new ≡ lits.old ++ flat_map (order_lit encoded.now one) group.now) }
 {
     for other in group {
-        push_order(lits, window, one, *other)?;
+        push_order(lits, encoded, one, *other)?;
     }
     Ok(())
 }
 
 fn push_order(
     lits: &mut Row<SymbolicLit>,
-    window: &Window,
+    encoded: &Encoded,
     one: EventId,
     other: EventId,
 ) -> Result<(), AllocError>
-    ensures { OnOk result (lits.new ≡ lits.old ++ order_lit window.now one other) }
+    ensures { OnOk result (lits.new ≡ lits.old ++ order_lit encoded.now one other) }
 {
     if one.thread == other.thread {
         return Ok(());
     }
-    let lit = ordered(window, one, other)?;
+    let lit = ordered(encoded, one, other)?;
     lits.push(lit)
 }
 
 /// Each two events of a group of n are at most n - 1 apart.
 fn push_spans(
     lits: &mut Row<SymbolicLit>,
-    window: &Window,
+    encoded: &Encoded,
     pattern: &[PatternStep],
     ids: &[EventId],
 ) -> Result<(), AllocError>
-    ensures { OnOk result (lits.new ≡ lits.old ++ flat_map (spans_in window.now) (groups_of pattern.now ids.now)) }
+    ensures { OnOk result (lits.new ≡ lits.old ++ flat_map (spans_in encoded.now) (groups_of pattern.now ids.now)) }
 {
     let mut rest = ids;
     for step in pattern {
         let (group, after) = cut(step, rest);
-        push_spans_in(lits, window, group)?;
+        push_spans_in(lits, encoded, group)?;
         rest = after;
     }
     Ok(())
@@ -175,49 +168,49 @@ fn push_spans(
 
 fn push_spans_in(
     lits: &mut Row<SymbolicLit>,
-    window: &Window,
+    encoded: &Encoded,
     group: &[EventId],
 ) -> Result<(), AllocError>
-    ensures { OnOk result (lits.new ≡ lits.old ++ spans_in window.now group.now) }
+    ensures { OnOk result (lits.new ≡ lits.old ++ spans_in encoded.now group.now) }
 {
     let Ok(width) = u32::try_from(group.len().saturating_sub(1)) else {
         return Err(AllocError);
     };
     for one in group {
-        push_spans_of(lits, window, width, *one, group)?;
+        push_spans_of(lits, encoded, width, *one, group)?;
     }
     Ok(())
 }
 
 fn push_spans_of(
     lits: &mut Row<SymbolicLit>,
-    window: &Window,
+    encoded: &Encoded,
     width: u32,
     one: EventId,
     group: &[EventId],
 ) -> Result<(), AllocError>
-    ensures { OnOk result (lits.new ≡ lits.old ++ flat_map (span_lit window.now width one) group.now) }
+    ensures { OnOk result (lits.new ≡ lits.old ++ flat_map (span_lit encoded.now width one) group.now) }
 {
     for other in group {
-        push_span(lits, window, width, one, *other)?;
+        push_span(lits, encoded, width, one, *other)?;
     }
     Ok(())
 }
 
 fn push_span(
     lits: &mut Row<SymbolicLit>,
-    window: &Window,
+    encoded: &Encoded,
     width: u32,
     one: EventId,
     other: EventId,
 ) -> Result<(), AllocError>
-    ensures { OnOk result (lits.new ≡ lits.old ++ span_lit window.now width one other) }
+    ensures { OnOk result (lits.new ≡ lits.old ++ span_lit encoded.now width one other) }
 {
     if one == other {
         return Ok(());
     }
-    let first = number_in(window, one)?;
-    let second = number_in(window, other)?;
+    let first = encoded.number(one)?;
+    let second = encoded.number(other)?;
     lits.push(holds(Symbol::Span(first, second, width)))
 }
 
@@ -232,69 +225,63 @@ fn mention_lits(names: &mut QueryNames<'_>, lits: &[SymbolicLit]) -> Result<(), 
 
 /// On which side of each event of a group each event of another thread stands.
 fn mention_sides(
-    alloc: Global,
     names: &mut QueryNames<'_>,
-    window: &Window,
+    encoded: &Encoded,
     pattern: &[PatternStep],
     ids: &[EventId],
 ) -> Result<(), AllocError>
-    requires { length (points_of window.now) ≤ MOST_POINTS }
-    ensures { OnOk result (AreMentioned names.old names.new (flat_map (sides_of window.now) (groups_of pattern.now ids.now))) }
+    ensures { OnOk result (AreMentioned names.old names.new (flat_map (sides_of encoded.now) (groups_of pattern.now ids.now))) }
 {
     let mut rest = ids;
     for step in pattern {
         let (group, after) = cut(step, rest);
-        mention_sides_of(alloc, names, window, group)?;
+        mention_sides_of(names, encoded, group)?;
         rest = after;
     }
     Ok(())
 }
 
 fn mention_sides_of(
-    alloc: Global,
     names: &mut QueryNames<'_>,
-    window: &Window,
+    encoded: &Encoded,
     group: &[EventId],
 ) -> Result<(), AllocError>
-    requires { length (points_of window.now) ≤ MOST_POINTS }
-    ensures { OnOk result (AreMentioned names.old names.new (sides_of window.now group.now)) }
+    ensures { OnOk result (AreMentioned names.old names.new (sides_of encoded.now group.now)) }
 {
     if group.len() < 2 {
         return Ok(());
     }
-    let points = points_of(alloc, window)?;
     for id in group {
-        mention_sides_at(names, window, *id, points.as_slice())?;
+        mention_sides_at(names, encoded, *id)?;
     }
     Ok(())
 }
 
 fn mention_sides_at(
     names: &mut QueryNames<'_>,
-    window: &Window,
+    encoded: &Encoded,
     id: EventId,
-    points: &[Point],
 ) -> Result<(), AllocError>
-    requires { points.now ≡ points_of window.now }
-    ensures { OnOk result (AreMentioned names.old names.new (flat_map (side window.now id) points.now)) }
+    ensures { OnOk result (AreMentioned names.old names.new (flat_map (side encoded.now id) (points_of encoded.now))) }
 {
-    let number = number_in(window, id)?;
+    let number = encoded.number(id)?;
+    let points = encoded.points();
     for p in points {
-        mention_side(names, window, id, number, p)?;
+        mention_side(names, encoded, id, number, p)?;
     }
     Ok(())
 }
 
 fn mention_side(
     names: &mut QueryNames<'_>,
-    window: &Window,
+    encoded: &Encoded,
     id: EventId,
     number: u32,
     p: &Point,
 ) -> Result<(), AllocError>
-    requires own { number ≡ number_in window.now id }
-    requires other { p.now.number ≡ number_in window.now p.now.id }
-    ensures { OnOk result (AreMentioned names.old names.new (side window.now id p.now)) }
+    requires own { number ≡ number_in encoded.now id }
+    requires other { p.now.number ≡ number_in encoded.now p.now.id }
+    ensures { OnOk result (AreMentioned names.old names.new (side encoded.now id p.now)) }
 {
     if id.thread == p.id.thread {
         return Ok(());
@@ -317,14 +304,14 @@ fn order_of(one: u32, other: u32) -> Symbol
 fn assumed(
     alloc: Global,
     names: &QueryNames<'_>,
-    window: &Window,
+    encoded: &Encoded,
     ids: &[EventId],
     lits: &[SymbolicLit],
 ) -> Result<Row<Lit>, AllocError>
-    ensures { IfOk result (λ assumed. assumed ≡ map (numbered_lit (all_names names.now)) (executed_lits window.now ids.now ++ lits.now)) }
+    ensures { IfOk result (λ assumed. assumed ≡ map (numbered_lit (all_names names.now)) (executed_lits encoded.now ids.now ++ lits.now)) }
 {
     let mut assumed = Row::new(alloc);
-    assume_executed(&mut assumed, names, window, ids)?;
+    assume_executed(&mut assumed, names, encoded, ids)?;
     assume_all(&mut assumed, names, lits)?;
     Ok(assumed)
 }
@@ -332,13 +319,13 @@ fn assumed(
 fn assume_executed(
     assumed: &mut Row<Lit>,
     names: &QueryNames<'_>,
-    window: &Window,
+    encoded: &Encoded,
     ids: &[EventId],
 ) -> Result<(), AllocError>
-    ensures { OnOk result (assumed.new ≡ assumed.old ++ map (numbered_lit (all_names names.now)) (executed_lits window.now ids.now)) }
+    ensures { OnOk result (assumed.new ≡ assumed.old ++ map (numbered_lit (all_names names.now)) (executed_lits encoded.now ids.now)) }
 {
     for id in ids {
-        let number = number_in(window, *id)?;
+        let number = encoded.number(*id)?;
         assumed.push(names.lit(holds(Symbol::Executed(number))))?;
     }
     Ok(())

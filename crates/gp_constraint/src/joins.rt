@@ -1,11 +1,11 @@
-ghost use Rattle.std.specs.Prelude.{◌≡◌, ◌≤◌, IfOk, find, length};
+ghost use Rattle.std.specs.Prelude.{◌≡◌, IfOk, find};
 ghost use Rattle.gp_constraint.specs.Adding.{Adds};
 ghost use Rattle.gp_constraint.specs.Joins.{ended, is_last_of, join_of, joined, joins};
 ghost use Rattle.gp_constraint.specs.Lasts.{is_last, lasts_of};
 
 use crate::action::Action;
 use crate::adding::{SymbolicClauses, add, needs};
-use crate::fault::{Full, MOST_CLAUSES};
+use crate::fault::Full;
 use crate::point::Point;
 use crate::points::Points;
 use crate::term::executed;
@@ -20,9 +20,7 @@ pub fn joins(
     window: &Window,
     points: &Points,
 ) -> Result<(), Full>
-    requires { length clauses.old ≤ MOST_CLAUSES }
-    ensures room { length clauses.new ≤ MOST_CLAUSES }
-    ensures adds { Adds result clauses.old clauses.new (joins window.now points.now) }
+    ensures { Adds result clauses.old clauses.new (joins window.now points.now) }
 {
     let lasts = lasts_of(alloc, window, points.as_slice())?;
     for j in points.as_slice() {
@@ -39,10 +37,8 @@ fn join_of(
     lasts: &[Point],
     j: &Point,
 ) -> Result<(), Full>
-    requires few { length clauses.old ≤ MOST_CLAUSES }
-    requires lasts { lasts.now ≡ lasts_of window.now points.now }
-    ensures room { length clauses.new ≤ MOST_CLAUSES }
-    ensures adds { Adds result clauses.old clauses.new (join_of window.now points.now j.now) }
+    requires { lasts.now ≡ lasts_of window.now points.now }
+    ensures { Adds result clauses.old clauses.new (join_of window.now points.now j.now) }
 {
     match j.action {
         Action::Join(thread) => joined(alloc, clauses, window, points, lasts, j, thread),
@@ -59,10 +55,8 @@ fn joined(
     j: &Point,
     thread: u32,
 ) -> Result<(), Full>
-    requires few { length clauses.old ≤ MOST_CLAUSES }
-    requires lasts { lasts.now ≡ lasts_of window.now points.now }
-    ensures room { length clauses.new ≤ MOST_CLAUSES }
-    ensures adds { Adds result clauses.old clauses.new (joined window.now points.now j.now thread) }
+    requires { lasts.now ≡ lasts_of window.now points.now }
+    ensures { Adds result clauses.old clauses.new (joined window.now points.now j.now thread) }
 {
     if is_among(window.exited(), thread) {
         return ended(alloc, clauses, window, points, lasts, j, thread);
@@ -79,10 +73,8 @@ fn ended(
     j: &Point,
     thread: u32,
 ) -> Result<(), Full>
-    requires few { length clauses.old ≤ MOST_CLAUSES }
-    requires lasts { lasts.now ≡ lasts_of window.now points.now }
-    ensures room { length clauses.new ≤ MOST_CLAUSES }
-    ensures adds { Adds result clauses.old clauses.new (ended window.now points.now j.now thread) }
+    requires { lasts.now ≡ lasts_of window.now points.now }
+    ensures { Adds result clauses.old clauses.new (ended window.now points.now j.now thread) }
 {
     if !window.segment(thread).is_empty() {
         return needs(alloc, clauses, j, last_of(window, points, lasts, thread));

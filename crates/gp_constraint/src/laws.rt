@@ -1,3 +1,4 @@
+ghost use Rattle.gp_constraint.specs.Extended.{ExtensionsMean, ModelsExtend};
 ghost use Rattle.gp_constraint.specs.Laws.{AnswersMean, ProblemsAreValid};
 ghost use Rattle.gp_constraint.specs.Truths.{TruthsAreNumbered};
 
@@ -14,4 +15,14 @@ pub fn answers_mean()
 /// A truth of symbols that makes the clauses of a window true makes those of its problem true, and what a query assumes.
 pub fn truths_are_numbered()
     ensures { TruthsAreNumbered }
+{}
+
+/// What the problem of a window with further clauses means.
+pub fn extensions_mean()
+    ensures { ExtensionsMean }
+{}
+
+/// A valuation of the problem of a window, and truth values of fresh symbols, are one of the problem with further clauses.
+pub fn models_extend()
+    ensures { ModelsExtend }
 {}

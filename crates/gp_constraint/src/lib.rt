@@ -8,13 +8,16 @@
 mod action;
 mod adding;
 mod encoded;
+mod extending;
 mod families;
+mod family;
 mod fault;
 mod groups;
 mod held_locks;
 mod instance_query;
 mod joins;
 mod laws;
+mod limited;
 mod naming;
 mod numbering;
 mod numbering_laws;
@@ -34,11 +37,17 @@ mod window_base;
 
 pub use action::Action;
 pub use encoded::Encoded;
-pub use fault::{BaseFault, MOST_CLAUSES, MOST_POINTS};
+pub use extending::{ExtendedProblem, extended};
+pub use family::Family;
+pub use fault::{BaseFault, Full, MOST_CLAUSES, MOST_POINTS};
 pub use instance_query::query;
-pub use laws::{answers_mean, problems_are_valid, truths_are_numbered};
+pub use laws::{
+    answers_mean, extensions_mean, models_extend, problems_are_valid, truths_are_numbered,
+};
+pub use limited::LimitedClauses;
 pub use numbering_laws::points_come_first;
 pub use point::Point;
+pub use points::Points;
 pub use symbol::{Symbol, SymbolicLit};
-pub use term::Term;
+pub use term::{Term, before, executed, literal};
 pub use window_base::base;

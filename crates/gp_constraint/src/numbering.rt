@@ -1,4 +1,4 @@
-ghost use Rattle.std.specs.Prelude.{◌≡◌, ◌≤◌, [], length, IfOk, IfSome, OnOk, MatchOption};
+ghost use Rattle.std.specs.Prelude.{◌≡◌, ◌≤◌, ◌++◌, [], length, IfOk, IfSome, OnOk, MatchOption};
 ghost use Rattle.std.specs.List.{insert};
 ghost use Rattle.gp_constraint.specs.Numbering.{lits_onto, names_after, names_of, numbered, with_lit};
 ghost use Rattle.gp_constraint.specs.Signed.{AreSigned};
@@ -110,9 +110,24 @@ pub fn number_clauses(
     ensures names { OnOk result (names.new ≡ names_of names.old clauses.now) }
 {
     let mut row = Row::new(alloc);
+    number_onto(alloc, &mut row, names, clauses)?;
+    Ok(row)
+}
+
+/// Puts clauses by their variables, each sorted, behind others.
+pub fn number_onto(
+    alloc: Global,
+    row: &mut Row<Clause>,
+    names: &mut Names,
+    clauses: &[Row<SymbolicLit>],
+) -> Result<(), AllocError>
+    requires { AreSigned clauses.now }
+    ensures clauses { OnOk result (row.new ≡ row.old ++ numbered names.old clauses.now) }
+    ensures names { OnOk result (names.new ≡ names_of names.old clauses.now) }
+{
     for clause in clauses {
         let lits = number_lits(alloc, names, clause.as_slice())?;
         row.push(Clause::of_rising(lits))?;
     }
-    Ok(row)
+    Ok(())
 }

@@ -1,10 +1,10 @@
-ghost use Rattle.std.specs.Prelude.{◌≡◌, ◌≤◌, ◌^◌, IfOk, IfSome, MatchOption, MatchResult, length, map};
+ghost use Rattle.std.specs.Prelude.{◌≡◌, ◌≤◌, ◌^◌, IfOk, MatchOption, MatchResult, length, map};
 ghost use Rattle.gp_constraint.specs.Encoded.{IsSmall, point_in, size_at};
-ghost use Rattle.gp_constraint.specs.Points.{first_of, number_at, number_in};
+ghost use Rattle.gp_constraint.specs.Points.{first_of, number_at};
 
 use gp_base::Row;
 use gp_trace::Event;
-use gp_window::{EventId, Window};
+use gp_window::EventId;
 use std::alloc::{AllocError, Global};
 
 /// How many events each thread has. More than can be counted want more memory than there is.
@@ -49,7 +49,7 @@ fn first_of(sizes: &[u32], threads: usize) -> Option<u32>
 }
 
 /// The number of an event. One that does not fit wants more memory than there is.
-fn number_at(sizes: &[u32], id: EventId) -> Result<u32, AllocError>
+pub fn number_at(sizes: &[u32], id: EventId) -> Result<u32, AllocError>
     ensures { MatchResult result (λ number. number ≡ number_at sizes.now id.thread id.index) (λ e. 2 ^ 32 ≤ number_at sizes.now id.thread id.index) }
 {
     let threads = id.thread.saturating_sub(1);
@@ -60,37 +60,6 @@ fn number_at(sizes: &[u32], id: EventId) -> Result<u32, AllocError>
         return Err(AllocError);
     };
     Ok(number)
-}
-
-/// How many events so many first threads have together, where the number fits.
-fn first_in(segments: &[gp_base::Row<Event>], threads: usize) -> Option<u64>
-    ensures { IfSome result (λ sum. sum ≡ first_of (map (λ segment. length segment) segments.now) threads) }
-{
-    let mut sum = 0u64;
-    for (place, segment) in segments.iter().enumerate() {
-        if place == threads {
-            return Some(sum);
-        }
-        sum = sum.checked_add(segment.len() as u64)?;
-    }
-    Some(sum)
-}
-
-/// The number of an event of a window. One that does not fit wants more memory than there is.
-pub fn number_in(window: &Window, id: EventId) -> Result<u32, AllocError>
-    ensures { IfOk result (λ number. number ≡ number_in window.now id) }
-{
-    let threads = id.thread.saturating_sub(1);
-    let Some(first) = first_in(window.segments(), threads as usize) else {
-        return Err(AllocError);
-    };
-    let Some(number) = first.checked_add(u64::from(id.index)) else {
-        return Err(AllocError);
-    };
-    match u32::try_from(number) {
-        Ok(number) => Ok(number),
-        Err(_) => Err(AllocError),
-    }
 }
 
 /// The number of an event, where there is one.

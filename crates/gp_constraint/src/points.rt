@@ -59,6 +59,19 @@ impl Points {
         self.all.as_slice()
     }
 
+    /// The points alone.
+    pub fn into_row(self) -> Row<Point>
+        ensures { result ≡ self }
+    {
+        let Points {
+            all,
+            writes: _,
+            uses: _,
+            starts: _,
+        } = self;
+        all
+    }
+
     /// The points that write the variable of a read.
     pub fn writes_for(&self, r: &Point) -> &[Point]
         ensures { result.now ≡ writes_for self.now r.now }
@@ -105,7 +118,7 @@ fn is_start_of(thread: u32, p: &Point) -> bool
 }
 
 /// The points of a window alone.
-pub fn points_of(alloc: Global, window: &Window) -> Result<Row<Point>, AllocError>
+fn points_of(alloc: Global, window: &Window) -> Result<Row<Point>, AllocError>
     requires { length (points_of window.now) ≤ MOST_POINTS }
     ensures { IfOk result (λ points. points ≡ points_of window.now) }
 {

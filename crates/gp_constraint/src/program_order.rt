@@ -1,9 +1,9 @@
-ghost use Rattle.std.specs.Prelude.{◌≡◌, ◌≤◌, ◌++◌, IfOk, OnOk, flat_map, length};
+ghost use Rattle.std.specs.Prelude.{◌≡◌, ◌++◌, IfOk, OnOk, flat_map};
 ghost use Rattle.gp_constraint.specs.Adding.{Adds};
 ghost use Rattle.gp_constraint.specs.ProgramOrder.{edge_to, linked, program_order};
 
 use crate::adding::{SymbolicClauses, add};
-use crate::fault::{Full, MOST_CLAUSES};
+use crate::fault::Full;
 use crate::point::Point;
 use crate::symbol::Symbol;
 use crate::term::{executed, literal};
@@ -17,9 +17,7 @@ pub fn program_order(
     clauses: &mut SymbolicClauses,
     points: &[Point],
 ) -> Result<(), Full>
-    requires { length clauses.old ≤ MOST_CLAUSES }
-    ensures room { length clauses.new ≤ MOST_CLAUSES }
-    ensures adds { Adds result clauses.old clauses.new (program_order points.now) }
+    ensures { Adds result clauses.old clauses.new (program_order points.now) }
 {
     for f in points {
         linked(alloc, clauses, f)?;
@@ -28,9 +26,7 @@ pub fn program_order(
 }
 
 fn linked(alloc: Global, clauses: &mut SymbolicClauses, f: &Point) -> Result<(), Full>
-    requires { length clauses.old ≤ MOST_CLAUSES }
-    ensures room { length clauses.new ≤ MOST_CLAUSES }
-    ensures adds { Adds result clauses.old clauses.new (linked f.now) }
+    ensures { Adds result clauses.old clauses.new (linked f.now) }
 {
     if f.id.index == 0 {
         return Ok(());

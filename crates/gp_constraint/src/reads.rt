@@ -1,4 +1,4 @@
-ghost use Rattle.std.specs.Prelude.{◌≡◌, ◌≤◌, ◌++◌, ◌∷◌, [], ℤ, IfOk, OnOk, false, filter, flat_map, length};
+ghost use Rattle.std.specs.Prelude.{◌≡◌, ◌++◌, ◌∷◌, [], ℤ, IfOk, OnOk, false, filter, flat_map};
 ghost use Rattle.gp_constraint.specs.Adding.{Adds};
 ghost use Rattle.gp_constraint.specs.Reads.{choice, choices, choices_of, finds_at_start, is_choice, is_read, is_rival, kept_apart, kept_later, reads, seen_from, sees, start_choice, start_choices};
 ghost use Rattle.gp_constraint.specs.Listed.{choices_in, kept_from, rivals_in, seen};
@@ -6,7 +6,7 @@ ghost use Rattle.gp_constraint.specs.Terms.{chosen, executed, simplified};
 
 use crate::action::Action;
 use crate::adding::{SymbolicClauses, add, preceded};
-use crate::fault::{Full, MOST_CLAUSES};
+use crate::fault::Full;
 use crate::point::Point;
 use crate::points::Points;
 use crate::start_values::StartValues;
@@ -64,9 +64,7 @@ pub fn reads(
     window: &StartValues<'_>,
     points: &Points,
 ) -> Result<(), Full>
-    requires { length clauses.old ≤ MOST_CLAUSES }
-    ensures room { length clauses.new ≤ MOST_CLAUSES }
-    ensures adds { Adds result clauses.old clauses.new (reads window.now points.now) }
+    ensures { Adds result clauses.old clauses.new (reads window.now points.now) }
 {
     for r in points.as_slice() {
         choices_of(alloc, clauses, window, points, r)?;
@@ -81,9 +79,7 @@ fn choices_of(
     points: &Points,
     r: &Point,
 ) -> Result<(), Full>
-    requires { length clauses.old ≤ MOST_CLAUSES }
-    ensures room { length clauses.new ≤ MOST_CLAUSES }
-    ensures adds { Adds result clauses.old clauses.new (choices_of window.now points.now r.now) }
+    ensures { Adds result clauses.old clauses.new (choices_of window.now points.now r.now) }
 {
     if !is_read(&r.action) {
         return Ok(());
@@ -99,9 +95,7 @@ fn choice_clause(
     points: &Points,
     r: &Point,
 ) -> Result<(), Full>
-    requires { length clauses.old ≤ MOST_CLAUSES }
-    ensures room { length clauses.new ≤ MOST_CLAUSES }
-    ensures adds { Adds result clauses.old clauses.new (simplified (executed r.now false ∷ (flat_map (choice r.now) points.now ++ start_choice window.now r.now))) }
+    ensures { Adds result clauses.old clauses.new (simplified (executed r.now false ∷ (flat_map (choice r.now) points.now ++ start_choice window.now r.now))) }
 {
     let terms = choice_terms(alloc, window, points.writes_for(r), r)?;
     add(alloc, clauses, terms.as_slice())
@@ -148,9 +142,7 @@ fn push_start_choice(
 
 /// For each read and each choice of it: the write comes before the read, and none of another value between.
 pub fn choices(alloc: Global, clauses: &mut SymbolicClauses, points: &Points) -> Result<(), Full>
-    requires { length clauses.old ≤ MOST_CLAUSES }
-    ensures room { length clauses.new ≤ MOST_CLAUSES }
-    ensures adds { Adds result clauses.old clauses.new (choices points.now) }
+    ensures { Adds result clauses.old clauses.new (choices points.now) }
 {
     for r in points.as_slice() {
         seen_by(alloc, clauses, points, r)?;
@@ -164,9 +156,7 @@ fn seen_by(
     points: &Points,
     r: &Point,
 ) -> Result<(), Full>
-    requires { length clauses.old ≤ MOST_CLAUSES }
-    ensures room { length clauses.new ≤ MOST_CLAUSES }
-    ensures adds { Adds result clauses.old clauses.new (flat_map (seen_from points.now r.now) points.now) }
+    ensures { Adds result clauses.old clauses.new (flat_map (seen_from points.now r.now) points.now) }
 {
     let writes = points.writes_for(r);
     let choices = choices_in(alloc, writes, r)?;
@@ -205,9 +195,7 @@ fn seen_each(
     rivals: &[Point],
     r: &Point,
 ) -> Result<(), Full>
-    requires { length clauses.old ≤ MOST_CLAUSES }
-    ensures room { length clauses.new ≤ MOST_CLAUSES }
-    ensures adds { Adds result clauses.old clauses.new (flat_map (seen rivals.now r.now) choices.now) }
+    ensures { Adds result clauses.old clauses.new (flat_map (seen rivals.now r.now) choices.now) }
 {
     for w in choices {
         seen(alloc, clauses, rivals, r, w)?;
@@ -223,9 +211,7 @@ fn seen(
     r: &Point,
     w: &Point,
 ) -> Result<(), Full>
-    requires { length clauses.old ≤ MOST_CLAUSES }
-    ensures room { length clauses.new ≤ MOST_CLAUSES }
-    ensures adds { Adds result clauses.old clauses.new (seen rivals.now r.now w.now) }
+    ensures { Adds result clauses.old clauses.new (seen rivals.now r.now w.now) }
 {
     preceded(alloc, clauses, &[chosen(r, w, false)], Some(*w), r)?;
     keep_apart_all(alloc, clauses, rivals, r, w)
@@ -238,9 +224,7 @@ fn keep_apart_all(
     r: &Point,
     w: &Point,
 ) -> Result<(), Full>
-    requires { length clauses.old ≤ MOST_CLAUSES }
-    ensures room { length clauses.new ≤ MOST_CLAUSES }
-    ensures adds { Adds result clauses.old clauses.new (flat_map (kept_apart r.now w.now) rivals.now) }
+    ensures { Adds result clauses.old clauses.new (flat_map (kept_apart r.now w.now) rivals.now) }
 {
     for other in rivals {
         keep_apart(alloc, clauses, r, w, other)?;
@@ -255,9 +239,7 @@ fn keep_apart(
     w: &Point,
     other: &Point,
 ) -> Result<(), Full>
-    requires { length clauses.old ≤ MOST_CLAUSES }
-    ensures room { length clauses.new ≤ MOST_CLAUSES }
-    ensures adds { Adds result clauses.old clauses.new (kept_apart r.now w.now other.now) }
+    ensures { Adds result clauses.old clauses.new (kept_apart r.now w.now other.now) }
 {
     if !is_rival(&r.action, &other.action) {
         return Ok(());
@@ -278,9 +260,7 @@ pub fn start_choices(
     window: &StartValues<'_>,
     points: &Points,
 ) -> Result<(), Full>
-    requires { length clauses.old ≤ MOST_CLAUSES }
-    ensures room { length clauses.new ≤ MOST_CLAUSES }
-    ensures adds { Adds result clauses.old clauses.new (start_choices window.now points.now) }
+    ensures { Adds result clauses.old clauses.new (start_choices window.now points.now) }
 {
     for r in points.as_slice() {
         seen_at_start(alloc, clauses, window, points, r)?;
@@ -295,9 +275,7 @@ fn seen_at_start(
     points: &Points,
     r: &Point,
 ) -> Result<(), Full>
-    requires { length clauses.old ≤ MOST_CLAUSES }
-    ensures room { length clauses.new ≤ MOST_CLAUSES }
-    ensures adds { Adds result clauses.old clauses.new (flat_map (kept_later window.now r.now) points.now) }
+    ensures { Adds result clauses.old clauses.new (flat_map (kept_later window.now r.now) points.now) }
 {
     if !finds_at_start(window, &r.action) {
         return Ok(());
@@ -311,9 +289,7 @@ fn keep_later_all(
     writes: &[Point],
     r: &Point,
 ) -> Result<(), Full>
-    requires { length clauses.old ≤ MOST_CLAUSES }
-    ensures room { length clauses.new ≤ MOST_CLAUSES }
-    ensures adds { Adds result clauses.old clauses.new (flat_map (kept_from r.now) writes.now) }
+    ensures { Adds result clauses.old clauses.new (flat_map (kept_from r.now) writes.now) }
 {
     for other in writes {
         keep_later(alloc, clauses, r, other)?;
@@ -327,9 +303,7 @@ fn keep_later(
     r: &Point,
     other: &Point,
 ) -> Result<(), Full>
-    requires { length clauses.old ≤ MOST_CLAUSES }
-    ensures room { length clauses.new ≤ MOST_CLAUSES }
-    ensures adds { Adds result clauses.old clauses.new (kept_from r.now other.now) }
+    ensures { Adds result clauses.old clauses.new (kept_from r.now other.now) }
 {
     if !is_rival(&r.action, &other.action) {
         return Ok(());

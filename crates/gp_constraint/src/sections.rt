@@ -1,4 +1,4 @@
-ghost use Rattle.std.specs.Prelude.{◌≡◌, ℕ, suc, ◌≤◌, ◌++◌, ◌∷◌, ◌&&◌, [], List, IfOk, OnOk, if◌then◌else◌, find, flat_map, length, nat_lt};
+ghost use Rattle.std.specs.Prelude.{◌≡◌, ℕ, suc, ◌++◌, ◌∷◌, ◌&&◌, [], List, IfOk, OnOk, if◌then◌else◌, find, flat_map, nat_lt};
 ghost use Rattle.std.specs.Str.{bytes_eq};
 ghost use Rattle.gp_constraint.specs.Adding.{Adds};
 ghost use Rattle.gp_constraint.specs.Sections.{ends_hold, exclude, gives_back, same_mode, sections};
@@ -7,7 +7,7 @@ ghost use Rattle.gp_constraint.specs.Tables.{entry_at};
 
 use crate::action::Action;
 use crate::adding::{SymbolicClauses, preceded};
-use crate::fault::{Full, MOST_CLAUSES};
+use crate::fault::Full;
 use crate::groups::Groups;
 use crate::point::Point;
 use crate::points::Points;
@@ -68,9 +68,7 @@ pub fn first_end(
 
 /// Of two sections of one lock in different threads, not both of readers, one ends before the other begins.
 pub fn sections(alloc: Global, clauses: &mut SymbolicClauses, points: &Points) -> Result<(), Full>
-    requires { length clauses.old ≤ MOST_CLAUSES }
-    ensures room { length clauses.new ≤ MOST_CLAUSES }
-    ensures adds { Adds result clauses.old clauses.new (sections points.now) }
+    ensures { Adds result clauses.old clauses.new (sections points.now) }
 {
     let all = sections_in(alloc, points)?;
     let by_lock = by_lock(alloc, all.as_slice())?;
@@ -83,10 +81,8 @@ fn sections_each(
     by_lock: &Groups<Section>,
     all: &[Section],
 ) -> Result<(), Full>
-    requires few { length clauses.old ≤ MOST_CLAUSES }
-    requires grouped { (lock : List ℕ) → entry_at by_lock.now lock ≡ sections_on lock all.now }
-    ensures room { length clauses.new ≤ MOST_CLAUSES }
-    ensures adds { Adds result clauses.old clauses.new (flat_map (λ a. flat_map (sections_between a) (sections_on a.lock all.now)) all.now) }
+    requires { (lock : List ℕ) → entry_at by_lock.now lock ≡ sections_on lock all.now }
+    ensures { Adds result clauses.old clauses.new (flat_map (λ a. flat_map (sections_between a) (sections_on a.lock all.now)) all.now) }
 {
     for a in all {
         sections_with(alloc, clauses, by_lock.at(&a.lock), a)?;
@@ -100,9 +96,7 @@ fn sections_with(
     others: &[Section],
     a: &Section,
 ) -> Result<(), Full>
-    requires { length clauses.old ≤ MOST_CLAUSES }
-    ensures room { length clauses.new ≤ MOST_CLAUSES }
-    ensures adds { Adds result clauses.old clauses.new (flat_map (sections_between a.now) others.now) }
+    ensures { Adds result clauses.old clauses.new (flat_map (sections_between a.now) others.now) }
 {
     for c in others {
         between(alloc, clauses, a, c)?;
@@ -116,9 +110,7 @@ fn between(
     a: &Section,
     c: &Section,
 ) -> Result<(), Full>
-    requires { length clauses.old ≤ MOST_CLAUSES }
-    ensures room { length clauses.new ≤ MOST_CLAUSES }
-    ensures adds { Adds result clauses.old clauses.new (sections_between a.now c.now) }
+    ensures { Adds result clauses.old clauses.new (sections_between a.now c.now) }
 {
     if !are_apart(a, c) {
         return Ok(());

@@ -2,8 +2,8 @@ ghost use Rattle.std.specs.Prelude.{◌≡◌, IfOk, OnOk};
 ghost use Rattle.std.specs.Cmp.Lexicographic.{slice_cmp};
 ghost use Rattle.std.specs.Ordering.{nat_cmp};
 ghost use Rattle.gp_base.specs.Table.{with_entry};
-ghost use Rattle.gp_constraint.specs.Reads.{start_value};
 ghost use Rattle.gp_constraint.specs.StartTables.{FindsSame};
+ghost use Rattle.gp_window.specs.WindowForm.{start_value};
 
 use gp_base::Table;
 use gp_text::Name;

@@ -1,10 +1,10 @@
-ghost use Rattle.std.specs.Prelude.{◌≡◌, ◌≤◌, ◌==◌, ◌&&◌, not, length};
+ghost use Rattle.std.specs.Prelude.{◌≡◌, ◌==◌, ◌&&◌, not};
 ghost use Rattle.gp_window.specs.Starts.{is_among};
 ghost use Rattle.gp_constraint.specs.Adding.{Adds};
 ghost use Rattle.gp_constraint.specs.Starts.{start_of, starts};
 
 use crate::adding::{SymbolicClauses, needs};
-use crate::fault::{Full, MOST_CLAUSES};
+use crate::fault::Full;
 use crate::point::Point;
 use crate::points::Points;
 use gp_window::{Window, is_among};
@@ -17,9 +17,7 @@ pub fn starts(
     window: &Window,
     points: &Points,
 ) -> Result<(), Full>
-    requires { length clauses.old ≤ MOST_CLAUSES }
-    ensures room { length clauses.new ≤ MOST_CLAUSES }
-    ensures adds { Adds result clauses.old clauses.new (starts window.now points.now) }
+    ensures { Adds result clauses.old clauses.new (starts window.now points.now) }
 {
     for f in points.as_slice() {
         start_of(alloc, clauses, window, points, f)?;
@@ -34,9 +32,7 @@ fn start_of(
     points: &Points,
     f: &Point,
 ) -> Result<(), Full>
-    requires { length clauses.old ≤ MOST_CLAUSES }
-    ensures room { length clauses.new ≤ MOST_CLAUSES }
-    ensures adds { Adds result clauses.old clauses.new (start_of window.now points.now f.now) }
+    ensures { Adds result clauses.old clauses.new (start_of window.now points.now f.now) }
 {
     if !wants_start(window, f) {
         return Ok(());

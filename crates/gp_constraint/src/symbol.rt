@@ -11,6 +11,10 @@ pub enum Symbol {
     StartChoice(u32),
     /// The section that the first event begins comes before that of the second.
     First(u32, u32),
+    /// The write is the last to its variable, but for writes of the same value.
+    Last(u32),
+    /// The wake takes the signal of the event.
+    Signal(u32, u32),
     /// The first place minus the second is at most the width.
     Span(u32, u32, u32),
 }

@@ -1,14 +1,15 @@
-ghost use Rattle.std.specs.Prelude.{◌≡◌, ◌≢◌, ◌≤◌, Err, IfOk, IfSome, length};
+ghost use Rattle.std.specs.Prelude.{◌≡◌, ◌≢◌, ◌≤◌, Err, IfOk, IfSome, MatchResult, length};
 ghost use Rattle.gp_constraint.specs.Base.{all_families, clauses_of};
-ghost use Rattle.gp_constraint.specs.Encoded.{base_due, encoded_of};
+ghost use Rattle.gp_constraint.specs.Encoded.{IsBase, base_due};
 ghost use Rattle.gp_constraint.specs.Points.{points_of};
 
-use crate::encoded::Encoded;
+use crate::encoded::{Encoded, Parts};
 use crate::families::all_families;
 use crate::fault::{BaseFault, Full, MOST_CLAUSES, MOST_POINTS};
 use crate::naming::{Names, kinds_of};
 use crate::numbering::number_clauses;
 use crate::numbers::sizes_of;
+use crate::point::Point;
 use crate::points::Points;
 use crate::program_order::edges;
 use crate::symbol::SymbolicLit;
@@ -17,9 +18,16 @@ use gp_clause::Problem;
 use gp_window::Window;
 use std::alloc::{AllocError, Global};
 
-/// The constraints of a window.
-pub fn base(alloc: Global, window: &Window) -> Result<Encoded, BaseFault>
-    ensures { result ≢ Err BaseFault.Memory → result ≡ base_due window.now }
+/// A window with its constraints.
+pub fn base(alloc: Global, window: Window) -> Result<Encoded, BaseFault>
+    ensures { result ≢ Err BaseFault.Memory → result ≡ base_due window }
+{
+    let parts = parts(alloc, &window)?;
+    Ok(Encoded::new(window, parts))
+}
+
+fn parts(alloc: Global, window: &Window) -> Result<Parts, BaseFault>
+    ensures { MatchResult result (λ parts. IsBase window.now parts.points parts.names parts.sizes parts.problem) (λ fault. fault ≢ BaseFault.Memory → Err fault ≡ base_due window.now) }
 {
     let Some(events) = count_events(window) else {
         return Err(BaseFault::Memory);
@@ -29,7 +37,7 @@ pub fn base(alloc: Global, window: &Window) -> Result<Encoded, BaseFault>
     }
     let points = Points::of(alloc, window)?;
     match all_families(alloc, window, &points) {
-        Ok(clauses) => Ok(encode(alloc, window, &points, clauses.as_slice())?),
+        Ok(clauses) => Ok(encode(alloc, window, points.into_row(), clauses.as_slice())?),
         Err(Full::TooMany) => Err(BaseFault::TooLarge {
             events,
             clauses: MOST_CLAUSES as u64 + 1,
@@ -53,13 +61,14 @@ fn count_events(window: &Window) -> Option<u64>
 fn encode(
     alloc: Global,
     window: &Window,
-    points: &Points,
+    points: Row<Point>,
     clauses: &[Row<SymbolicLit>],
-) -> Result<Encoded, AllocError>
-    requires points { points.now ≡ points_of window.now }
-    requires few { length (points_of window.now) ≤ MOST_POINTS }
+) -> Result<Parts, AllocError>
+    requires points { points ≡ points_of window.now }
+    requires few_points { length (points_of window.now) ≤ 2048 }
     requires clauses { clauses.now ≡ clauses_of window.now }
-    ensures { IfOk result (λ encoded. encoded ≡ encoded_of window.now) }
+    requires few_clauses { length clauses.now ≤ 500000 }
+    ensures { IfOk result (λ parts. IsBase window.now parts.points parts.names parts.sizes parts.problem) }
 {
     gp_window::windows_are_formed();
     let sizes = sizes_of(alloc, window.segments())?;
@@ -74,5 +83,10 @@ fn encode(
         edges,
         clauses,
     };
-    Ok(Encoded::new(problem, names, sizes))
+    Ok(Parts {
+        points,
+        names,
+        sizes,
+        problem,
+    })
 }

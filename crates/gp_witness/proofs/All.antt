@@ -20,6 +20,6 @@ meets_all window ids formed told feasible = record {
   reads = reads_hold window ids told feasible;
   choices = choices_hold window ids feasible;
   start_choices = start_choices_hold window ids feasible;
-  sections = sections_hold window ids formed told feasible;
-  start_holds = start_holds_hold window ids formed told feasible;
+  sections = sections_hold window ids formed feasible;
+  start_holds = start_holds_hold window ids formed feasible;
 }

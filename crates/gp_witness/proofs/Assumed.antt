@@ -1,19 +1,19 @@
 -- What a query assumes is true where the events meet what it asks.
-use Rattle.std.proofs.Common.{ℕ, suc, ℤ, pos, ◌≡◌, ◌-◌, ◌-ℤ◌, ◌≤ℤ◌, ◌<ℤ◌, ap, sym, ◌∙◌, refl, inl, inr, List, [], ◌∷◌, ◌++◌, Bool, true, false, not, arith, length}
+use Rattle.std.proofs.Common.{ℕ, ℤ, pos, ◌≡◌, ◌-◌, ◌-ℤ◌, ◌≤ℤ◌, ◌<ℤ◌, ap, sym, ◌∙◌, refl, inl, inr, List, [], ◌∷◌, ◌++◌, Bool, true, false, not, arith, length}
 use Rattle.std.specs.Prelude.{Contains, ◌==◌, flat_map, if◌then◌else◌, int_le, int_lt, nat_lt}
 use Rattle.std.specs.List.{AllByRecursion}
 use Rattle.std.proofs.lemmas.Bool.{cases_Bool}
 use Rattle.std.proofs.lemmas.Int.{ints}
 use Rattle.gp_property.specs.PropertyForm.{PropertyForm}
 use Rattle.gp_property.specs.declared.property.PatternStep.{PatternStep}
-use Rattle.gp_instance.specs.Instance.{is_same}
 use Rattle.gp_instance.specs.Matches.{groups_of}
 use Rattle.gp_window.specs.declared.schedule.EventId.{EventId}
 use Rattle.gp_window.specs.WindowForm.{WindowForm}
+use Rattle.gp_window.specs.Ids.{is_same}
 use Rattle.gp_constraint.specs.declared.symbol.Symbol.{Symbol}
 use Rattle.gp_constraint.specs.declared.symbol.Symbol.TheVariants.{Executed, Span}
 use Rattle.gp_constraint.specs.declared.symbol.SymbolicLit.{SymbolicLit}
-use Rattle.gp_base.specs.HasLaws.{Has, has_dropped, has_taken, rec_append, rec_flat, rec_map}
+use Rattle.gp_base.specs.ListLaws.{contains_from_drop, contains_from_take, nothing_in, recursion_append, recursion_flat_map, recursion_map}
 use Rattle.gp_constraint.specs.PointLaws.{IsEventOf, point_for}
 use Rattle.gp_constraint.specs.Points.{number_in, points_of}
 use Rattle.gp_constraint.specs.Query.{executed_lits, holds, order_lit, ordered, orders_from, pattern_lits, span_lit, spans_in}
@@ -22,12 +22,6 @@ use Rattle.gp_witness.specs.Asked.{IsNear, MeetsQuery, StepsFollow}
 use Rattle.gp_witness.specs.Meaning.{Truth}
 use Rattle.gp_witness.specs.TruthOfSymbols.{id_at}
 use Rattle.gp_witness.proofs.Located.{at_point, int_lt_not, int_lt_to, says}
-
--- what stands in a list it contains
-pub has_contains : {X : Type 0} (x : X) (xs : List X) → Has x xs → Contains xs x
-has_contains x [] i = absurd i
-has_contains x (first ∷ xs) (inl same) = (0, omega arith, same)
-has_contains x (first ∷ xs) (inr i) = let rest = has_contains x xs i in let below = rest.1 in (suc rest.0, omega (arith, below), rest.2)
 
 -- the event of the number of an event
 pub at_event : (window : WindowForm) (e : EventId) → IsEventOf window e → id_at (points_of window) (number_in window e) ≡ e
@@ -44,13 +38,13 @@ int_le_to a b most =
 
 -- each event of the list is one of the window
 abbrev pub AreEvents : WindowForm → List EventId → Type 0
-AreEvents window ids = (id : EventId) → Has id ids → IsEventOf window id
+AreEvents window ids = (id : EventId) → Contains ids id → IsEventOf window id
 
 groups_events : (window : WindowForm) (pattern : List PatternStep) (ids : List EventId) → AreEvents window ids → AllByRecursion (AreEvents window) (groups_of pattern ids)
 groups_events window [] ids events = tt
 groups_events window (step ∷ pattern) ids events = (
-  (λ id i. events id (has_taken id (length step.atoms) ids i)),
-  groups_events window pattern _ (λ id i. events id (has_dropped id (length step.atoms) ids i)),
+  (λ id i. events id (contains_from_take (length step.atoms) ids id i)),
+  groups_events window pattern _ (λ id i. events id (contains_from_drop (length step.atoms) ids id i)),
 )
 
 -- the literal for the order of two events is true where the places are so
@@ -81,32 +75,32 @@ orders_true : (window : WindowForm) (t : Truth) (before : List EventId) (groups 
 orders_true window t before [] events all follows = tt
 orders_true window t before (group ∷ groups) events all follows =
     let P : SymbolicLit → Type 0 = λ lit. lit_true (says window t) lit ≡ true in
-    rec_append P (flat_map (λ one. flat_map (order_lit window one) group) before) (orders_from window group groups)
-    (rec_flat P (λ one. flat_map (order_lit window one) group) before (λ one in_one.
-    rec_flat P (order_lit window one) group (λ other in_other.
+    recursion_append P (flat_map (λ one. flat_map (order_lit window one) group) before) (orders_from window group groups)
+    (recursion_flat_map P (λ one. flat_map (order_lit window one) group) before (λ one in_one.
+    recursion_flat_map P (order_lit window one) group (λ other in_other.
     unless_true (says window t) (one.thread == other.thread) (ordered window one other) (λ differ.
     ordered_true window t one other (events one in_one) (all.0 other in_other)
-    (follows.0 one other (has_contains one before in_one) (has_contains other group in_other))))))
+    (follows.0 one other in_one in_other)))))
     (orders_true window t group groups all.0 all.1 follows.1)
 
 spans_true : (window : WindowForm) (t : Truth) (group : List EventId) → AreEvents window group → IsNear t group → AreTrueLits (says window t) (spans_in window group)
 spans_true window t group events near =
     let P : SymbolicLit → Type 0 = λ lit. lit_true (says window t) lit ≡ true in
     let at : ℕ → EventId = id_at (points_of window) in
-    rec_flat P (λ one. flat_map (span_lit window (length group - 1) one) group) group (λ one in_one.
-    rec_flat P (span_lit window (length group - 1) one) group (λ other in_other.
+    recursion_flat_map P (λ one. flat_map (span_lit window (length group - 1) one) group) group (λ one in_one.
+    recursion_flat_map P (span_lit window (length group - 1) one) group (λ other in_other.
     unless_true (says window t) (is_same one other) (holds (Span (number_in window one) (number_in window other) (length group - 1))) (λ differ.
     let place_one : t.place (at (number_in window one)) ≡ t.place one = ap t.place (at_event window one (events one in_one)) in
     let place_other : t.place (at (number_in window other)) ≡ t.place other = ap t.place (at_event window other (events other in_other)) in
     ap (λ x. int_le (x -ℤ t.place (at (number_in window other))) (pos (length group - 1))) place_one
     ∙ ap (λ x. int_le (t.place one -ℤ x) (pos (length group - 1))) place_other
-    ∙ int_le_to (t.place one -ℤ t.place other) (pos (length group - 1)) (near one other (has_contains one group in_one) (has_contains other group in_other)))))
+    ∙ int_le_to (t.place one -ℤ t.place other) (pos (length group - 1)) (near one other in_one in_other))))
 
 all_spans_true : (window : WindowForm) (t : Truth) (groups : List (List EventId)) → AllByRecursion (AreEvents window) groups → AllByRecursion (IsNear t) groups
     → AreTrueLits (says window t) (flat_map (spans_in window) groups)
 all_spans_true window t [] events near = tt
 all_spans_true window t (group ∷ groups) events near =
-    rec_append (λ (lit : SymbolicLit). lit_true (says window t) lit ≡ true) (spans_in window group) (flat_map (spans_in window) groups)
+    recursion_append (λ (lit : SymbolicLit). lit_true (says window t) lit ≡ true) (spans_in window group) (flat_map (spans_in window) groups)
     (spans_true window t group events.0 near.0) (all_spans_true window t groups events.1 near.1)
 
 -- all that a query assumes is true
@@ -116,8 +110,8 @@ assumed_true window t property ids events meets =
     let P : SymbolicLit → Type 0 = λ lit. lit_true (says window t) lit ≡ true in
     let groups : List (List EventId) = groups_of property.pattern ids in
     let all = groups_events window property.pattern ids events in
-    rec_append P (executed_lits window ids) (pattern_lits window property ids)
-    (rec_map P (λ id. holds (Executed (number_in window id))) ids (λ id in_ids.
-    ap t.executed (at_event window id (events id in_ids)) ∙ meets.executed id (has_contains id ids in_ids)))
-    (rec_append P (orders_from window [] groups) (flat_map (spans_in window) groups)
-    (orders_true window t [] groups (λ id none. absurd none) all meets.follow) (all_spans_true window t groups all meets.near))
+    recursion_append P (executed_lits window ids) (pattern_lits window property ids)
+    (recursion_map P (λ id. holds (Executed (number_in window id))) ids (λ id in_ids.
+    ap t.executed (at_event window id (events id in_ids)) ∙ meets.executed id in_ids))
+    (recursion_append P (orders_from window [] groups) (flat_map (spans_in window) groups)
+    (orders_true window t [] groups (λ id none. absurd (nothing_in _ none)) all meets.follow) (all_spans_true window t groups all meets.near))

@@ -13,13 +13,13 @@ use Rattle.std.specs.declared.cmp.Ordering.{Ordering}
 use Rattle.std.specs.declared.cmp.Ordering.TheVariants.{Less, Equal, Greater}
 use Rattle.std.proofs.lemmas.Cmp.{int_ranked, ranked}
 use Rattle.std.proofs.lemmas.List.{get_or-map, length-map}
-use Rattle.std.proofs.lemmas.List.Elements.{All-contains, All-map}
+use Rattle.std.proofs.lemmas.List.Elements.{All-contains, All-map, All-from_recursion}
 use Rattle.std.proofs.lemmas.List.Sorted.{All-permutation, Contains-permutation, ranks_by, sorted_far}
 use Rattle.std.proofs.lemmas.Cmp.{int_cmp_total, nat_cmp_total, on_total, then_total}
 use Rattle.gp_clause.specs.declared.valuation.Valuation.{Valuation}
 use Rattle.gp_clause.specs.Valuation.{place_of, truth_of}
 use Rattle.gp_constraint.specs.declared.point.Point.{Point}
-use Rattle.gp_base.specs.HasLaws.{Has, Pairwise, contains_has, flat_pairs, has_contains, has_flat, has_map, rec_all, rec_flat, rec_from}
+use Rattle.gp_base.specs.ListLaws.{contains_flat_map, contains_map, first_or_rest, here, nothing_in, Pairwise, pairwise_flat_map, recursion_flat_map, recursion_from_each}
 use Rattle.gp_constraint.specs.PointLaws.{HasLesserNumber, event_id, point_for, points_named, points_rise}
 use Rattle.gp_constraint.specs.Points.{number_in, points_of}
 use Rattle.gp_window.specs.declared.schedule.EventId.{EventId}
@@ -30,13 +30,16 @@ use Rattle.gp_witness.specs.Witness.{ComesBefore, IsByPlace, IsExecuted, place_i
 use Rattle.gp_witness.proofs.Counting.{apart}
 
 -- what stands where a test passes
-if_back : {X : Type 0} (b : Bool) (x y : X) → Has y (if b then x ∷ [] else []) → (b ≡ true) × (x ≡ y)
-if_back true x y (inl same) = (refl, same)
-if_back true x y (inr none) = absurd none
-if_back false x y i = absurd i
+if_back : {X : Type 0} (b : Bool) (x y : X) → Contains (if b then x ∷ [] else []) y → (b ≡ true) × (x ≡ y)
+if_back true x y i =
+    elim (first_or_rest _ [] _ i) [
+      | inl same ↦ (refl, same)
+      | inr none ↦ absurd (nothing_in _ none)
+    ]
+if_back false x y i = absurd (nothing_in _ i)
 
-has_if : {X : Type 0} (b : Bool) (x : X) → b ≡ true → Has x (if b then x ∷ [] else [])
-has_if true x passes = inl refl
+has_if : {X : Type 0} (b : Bool) (x : X) → b ≡ true → Contains (if b then x ∷ [] else []) x
+has_if true x passes = here _ []
 has_if false x passes = cc
 
 pairs_if : {X : Type 0} (R : X → X → Type 0) (b : Bool) (x : X) → Pairwise R (if b then x ∷ [] else [])
@@ -52,7 +55,7 @@ record IsTold (window : WindowForm) (valuation : Valuation) (event : Placed) : T
 abbrev all_placed : WindowForm → Valuation → List Placed
 all_placed window valuation = flat_map (placed_of valuation) (points_of window)
 
-told : (window : WindowForm) (valuation : Valuation) (p : Point) (event : Placed) → Has p (points_of window) → Has event (placed_of valuation p) → IsTold window valuation event
+told : (window : WindowForm) (valuation : Valuation) (p : Point) (event : Placed) → Contains (points_of window) p → Contains (placed_of valuation p) event → IsTold window valuation event
 told window valuation p event i j =
     let own = (points_named window).own p i in
     let at : Placed = record { place = place_of valuation p.number; id = p.id } in
@@ -65,11 +68,11 @@ told window valuation p event i j =
 
 all_told : (window : WindowForm) (valuation : Valuation) → AllByRecursion (IsTold window valuation) (all_placed window valuation)
 all_told window valuation =
-    rec_flat (IsTold window valuation) (placed_of valuation) (points_of window)
-    (λ p i. rec_from (IsTold window valuation) (placed_of valuation p) (λ event j. told window valuation p event i j))
+    recursion_flat_map (IsTold window valuation) (placed_of valuation) (points_of window)
+    (λ p i. recursion_from_each (IsTold window valuation) (placed_of valuation p) (λ event j. told window valuation p event i j))
 
 -- the number of an executed event is that of its point
-number_told : (window : WindowForm) (valuation : Valuation) (p : Point) (event : Placed) → Has p (points_of window) → Has event (placed_of valuation p)
+number_told : (window : WindowForm) (valuation : Valuation) (p : Point) (event : Placed) → Contains (points_of window) p → Contains (placed_of valuation p) event
     → p.number ≡ number_in window event.id
 number_told window valuation p event i j =
     let own = (points_named window).own p i in
@@ -80,7 +83,7 @@ number_told window valuation p event i j =
 numbers_rise : (window : WindowForm) (valuation : Valuation)
     → Pairwise (λ (one other : Placed). number_in window one.id < number_in window other.id) (all_placed window valuation)
 numbers_rise window valuation =
-    flat_pairs HasLesserNumber (λ (one other : Placed). number_in window one.id < number_in window other.id) (placed_of valuation) (points_of window) (points_rise window)
+    pairwise_flat_map HasLesserNumber (λ (one other : Placed). number_in window one.id < number_in window other.id) (placed_of valuation) (points_of window) (points_rise window)
     (λ p i. pairs_if (λ (one other : Placed). number_in window one.id < number_in window other.id) (truth_of valuation p.number) (record { place = place_of valuation p.number; id = p.id }))
     (λ p q i j less one other k l.
     let before : p.number < q.number = less in
@@ -88,12 +91,12 @@ numbers_rise window valuation =
 
 -- each executed event is there
 placed_there : (window : WindowForm) (valuation : Valuation) (id : EventId) → IsExecuted window valuation id
-    → (event : Placed) × Has event (all_placed window valuation) × (event.id ≡ id)
+    → (event : Placed) × Contains (all_placed window valuation) event × (event.id ≡ id)
 placed_there window valuation id (there, executed) =
     let p = point_for window id there in
     let at : Placed = record { place = place_of valuation p.0.number; id = p.0.id } in
     let true_there : truth_of valuation p.0.number ≡ true = subst (λ (n : ℕ). truth_of valuation n ≡ true) (sym p.2) executed in
-    (at, has_flat (placed_of valuation) p.0 at (points_of window) p.1 (has_if (truth_of valuation p.0.number) at true_there), p.3)
+    (at, contains_flat_map (placed_of valuation) (points_of window) p.0 at p.1 (has_if (truth_of valuation p.0.number) at true_there), p.3)
 
 -- what three comparisons, one after another, say where the second is not before the first
 not_after : (p q : ℤ) (t u i j : ℕ) (a b c : Ordering) → MatchOrdering a (q <ℤ p) (q ≡ p) (p <ℤ q) → MatchOrdering b (u < t) (u ≡ t) (t < u)
@@ -144,7 +147,7 @@ pub by_place : (window : WindowForm) (valuation : Valuation) (placed sorted : Li
 by_place window valuation placed sorted are moved order =
     let P : Placed → Type 0 = IsTold window valuation in
     let told_all : AllByRecursion P placed = subst (AllByRecursion P) (sym are) (all_told window valuation) in
-    let told_sorted : All P sorted = All-permutation P placed sorted moved (rec_all P placed told_all) in
+    let told_sorted : All P sorted = All-permutation P placed sorted moved (All-from_recursion P placed told_all) in
     let R : Placed → Placed → Type 0 = λ one other. number_in window one.id < number_in window other.id in
     let rising : Pairwise R placed = subst (Pairwise R) (sym are) (numbers_rise window valuation) in
     record {
@@ -163,10 +166,10 @@ by_place window valuation placed sorted are moved order =
           (All-map (IsExecuted window valuation) (λ (event : Placed). event.id) sorted (λ k d within. (told_sorted k d within).executed)) there;
       all = λ id executed.
           let found = placed_there window valuation id executed in
-          let in_placed : Has found.0 placed = subst (Has found.0) (sym are) found.1 in
-          let in_sorted = Contains-permutation placed sorted found.0 moved (has_contains found.0 placed in_placed) in
+          let in_placed : Contains placed found.0 = subst (λ xs. Contains xs found.0) (sym are) found.1 in
+          let in_sorted = Contains-permutation placed sorted found.0 moved in_placed in
           subst (Contains (map (λ (event : Placed). event.id) sorted)) found.2
-          (has_contains found.0.id (map (λ (event : Placed). event.id) sorted) (has_map (λ (event : Placed). event.id) found.0 sorted (contains_has found.0 sorted in_sorted)));
+          (contains_map (λ (event : Placed). event.id) sorted found.0 in_sorted);
     }
 
 -- the same from what the sort says
@@ -177,3 +180,18 @@ pub by_sort : (window : WindowForm) (valuation : Valuation) (placed sorted : Lis
     → IsByPlace window valuation (map (λ (event : Placed). event.id) sorted)
 by_sort window valuation placed sorted {g = g} {f = f} are moved sorts answers =
     by_place window valuation placed sorted are moved (sorts place_key (always_returns_same g (λ a r. r ≡ place_key a.0.now) f answers))
+
+-- a list of just the executed events
+pub executed_ids : (window : WindowForm) (valuation : Valuation)
+    → (ids : List EventId) × ((id : EventId) → Contains ids id → IsExecuted window valuation id) × ((id : EventId) → IsExecuted window valuation id → Contains ids id)
+executed_ids window valuation =
+    let placed : List Placed = all_placed window valuation in
+    let ids : List EventId = map (λ (event : Placed). event.id) placed in
+    let told : All (IsTold window valuation) placed = All-from_recursion (IsTold window valuation) placed (all_told window valuation) in (
+      ids,
+      λ id there. All-contains (IsExecuted window valuation) ids id
+          (All-map (IsExecuted window valuation) (λ (event : Placed). event.id) placed (λ k d within. (told k d within).executed)) there,
+      λ id executed.
+          let found = placed_there window valuation id executed in
+          subst (Contains ids) found.2 (contains_map (λ (event : Placed). event.id) placed found.0 found.1),
+    )

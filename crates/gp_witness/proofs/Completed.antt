@@ -20,7 +20,7 @@ use Rattle.gp_witness.specs.Complete.{ScheduleModel}
 use Rattle.gp_witness.specs.Meaning.{Truth}
 use Rattle.gp_witness.specs.ScheduleTruth.{schedule_truth}
 use Rattle.gp_witness.proofs.All.{meets_all}
-use Rattle.gp_witness.proofs.Assumed.{AreEvents, assumed_true, has_contains}
+use Rattle.gp_witness.proofs.Assumed.{AreEvents, assumed_true}
 use Rattle.gp_witness.proofs.Matched.{executed_event, matches_meet}
 use Rattle.gp_witness.proofs.Located.{says}
 use Rattle.gp_witness.proofs.Sought.{all_true}
@@ -55,7 +55,7 @@ query_model window property ids schedule numbered rows formed told feasible matc
     let names : List Symbol = query_names window property ids in
     let truth : ℕ → Bool = variable_true names (says window t) in
     let meets : MeetsQuery window t property ids = matches_meet window schedule property ids rows feasible matches in
-    let events : AreEvents window ids = (λ id has. executed_event window schedule id feasible (meets.executed id (has_contains id ids has))) in
+    let events : AreEvents window ids = (λ id has. executed_event window schedule id feasible (meets.executed id has)) in
     record {
       truth = truth;
       place = place_at window t;

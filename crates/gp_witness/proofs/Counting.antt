@@ -6,7 +6,7 @@ use Rattle.std.proofs.lemmas.Bool.Decides.{nat_tests}
 use Rattle.std.proofs.lemmas.List.{get_or-take, length-take}
 use Rattle.std.proofs.lemmas.List.Sums.{sum_by-cons, sum_by-take-drop, sum_by-drop_more, get_or-le-sum_by}
 use Rattle.std.proofs.lemmas.List.Sorted.{sum_by-IsPermutation}
-use Rattle.gp_base.specs.HasLaws.{Pairwise}
+use Rattle.gp_base.specs.ListLaws.{Pairwise}
 
 -- how often an element counts for a number
 abbrev counted : {X : Type 0} → (X → ℕ) → ℕ → X → ℕ

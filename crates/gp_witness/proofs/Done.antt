@@ -1,80 +1,27 @@
 -- Which events are done after a schedule: those below the counts.
-use Rattle.std.proofs.Common.{ℕ, zero, suc, ◌≡◌, ◌+◌, ◌<◌, ◌≤◌, ap, sym, ◌∙◌, subst, inl, inr, List, [], ◌∷◌, ◌++◌, true, arith}
-use Rattle.std.specs.Prelude.{◌==◌, Ok}
-use Rattle.std.proofs.lemmas.Bool.{cases_Bool, cases_eq, eq-eqb}
+use Rattle.std.proofs.Common.{◌≡◌, ◌<◌, ap, ◌∙◌, subst, List, ◌∷◌, ◌++◌, true, arith}
+use Rattle.std.specs.Prelude.{Ok}
 use Rattle.gp_window.specs.declared.schedule.EventId.{EventId}
+use Rattle.gp_window.specs.IdLaws.{contains_means}
 use Rattle.gp_window.specs.WindowForm.{WindowForm}
-use Rattle.gp_instance.specs.Matches.{is_among as is_in}
+use Rattle.gp_window.specs.Ids.{contains_event as is_in}
 use Rattle.gp_replay.specs.declared.state.State.{State}
+use Rattle.gp_replay.specs.CountedLaws.{counted_from_in, in_from_counted}
 use Rattle.gp_replay.specs.Step.{count_of, next, start_state}
 use Rattle.gp_replay.specs.Feasible.{IsFeasible, Runs}
-use Rattle.gp_replay.specs.Part.{events_from, part_of}
-use Rattle.gp_replay.specs.PartLaws.{prefix_from_start}
 use Rattle.gp_replay.specs.RunLaws.{runs_split}
 use Rattle.gp_replay.specs.StepLaws.{stepped}
 use Rattle.gp_witness.specs.ScheduleTruth.{before_of}
-use Rattle.gp_witness.proofs.Standing.{before_is, found, in_cases, is_head, is_later}
-
--- an event stands among all exactly where it stands among those of its thread
-to_part : (ids : List EventId) (e : EventId) → is_in ids e ≡ true → is_in (part_of e.thread ids) e ≡ true
-to_part [] e is = cc
-to_part (id ∷ ids) e is =
-    elim (in_cases id ids e is) [
-      | inl same ↦
-          let own : (id.thread == e.thread) ≡ true = eq-eqb id.thread e.thread (ap (λ (x : EventId). x.thread) (sym same)) in
-          rw own (subst (λ x. is_in (x ∷ part_of e.thread ids) e ≡ true) same (is_head (part_of e.thread ids) e))
-      | inr rest ↦ elim (cases_Bool (id.thread == e.thread)) [
-        | inl own ↦ rw own (is_later id (part_of e.thread ids) e (to_part ids e rest))
-        | inr other ↦ rw other (to_part ids e rest)
-      ]
-    ]
-
-from_part : (thread : ℕ) (ids : List EventId) (e : EventId) → is_in (part_of thread ids) e ≡ true → is_in ids e ≡ true
-from_part thread [] e is = cc
-from_part thread (id ∷ ids) e is =
-    elim (cases_Bool (id.thread == thread)) [
-      | inl own ↦ elim (in_cases id (part_of thread ids) e (rw own at is)) [
-        | inl same ↦ subst (λ x. is_in (x ∷ ids) e ≡ true) same (is_head ids e)
-        | inr rest ↦ is_later id ids e (from_part thread ids e rest)
-      ]
-      | inr other ↦ is_later id ids e (from_part thread ids e (rw other at is))
-    ]
-
--- the events of a thread from an index on have the indices up to their number
-to_index : (thread index more : ℕ) (e : EventId) → is_in (events_from thread index more) e ≡ true → e.index < index + more
-to_index thread index zero e is = cc
-to_index thread index (suc more) e is =
-    elim (in_cases (record { thread = thread; index = index }) (events_from thread (suc index) more) e is) [
-      | inl same ↦ let at : e.index ≡ index = ap (λ (x : EventId). x.index) same in omega (arith, at)
-      | inr rest ↦ let below = to_index thread (suc index) more e rest in omega (arith, below)
-    ]
-
-from_index : (thread index more k : ℕ) → index ≤ k → k < index + more → is_in (events_from thread index more) (record { thread = thread; index = k }) ≡ true
-from_index thread index zero k low high = absurd (omega (arith, low, high))
-from_index thread index (suc more) k low high =
-    elim (cases_eq index k) [
-      | inl same ↦
-          subst (λ n. is_in (events_from thread index (suc more)) (record { thread = thread; index = n }) ≡ true) same
-          (is_head (events_from thread (suc index) more) (record { thread = thread; index = index }))
-      | inr apart ↦
-          is_later (record { thread = thread; index = index }) (events_from thread (suc index) more) (record { thread = thread; index = k })
-          (from_index thread (suc index) more k (omega (arith, low, apart)) (omega (arith, high)))
-    ]
+use Rattle.gp_witness.proofs.Standing.{before_is, found}
 
 -- an event is done exactly where its thread has counted it
 pub to_count : (window : WindowForm) (last : State) (ids : List EventId) (e : EventId)
     → Runs window (start_state window) ids last → is_in ids e ≡ true → e.index < count_of last e.thread
-to_count window last ids e r is =
-    let part : part_of e.thread ids ≡ events_from e.thread 0 (count_of last e.thread) = (prefix_from_start window last ids e.thread r).0 in
-    let below = to_index e.thread 0 (count_of last e.thread) e (subst (λ list. is_in list e ≡ true) part (to_part ids e is)) in
-    omega (arith, below)
+to_count window last ids e r is = counted_from_in window last ids e r ((contains_means ids e).0 is)
 
 pub from_count : (window : WindowForm) (last : State) (ids : List EventId) (e : EventId)
     → Runs window (start_state window) ids last → e.index < count_of last e.thread → is_in ids e ≡ true
-from_count window last ids e r below =
-    let part : part_of e.thread ids ≡ events_from e.thread 0 (count_of last e.thread) = (prefix_from_start window last ids e.thread r).0 in
-    from_part e.thread ids e
-    (subst (λ list. is_in list e ≡ true) (sym part) (from_index e.thread 0 (count_of last e.thread) e.index (omega arith) (omega (arith, below))))
+from_count window last ids e r below = (contains_means ids e).1 (in_from_counted window last ids e r below)
 
 -- an executed event was a step, from the state after what is before it
 pub record Happened (window : WindowForm) (ids : List EventId) (e : EventId) : Type 0 where

@@ -1,6 +1,6 @@
 -- The executed events of a truth that meets all families happen one after another.
 use Rattle.std.proofs.Common.{ℕ, zero, suc, ◌≡◌, ◌⊎◌, ◌<◌, ◌≤◌, ap, sym, ◌∙◌, refl, subst, inl, inr, List, [], ◌∷◌, true, false, arith, length}
-use Rattle.std.specs.Prelude.{ℤ, pos, Some, None, Option, Ok, ◌&&◌, ◌==◌, is_some, slice_get, unwrap_or}
+use Rattle.std.specs.Prelude.{ℤ, pos, Some, None, Option, Ok, ◌&&◌, ◌==◌, is_some, slice_get, unwrap_or, Contains}
 use Rattle.std.specs.Cmp.Lexicographic.{slice_cmp}
 use Rattle.std.specs.Ordering.{int_eq, nat_cmp}
 use Rattle.std.proofs.lemmas.Bool.{and_from, cases_Bool, cases_eq, cases_order, eq-eqb, false≢true}
@@ -15,33 +15,34 @@ use Rattle.gp_window.specs.Events.{event_at, segment_of, size_of}
 use Rattle.gp_window.specs.Formed.{IsFormed, mode_at_start}
 use Rattle.gp_window.specs.Starts.{is_among}
 use Rattle.gp_window.specs.declared.schedule.EventId.{EventId}
-use Rattle.gp_window.specs.WindowForm.{WindowForm}
+use Rattle.gp_window.specs.WindowForm.{start_value, WindowForm}
 use Rattle.gp_replay.specs.declared.state.State.{State}
 use Rattle.gp_replay.specs.Feasible.{IsFeasible, Runs}
+use Rattle.gp_replay.specs.CountedLaws.{counted_from_in, in_from_counted}
 use Rattle.gp_replay.specs.Holder.{HoldersAcquired}
 use Rattle.gp_replay.specs.LockUses.{GivesBack, Takes}
 use Rattle.gp_replay.specs.Order.{Joins}
-use Rattle.gp_replay.specs.Part.{PartsArePrefixes}
+use Rattle.gp_replay.specs.OrderLaws.{started_after}
+use Rattle.gp_replay.specs.PartLaws.{prefix_from_start}
+use Rattle.gp_replay.specs.ReaderLaws.{some_reader}
 use Rattle.gp_replay.specs.Readers.{has_reader, is_reader}
 use Rattle.gp_replay.specs.Sharing.{ReadersAcquired}
 use Rattle.gp_replay.specs.Step.{after, allowed_in, count_of, has_ended, holder_of, start_state, value_of}
+use Rattle.gp_replay.specs.StartLaws.{held_as_told, read_as_told}
+use Rattle.gp_replay.specs.StepLaws.{happens}
 use Rattle.gp_replay.specs.Value.{Reads, ValuesAreLastWrites, Writes}
-use Rattle.gp_base.specs.HasLaws.{Has, rec_at}
+use Rattle.gp_base.specs.ListLaws.{recursion_at}
 use Rattle.gp_constraint.specs.PointLaws.{event_id, IsEventOf}
-use Rattle.gp_constraint.specs.Reads.{start_value}
 use Rattle.gp_constraint.specs.Sections.{exclude}
 use Rattle.gp_witness.specs.Meaning.{EachRival, IsFreedFor, IsStartedFor, MeetsAll, Precedes, Truth}
-use Rattle.gp_witness.proofs.Holds.{given_before, given_between, holder_starts, reader_starts, some_reader}
-use Rattle.gp_witness.proofs.Sorted.{Before, Does, from_events, from_part, in_events, in_middle, in_part, IsScheduleOf, Stands, stands}
-use Rattle.gp_witness.proofs.Steps.{EachMayHappen, feasible_by_steps, happens, started_after}
+use Rattle.gp_witness.proofs.Holds.{given_before, given_between}
+use Rattle.gp_witness.proofs.Sorted.{Before, Does, in_middle, IsScheduleOf, Stands, stands}
+use Rattle.gp_witness.proofs.Steps.{EachMayHappen, feasible_by_steps}
 
 -- what is known of a window and of a truth: how the window is formed and begins, what runs of it say, and all families
 pub record Ground (window : WindowForm) (t : Truth) : Type 0 where
   pub formed : IsFormed window
   pub values : (start_state window).values ≡ window.start_values
-  pub holders : (start_state window).holders ≡ window.holders
-  pub readers : (start_state window).readers ≡ window.readers
-  pub parts : PartsArePrefixes
   pub written : ValuesAreLastWrites
   pub acquired : HoldersAcquired
   pub shared : ReadersAcquired
@@ -84,21 +85,6 @@ record Here (window : WindowForm) (t : Truth) (done : List EventId) (id : EventI
   at : Stands t done id
   runs : Runs window (start_state window) done state
 
--- an event that has happened is counted, and the other way round
-counted_from_in : (window : WindowForm) (state : State) (done : List EventId) (other : EventId) → PartsArePrefixes
-    → Runs window (start_state window) done state → Has other done → other.index < count_of state other.thread
-counted_from_in window state done other parts r i =
-    let front = parts window done state r other.thread in
-    let within = from_events other.thread 0 (count_of state other.thread) other (subst (Has other) front.0 (in_part other done i)) in
-    omega (arith, within)
-
-in_from_counted : (window : WindowForm) (state : State) (done : List EventId) (thread index : ℕ) → PartsArePrefixes
-    → Runs window (start_state window) done state → index < count_of state thread → Has (event_id thread index) done
-in_from_counted window state done thread index parts r less =
-    let front = parts window done state r thread in
-    from_part thread (event_id thread index) done
-    (subst (Has (event_id thread index)) (sym front.0) (in_events thread 0 (count_of state thread) index (omega arith) (omega (arith, less))))
-
 -- it is the event's turn
 turn : (window : WindowForm) (t : Truth) (done : List EventId) (id : EventId) (state : State)
     → Here window t done id state → count_of state id.thread ≡ id.index
@@ -109,9 +95,9 @@ turn window t done id state h =
           let missing : EventId = event_id id.thread (count_of state id.thread) in
           let missed = ordered window t h.ground missing id refl low h.at.does in
           let bad : count_of state id.thread < count_of state id.thread =
-          counted_from_in window state done missing h.ground.parts h.runs (h.at.comes missing missed.0 missed.1) in
+          counted_from_in window state done missing h.runs (h.at.comes missing missed.0 missed.1) in
           absurd (omega (arith, bad))
-      | inr (inr high) ↦ absurd (h.at.fresh (in_from_counted window state done id.thread id.index h.ground.parts h.runs high))
+      | inr (inr high) ↦ absurd (h.at.fresh (in_from_counted window state done id h.runs high))
     ]
 
 -- a thread that is started for the event is started
@@ -134,15 +120,15 @@ finds_write : (window : WindowForm) (t : Truth) (done : List EventId) (id : Even
     → Here window t done id state → Writes window write variable value → Precedes t write id
     → EachRival window t variable value (λ other. Before t other write ⊎ Before t id other) → value_of state variable ≡ value
 finds_write window t done id state variable value write h writes precedes rivals =
-    let come : Has write done = h.at.comes write precedes.0 precedes.1 in
+    let come : Contains done write = h.at.comes write precedes.0 precedes.1 in
     not_apart (value_of state variable) value (λ differ.
     elim (h.ground.written window done state h.runs variable) [
-      | inl kept ↦ rec_at (λ e. (v : ℤ) → Writes window e variable v → ⊥) write done kept.1 come value writes
+      | inl kept ↦ recursion_at (λ e. (v : ℤ) → Writes window e variable v → ⊥) done write kept.1 come value writes
       | inr last ↦
-          let is_in : Has last.1 done = subst (Has last.1) (sym last.3) (in_middle last.1 last.0 last.2) in
+          let is_in : Contains done last.1 = subst (λ xs. Contains xs last.1) (sym last.3) (in_middle last.1 last.0 last.2) in
           elim (rivals last.1 (value_of state variable) last.4 differ (h.at.came last.1 is_in)) [
             | inl early ↦
-                rec_at (λ e. (v : ℤ) → Writes window e variable v → ⊥) write last.2 last.5
+                recursion_at (λ e. (v : ℤ) → Writes window e variable v → ⊥) last.2 write last.5
                 (h.at.later last.0 last.1 last.2 write last.3 come early) value writes
             | inr after ↦ h.at.kept last.1 is_in after
           ]
@@ -159,7 +145,7 @@ finds_start window t done id state variable value h begins rivals =
     elim (h.ground.written window done state h.runs variable) [
       | inl kept ↦ differ (sym kept.0 ∙ told)
       | inr last ↦
-          let is_in : Has last.1 done = subst (Has last.1) (sym last.3) (in_middle last.1 last.0 last.2) in
+          let is_in : Contains done last.1 = subst (λ xs. Contains xs last.1) (sym last.3) (in_middle last.1 last.0 last.2) in
           h.at.kept last.1 is_in (rivals last.1 (value_of state variable) last.4 differ (h.at.came last.1 is_in))
     ])
 
@@ -231,14 +217,14 @@ sections window t lock held mode one other meets first second took takes against
 
 -- a lock that an event took is given back between it and the event that takes it against that
 section_given : (window : WindowForm) (t : Truth) (done : List EventId) (id : EventId) (state : State) (lock : List ℕ) (held mode : LockMode) (one : EventId)
-    → Here window t done id state → Takes window mode id lock → Takes window held one lock → exclude held mode ≡ true → Has one done
+    → Here window t done id state → Takes window mode id lock → Takes window held one lock → exclude held mode ≡ true → Contains done one
     → (given : IsGiven window t held lock one.thread id) × Before t one given.end
 section_given window t done id state lock held mode one h takes took against i =
     let kept : Before t id one → ⊥ = h.at.kept one i in
     let came = h.at.came one i in
     elim (cases_eq one.thread id.thread) [
       | inl same ↦ elim (cases_order one.index id.index) [
-        | inl alike ↦ absurd (h.at.fresh (subst (λ e. Has e done) (same_id one id same alike) i))
+        | inl alike ↦ absurd (h.at.fresh (subst (λ e. Contains done e) (same_id one id same alike) i))
         | inr (inl less) ↦
             let uses = h.ground.formed.locks one.thread in
             let own : Takes window mode (event_id one.thread id.index) lock = subst (λ n. Takes window mode (event_id n id.index) lock) (sym same) takes in
@@ -265,12 +251,12 @@ no_holder : (window : WindowForm) (t : Truth) (done : List EventId) (id : EventI
 no_holder window t done id state lock mode h takes against thread holds =
     elim ((h.ground.acquired window done state h.runs lock thread).0 holds) [
       | inl held ↦
-          let given = start_given window t done id state lock thread Exclusive mode h (holder_starts window lock thread h.ground.holders held.0) takes against in
-          rec_at (λ e. GivesBack window Exclusive e lock → ⊥) given.end done held.1 (h.at.comes given.end given.does given.early) given.gives
+          let given = start_given window t done id state lock thread Exclusive mode h ((held_as_told window h.ground.formed lock thread).0 held.0) takes against in
+          recursion_at (λ e. GivesBack window Exclusive e lock → ⊥) done given.end held.1 (h.at.comes given.end given.does given.early) given.gives
       | inr a ↦
-          let is_in : Has a.1 done = subst (Has a.1) (sym a.3) (in_middle a.1 a.0 a.2) in
+          let is_in : Contains done a.1 = subst (λ xs. Contains xs a.1) (sym a.3) (in_middle a.1 a.0 a.2) in
           let given = section_given window t done id state lock Exclusive mode a.1 h takes a.5 against is_in in
-          rec_at (λ e. GivesBack window Exclusive e lock → ⊥) given.0.end a.2 a.6
+          recursion_at (λ e. GivesBack window Exclusive e lock → ⊥) a.2 given.0.end a.6
           (h.at.later a.0 a.1 a.2 given.0.end a.3 (h.at.comes given.0.end given.0.does given.0.early) given.1) given.0.gives
     ]
 
@@ -280,12 +266,12 @@ no_reader : (window : WindowForm) (t : Truth) (done : List EventId) (id : EventI
 no_reader window t done id state lock h takes thread reads =
     elim ((h.ground.shared window done state h.runs lock thread).0 reads) [
       | inl held ↦
-          let given = start_given window t done id state lock thread Shared Exclusive h (reader_starts window lock thread h.ground.formed h.ground.readers held.0) takes refl in
-          rec_at (λ e. e.thread ≡ thread → GivesBack window Shared e lock → ⊥) given.end done held.1 (h.at.comes given.end given.does given.early) given.own given.gives
+          let given = start_given window t done id state lock thread Shared Exclusive h ((read_as_told window h.ground.formed lock thread).0 held.0) takes refl in
+          recursion_at (λ e. e.thread ≡ thread → GivesBack window Shared e lock → ⊥) done given.end held.1 (h.at.comes given.end given.does given.early) given.own given.gives
       | inr a ↦
-          let is_in : Has a.1 done = subst (Has a.1) (sym a.3) (in_middle a.1 a.0 a.2) in
+          let is_in : Contains done a.1 = subst (λ xs. Contains xs a.1) (sym a.3) (in_middle a.1 a.0 a.2) in
           let given = section_given window t done id state lock Shared Exclusive a.1 h takes a.5 refl is_in in
-          rec_at (λ e. e.thread ≡ thread → GivesBack window Shared e lock → ⊥) given.0.end a.2 a.6
+          recursion_at (λ e. e.thread ≡ thread → GivesBack window Shared e lock → ⊥) a.2 given.0.end a.6
           (h.at.later a.0 a.1 a.2 given.0.end a.3 (h.at.comes given.0.end given.0.does given.0.early) given.1) (given.0.own ∙ a.4) given.0.gives
     ]
 
@@ -306,7 +292,7 @@ join_finds : (window : WindowForm) (t : Truth) (done : List EventId) (id : Event
 join_finds window t done id state thread h joins =
     let j = h.ground.meets.joins id thread joins h.at.does in
     let begun = is_started window t done id state thread h j.started in
-    let most : count_of state thread ≤ size_of window thread = (h.ground.parts window done state h.runs thread).1 in
+    let most : count_of state thread ≤ size_of window thread = (prefix_from_start window state done thread h.runs).1 in
     let least : size_of window thread ≤ count_of state thread = at_least (size_of window thread) refl in
     let whole : (size_of window thread == count_of state thread) ≡ true = eq-eqb (size_of window thread) (count_of state thread) (omega (arith, least, most)) in
     and_from (is_among state.started thread) (is_among window.exited thread && size_of window thread == count_of state thread) begun
@@ -318,7 +304,7 @@ join_finds window t done id state thread h joins =
         let last : EventId = event_id thread n in
         let found = got_at (segment_of window thread) n (omega (arith, size)) in
         let before = (h.ground.meets.joins id thread joins h.at.does).whole last (found.0, found.1) refl in
-        let less = counted_from_in window state done last h.ground.parts h.runs (h.at.comes last before.0 before.1) in
+        let less = counted_from_in window state done last h.runs (h.at.comes last before.0 before.1) in
         omega (arith, less)
 
 -- the event is allowed

@@ -1,22 +1,22 @@
 -- A group of n events within n places leaves no place for others.
 use Rattle.std.proofs.Common.{ℕ, suc, ◌≡◌, ◌⊎◌, ◌<◌, ◌≤◌, ap, refl, subst, inl, inr, List, [], ◌∷◌, length, map, true, false, arith, eqb, eqb-true}
-use Rattle.std.specs.Prelude.{ℤ, pos, negsuc, ◌-◌, ◌-ℤ◌, ◌≤ℤ◌, ◌≢◌}
+use Rattle.std.specs.Prelude.{ℤ, pos, negsuc, ◌-◌, ◌-ℤ◌, ◌≤ℤ◌, ◌≢◌, Contains}
 use Rattle.std.specs.List.{AllByRecursion, IsDistinct, list_any}
 use Rattle.std.specs.Int.Signed.{le_z}
 use Rattle.std.proofs.lemmas.Bool.{cases_Bool, ne_eqb}
 use Rattle.std.proofs.lemmas.Int.{ints}
 use Rattle.std.proofs.lemmas.Map.Steps.{length-le_from_distinct_below}
 use Rattle.gp_window.specs.declared.schedule.EventId.{EventId}
-use Rattle.gp_base.specs.HasLaws.{AreDifferent, Has, rec_at, rec_from}
+use Rattle.gp_base.specs.ListLaws.{AreDifferent, first_or_rest, here, nothing_in, recursion_at, recursion_from_each, there}
 use Rattle.gp_witness.specs.Meaning.{Truth}
 use Rattle.gp_witness.proofs.Sorted.{Before, Does}
 
 -- the events happen, differ, lie within as many places as they are, and each stands before or after every other event that happens
 pub record IsGroup (t : Truth) (group : List EventId) : Type 0 where
-  pub does : (id : EventId) → Has id group → Does t id
+  pub does : (id : EventId) → Contains group id → Does t id
   pub different : AreDifferent group
-  pub near : (one other : EventId) → Has one group → Has other group → (t.place one -ℤ t.place other) ≤ℤ pos (length group - 1)
-  pub ordered : (id other : EventId) → Has id group → Does t other → id ≢ other → Before t id other ⊎ Before t other id
+  pub near : (one other : EventId) → Contains group one → Contains group other → (t.place one -ℤ t.place other) ≤ℤ pos (length group - 1)
+  pub ordered : (id other : EventId) → Contains group id → Does t other → id ≢ other → Before t id other ⊎ Before t other id
 
 abbrev nat_of : ℤ → ℕ
 nat_of (pos n) = n
@@ -85,13 +85,13 @@ few_places t low n ids within apart =
 
 -- the lowest event of some
 lowest : (t : Truth) (first : EventId) (ids : List EventId)
-    → (low : EventId) × Has low (first ∷ ids) × ((id : EventId) → Has id (first ∷ ids) → t.place low ≤ℤ t.place id)
+    → (low : EventId) × Contains (first ∷ ids) low × ((id : EventId) → Contains (first ∷ ids) id → t.place low ≤ℤ t.place id)
 lowest t first [] = (
   first,
-  inl refl,
-  λ id i. elim i [
+  here _ [],
+  λ id i. elim (first_or_rest _ [] _ i) [
     | inl same ↦ let places = ap t.place same in omega (arith, ints, places)
-    | inr none ↦ absurd none
+    | inr none ↦ absurd (nothing_in _ none)
   ],
 )
 lowest t first (next ∷ ids) =
@@ -100,8 +100,8 @@ lowest t first (next ∷ ids) =
       | inl less ↦
           let below : t.place first ≤ℤ t.place rest.0 = omega (arith, ints, less) in (
             first,
-            inl refl,
-            λ id i. elim i [
+            here _ (next ∷ ids),
+            λ id i. elim (first_or_rest _ (next ∷ ids) _ i) [
               | inl same ↦ let places = ap t.place same in omega (arith, ints, places)
               | inr later ↦ let above = rest.2 id later in omega (arith, ints, above, below)
             ],
@@ -109,34 +109,34 @@ lowest t first (next ∷ ids) =
       | inr more ↦
           let below : t.place rest.0 ≤ℤ t.place first = omega (arith, ints, more) in (
             rest.0,
-            inr rest.1,
-            λ id i. elim i [
+            there _ (next ∷ ids) _ rest.1,
+            λ id i. elim (first_or_rest _ (next ∷ ids) _ i) [
               | inl same ↦ let places = ap t.place same in omega (arith, ints, places, below)
               | inr later ↦ rest.2 id later
             ],
           )
     ]
 
-group_apart : (t : Truth) (group ids : List EventId) → IsGroup t group → ((id : EventId) → Has id ids → Has id group) → AreDifferent ids → AreApart t ids
+group_apart : (t : Truth) (group ids : List EventId) → IsGroup t group → ((id : EventId) → Contains ids id → Contains group id) → AreDifferent ids → AreApart t ids
 group_apart t group [] g inside different = tt
 group_apart t group (id ∷ ids) g inside different = (
-  rec_from (λ other. t.place id ≡ t.place other → ⊥) ids (λ other i same.
-      elim (g.ordered id other (inside id (inl refl)) (g.does other (inside other (inr i))) (rec_at (λ o. id ≡ o → ⊥) other ids different.0 i)) [
+  recursion_from_each (λ other. t.place id ≡ t.place other → ⊥) ids (λ other i same.
+      elim (g.ordered id other (inside id (here _ _)) (g.does other (inside other (there _ _ _ i))) (recursion_at (λ o. id ≡ o → ⊥) ids other different.0 i)) [
         | inl before ↦ absurd (omega (arith, ints, before, same))
         | inr after ↦ absurd (omega (arith, ints, after, same))
       ]),
-  group_apart t group ids g (λ other i. inside other (inr i)) different.1,
+  group_apart t group ids g (λ other i. inside other (there _ _ _ i)) different.1,
 )
 
 -- what stands between two events of a group is one of it
 pub group_holds : (t : Truth) (group : List EventId) (first last other : EventId) → IsGroup t group
-    → Has first group → Has last group → Does t other → Before t first other → Before t other last → (Has other group → ⊥) → ⊥
-group_holds t [] first last other g low high does after before outside = absurd low
+    → Contains group first → Contains group last → Does t other → Before t first other → Before t other last → (Contains group other → ⊥) → ⊥
+group_holds t [] first last other g low high does after before outside = absurd (nothing_in _ low)
 group_holds t (head ∷ rest) first last other g low high does after before outside =
     let group : List EventId = head ∷ rest in
     let least = lowest t head rest in
     let bottom : ℤ = t.place least.0 in
-    let inside : (id : EventId) → Has id group → (bottom ≤ℤ t.place id) × (offset t bottom id < length group) = (λ id i.
+    let inside : (id : EventId) → Contains group id → (bottom ≤ℤ t.place id) × (offset t bottom id < length group) = (λ id i.
     let above = least.2 id i in
     let near = g.near id least.0 i least.1 in
     let is = offset_is t bottom id above in
@@ -147,9 +147,9 @@ group_holds t (head ∷ rest) first last other g low high does after before outs
     let is = offset_is t bottom other above in
     let below : offset t bottom other < length group = omega (arith, ints, last_near, before, is) in
     let within : AreIn t bottom (length group) (other ∷ group) =
-    ((above, below), rec_from (λ id. (bottom ≤ℤ t.place id) × (offset t bottom id < length group)) group inside) in
-    let away : IsApart t other group = rec_from (λ id. t.place other ≡ t.place id → ⊥) group (λ id i same.
-    elim (g.ordered id other i does (λ e. outside (subst (λ o. Has o group) e i))) [
+    ((above, below), recursion_from_each (λ id. (bottom ≤ℤ t.place id) × (offset t bottom id < length group)) group inside) in
+    let away : IsApart t other group = recursion_from_each (λ id. t.place other ≡ t.place id → ⊥) group (λ id i same.
+    elim (g.ordered id other i does (λ e. outside (subst (λ o. Contains group o) e i))) [
       | inl earlier ↦ absurd (omega (arith, ints, earlier, same))
       | inr later ↦ absurd (omega (arith, ints, later, same))
     ]) in

@@ -3,8 +3,8 @@ use Rattle.std.proofs.Common.{◌≡◌, ◌-◌, ◌<◌, ℕ, zero, suc, Bool,
 use Rattle.std.specs.Prelude.{Some, None, slice_get, ◌||◌}
 use Rattle.std.specs.List.{list_any}
 use Rattle.std.proofs.lemmas.Bool.{cases_Bool}
-use Rattle.gp_instance.specs.Matches.{is_among}
 use Rattle.gp_window.specs.declared.schedule.EventId.{EventId}
+use Rattle.gp_window.specs.Ids.{contains_event}
 use Rattle.gp_witness.specs.Witness.{up_to_last}
 
 ends_at : (xs : List EventId) (n : ℕ) (last : EventId) → length xs ≡ suc n → slice_get xs n ≡ Some last → xs ≡ take n xs ++ last ∷ []
@@ -35,22 +35,22 @@ any_front : (p : EventId → Bool) (xs : List EventId) (x : EventId) → p x ≡
 any_front p [] x fails = rw fails refl
 any_front p (y ∷ xs) x fails = ap (λ (b : Bool). p y || b) (any_front p xs x fails)
 
-kept_last : (events xs : List EventId) (x : EventId) → is_among events x ≡ true → up_to_last events (xs ++ x ∷ []) ≡ xs ++ x ∷ []
+kept_last : (events xs : List EventId) (x : EventId) → contains_event events x ≡ true → up_to_last events (xs ++ x ∷ []) ≡ xs ++ x ∷ []
 kept_last events [] x among = rw among refl
-kept_last events (y ∷ xs) x among = rw (any_last (is_among events) (y ∷ xs) x among, kept_last events xs x among) refl
+kept_last events (y ∷ xs) x among = rw (any_last (contains_event events) (y ∷ xs) x among, kept_last events xs x among) refl
 
-cut_last : (events xs : List EventId) (x : EventId) → is_among events x ≡ false → up_to_last events (xs ++ x ∷ []) ≡ up_to_last events xs
+cut_last : (events xs : List EventId) (x : EventId) → contains_event events x ≡ false → up_to_last events (xs ++ x ∷ []) ≡ up_to_last events xs
 cut_last events [] x other = rw other refl
-cut_last events (y ∷ xs) x other = rw (any_front (is_among events) (y ∷ xs) x other, cut_last events xs x other) refl
+cut_last events (y ∷ xs) x other = rw (any_front (contains_event events) (y ∷ xs) x other, cut_last events xs x other) refl
 
 -- a schedule that ends with one of the events is all that is to stay
-pub all_stays : (events xs : List EventId) (last : EventId) → slice_get xs (length xs - 1) ≡ Some last → is_among events last ≡ true → up_to_last events xs ≡ xs
+pub all_stays : (events xs : List EventId) (last : EventId) → slice_get xs (length xs - 1) ≡ Some last → contains_event events last ≡ true → up_to_last events xs ≡ xs
 all_stays events xs last e among =
     let ends = ends_with xs last e in
     ap (up_to_last events) ends ∙ kept_last events (take (length xs - 1) xs) last among ∙ sym ends
 
 -- the last event of a schedule goes where it is none of the events
-pub last_goes : (events xs ys : List EventId) (last : EventId) → slice_get xs (length xs - 1) ≡ Some last → ys ≡ take (length xs - 1) xs → is_among events last ≡ false
+pub last_goes : (events xs ys : List EventId) (last : EventId) → slice_get xs (length xs - 1) ≡ Some last → ys ≡ take (length xs - 1) xs → contains_event events last ≡ false
     → up_to_last events ys ≡ up_to_last events xs
 last_goes events xs ys last e is other =
     ap (up_to_last events) is ∙ sym (cut_last events (take (length xs - 1) xs) last other) ∙ ap (up_to_last events) (sym (ends_with xs last e))

@@ -33,3 +33,5 @@ pub mod Counting
 pub mod ByPlace
 pub mod Walking
 pub mod LastEvent
+pub mod InOrder
+pub mod OneByPlace

@@ -1,6 +1,6 @@
 -- Guarded clauses are true where an event precedes, as the events that meet the families do.
 use Rattle.std.proofs.Common.{ℕ, zero, suc, ℤ, ◌≡◌, ◌-◌, ◌<◌, ◌<ℤ◌, ap, sym, ◌∙◌, refl, subst, inl, inr, List, [], ◌∷◌, ◌++◌, Bool, true, false, not, arith, eqb-true}
-use Rattle.std.specs.Prelude.{Option, Some, None, ◌||◌, ◌==◌, find, int_lt, nat_lt, slice_get}
+use Rattle.std.specs.Prelude.{Option, Some, None, ◌||◌, ◌==◌, find, int_lt, nat_lt, slice_get, Contains}
 use Rattle.std.specs.List.{list_any}
 use Rattle.std.proofs.lemmas.Bool.{cases_Bool, cases_eq, cases_lt, lt-ltb}
 use Rattle.std.proofs.lemmas.Int.{ints}
@@ -11,7 +11,7 @@ use Rattle.gp_window.specs.WindowForm.{WindowForm}
 use Rattle.gp_constraint.specs.declared.point.Point.{Point}
 use Rattle.gp_constraint.specs.declared.symbol.Symbol.{Symbol}
 use Rattle.gp_constraint.specs.declared.term.Term.{Term}
-use Rattle.gp_base.specs.HasLaws.{find_has, Has}
+use Rattle.gp_base.specs.ListLaws.{contains_found}
 use Rattle.gp_constraint.specs.PointLaws.{IsEventOf, next_number, point_for, point_there, points_named}
 use Rattle.gp_constraint.specs.Points.{number_at, number_in, points_of, sizes_of}
 use Rattle.gp_constraint.specs.Terms.{before, constant, executed, first, needs, preceded, simplified}
@@ -21,6 +21,7 @@ use Rattle.gp_witness.specs.TruthOfSymbols.{id_at, id_in, symbol_true}
 use Rattle.gp_witness.proofs.PointActions.{IsPoint, point_event}
 use Rattle.gp_witness.proofs.Listed.{all_append, any_left, any_right, clause_true, find_none, term_true}
 use Rattle.gp_witness.proofs.Clauses.{got_before}
+pub use Rattle.gp_constraint.specs.TrueLaws.{neg_or, or_here}
 
 -- a window and a truth that meets the families
 pub record Setting (window : WindowForm) (t : Truth) : Type 0 where
@@ -30,14 +31,6 @@ pub record Setting (window : WindowForm) (t : Truth) : Type 0 where
 -- what the truth says of symbols
 abbrev pub says : WindowForm → Truth → Symbol → Bool
 says window t symbol = symbol_true t (id_at (points_of window)) symbol
-
--- a literal that is not so, or what follows from its being so
-pub neg_or : (a rest : Bool) → (a ≡ true → rest ≡ true) → (not a || rest) ≡ true
-neg_or true rest holds = holds refl
-neg_or false rest holds = refl
-
-pub or_here : (a rest : Bool) → a ≡ true → (a || rest) ≡ true
-or_here a rest is = rw is refl
 
 pub or_rest : (a rest : Bool) → rest ≡ true → (a || rest) ≡ true
 or_rest true rest is = refl
@@ -78,13 +71,13 @@ less_itself : (a b : ℤ) → a ≡ b → a <ℤ b → ⊥
 less_itself a b same less = omega (arith, ints, same, less)
 
 -- what a point of the window is
-pub point_is : (window : WindowForm) (p : Point) → Has p (points_of window) → IsPoint window p
+pub point_is : (window : WindowForm) (p : Point) → Contains (points_of window) p → IsPoint window p
 point_is window p is = let own = (points_named window).own p is in record { event = own.0; there = own.1; action = own.2 }
 
-pub number_is : (window : WindowForm) (p : Point) → Has p (points_of window) → p.number ≡ number_in window p.id
+pub number_is : (window : WindowForm) (p : Point) → Contains (points_of window) p → p.number ≡ number_in window p.id
 number_is window p is = ((points_named window).own p is).3
 
-pub at_point : (window : WindowForm) (p : Point) → Has p (points_of window) → id_at (points_of window) p.number ≡ p.id
+pub at_point : (window : WindowForm) (p : Point) → Contains (points_of window) p → id_at (points_of window) p.number ≡ p.id
 at_point window p is = ap id_in (point_there window p is)
 
 -- the term for the order of two points is true where the places are so
@@ -92,7 +85,7 @@ constant_true : (truth : Symbol → Bool) (b : Bool) → b ≡ true → term_tru
 constant_true truth true is = refl
 constant_true truth false is = cc
 
-pub before_true : (window : WindowForm) (t : Truth) → Setting window t → (e f : Point) → Has e (points_of window) → Has f (points_of window)
+pub before_true : (window : WindowForm) (t : Truth) → Setting window t → (e f : Point) → Contains (points_of window) e → Contains (points_of window) f
     → t.place e.id <ℤ t.place f.id → term_true (says window t) (before e f) ≡ true
 before_true window t s e f in_e in_f less =
     let at : ℕ → EventId = id_at (points_of window) in
@@ -124,15 +117,15 @@ before_true window t s e f in_e in_f less =
     ]
 
 -- what is executed by its number
-pub by_number : (window : WindowForm) (t : Truth) (p : Point) → Has p (points_of window) → t.executed (id_at (points_of window) p.number) ≡ t.executed p.id
+pub by_number : (window : WindowForm) (t : Truth) (p : Point) → Contains (points_of window) p → t.executed (id_at (points_of window) p.number) ≡ t.executed p.id
 by_number window t p is = ap t.executed (at_point window p is)
 
 -- an event is found that precedes
 abbrev pub IsFound : WindowForm → Truth → Option Point → EventId → Type 0
-IsFound window t o f = (p : Point) × (o ≡ Some p) × Has p (points_of window) × Precedes t p.id f
+IsFound window t o f = (p : Point) × (o ≡ Some p) × Contains (points_of window) p × Precedes t p.id f
 
 -- guarded clauses: a guard is true, or there is an event that precedes
-pub preceded_true : (window : WindowForm) (t : Truth) → Setting window t → (guards : List Term) (o : Option Point) (f : Point) → Has f (points_of window)
+pub preceded_true : (window : WindowForm) (t : Truth) → Setting window t → (guards : List Term) (o : Option Point) (f : Point) → Contains (points_of window) f
     → (list_any (term_true (says window t)) guards ≡ false → IsFound window t o f.id)
     → AreTrue (says window t) (preceded guards o f)
 preceded_true window t s guards None f in_f holds =
@@ -149,7 +142,7 @@ preceded_true window t s guards (Some p) f in_f holds =
       | inr open_ ↦
           let found = holds open_ in
           let same : found.0 ≡ p = (let is : ◌≡◌ {A = Option Point} (Some p) (Some found.0) = found.1 in cc) in
-          let in_p : Has p (points_of window) = subst (λ q. Has q (points_of window)) same found.2 in
+          let in_p : Contains (points_of window) p = subst (λ q. Contains (points_of window) q) same found.2 in
           let comes : Precedes t p.id f.id = subst (λ (q : Point). Precedes t q.id f.id) same found.3 in
           let runs : t.executed (id_at (points_of window) p.number) ≡ true = by_number window t p in_p ∙ comes.0 in
           all_append truth (simplified (guards ++ executed p true ∷ [])) (simplified (guards ++ before p f ∷ []))
@@ -158,7 +151,7 @@ preceded_true window t s guards (Some p) f in_f holds =
           (or_here (term_true truth (before p f)) false (before_true window t s p f in_p in_f comes.1))))
     ]
 
-pub needs_true : (window : WindowForm) (t : Truth) → Setting window t → (o : Option Point) (f : Point) → Has f (points_of window)
+pub needs_true : (window : WindowForm) (t : Truth) → Setting window t → (o : Option Point) (f : Point) → Contains (points_of window) f
     → (t.executed f.id ≡ true → IsFound window t o f.id) → AreTrue (says window t) (needs f o)
 needs_true window t s o f in_f holds =
     preceded_true window t s (executed f false ∷ []) o f in_f
@@ -166,8 +159,8 @@ needs_true window t s o f in_f holds =
 
 -- an event that is wanted, and that only one point is, is found
 pub located : (window : WindowForm) (t : Truth) (test : Point → Bool) (e f : EventId) → IsEventOf window e → Precedes t e f
-    → ((q : Point) → Has q (points_of window) → q.id ≡ e → test q ≡ true)
-    → ((p : Point) → find test (points_of window) ≡ Some p → Has p (points_of window) → test p ≡ true → p.id ≡ e)
+    → ((q : Point) → Contains (points_of window) q → q.id ≡ e → test q ≡ true)
+    → ((p : Point) → find test (points_of window) ≡ Some p → Contains (points_of window) p → test p ≡ true → p.id ≡ e)
     → IsFound window t (find test (points_of window)) f
 located window t test e f is_event comes wanted alone = look (find test (points_of window)) refl
   where
@@ -176,7 +169,7 @@ located window t test e f is_event comes wanted alone = look (find test (points_
         let q = point_for window e is_event in
         absurd (find_none test (points_of window) q.0 is q.1 (wanted q.0 q.1 q.3))
     look (Some p) is =
-        let found = find_has test (points_of window) p is in
+        let found = contains_found test (points_of window) p is in
         let same : p.id ≡ e = alone p is found.0 found.1 in
         (p, is, found.0, subst (λ x. Precedes t x f) (sym same) comes)
 
@@ -193,7 +186,7 @@ pub record HasBefore (window : WindowForm) (f : Point) : Type 0 where
   pub lower : before.index < f.id.index
   pub at : id_at (points_of window) (f.number - 1) ≡ before
 
-pub before_link : (window : WindowForm) (f : Point) → Has f (points_of window) → (f.id.index == 0) ≡ false → HasBefore window f
+pub before_link : (window : WindowForm) (f : Point) → Contains (points_of window) f → (f.id.index == 0) ≡ false → HasBefore window f
 before_link window f in_f later =
     let is = point_is window f in_f in
     let step : f.id.index ≡ suc (f.id.index - 1) = not_zero f.id.index later in

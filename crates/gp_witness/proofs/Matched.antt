@@ -1,17 +1,17 @@
 -- A schedule that matches an instance meets its query.
-use Rattle.std.proofs.Common.{ℕ, zero, suc, pos, ◌≡◌, ◌≢◌, ◌+◌, ◌-◌, ◌<◌, ◌≤◌, ◌-ℤ◌, ◌≤ℤ◌, ap, sym, ◌∙◌, refl, subst, inl, inr, List, [], ◌∷◌, ◌++◌, Bool, true, false, cond, length, length-append, append_assoc, arith, get_or}
+use Rattle.std.proofs.Common.{ℕ, zero, suc, pos, ◌≡◌, ◌≢◌, ◌+◌, ◌-◌, ◌<◌, ◌≤◌, ◌-ℤ◌, ◌≤ℤ◌, ap, sym, ◌∙◌, refl, subst, inl, inr, List, [], ◌∷◌, ◌++◌, Bool, true, false, cond, length, length-append, append_assoc, arith}
 use Rattle.std.specs.Prelude.{Some, None, Contains, nat_lt, ◌&&◌}
-use Rattle.std.specs.List.{AllByRecursion, AllPairs, list_all, position_or_len}
+use Rattle.std.specs.List.{AllByRecursion, list_all, position_or_len}
 use Rattle.std.proofs.lemmas.Bool.{and_parts, cases_Bool, cases_eq, cases_lt, ltb-true}
 use Rattle.std.proofs.lemmas.Int.{ints}
 use Rattle.std.proofs.lemmas.List.{length-replicate}
+use Rattle.gp_base.specs.ListLaws.{pairwise_from_pairs}
 use Rattle.gp_property.specs.PropertyForm.{PropertyForm}
-use Rattle.gp_instance.specs.Instance.{is_same}
-use Rattle.gp_instance.specs.Listed.{EachBefore}
-use Rattle.gp_instance.specs.Matches.{all_before, follow, groups_of, is_among as is_in, is_before, is_before_all, matches_events, stands_together}
+use Rattle.gp_instance.specs.Matches.{all_before, follow, groups_of, is_before, is_before_all, matches_events, stands_together}
 use Rattle.gp_instance.specs.Rows.{GroupsStandInRows, IsRow, StandsInRow}
 use Rattle.gp_window.specs.declared.schedule.EventId.{EventId}
 use Rattle.gp_window.specs.WindowForm.{WindowForm}
+use Rattle.gp_window.specs.Ids.{contains_event as is_in, is_same}
 use Rattle.gp_replay.specs.CountLaws.{run_is_distinct}
 use Rattle.gp_replay.specs.Feasible.{IsFeasible}
 use Rattle.gp_replay.specs.Step.{start_state}
@@ -82,16 +82,6 @@ steps_follow window ids earlier (group ∷ groups) is =
       steps_follow window ids group groups parts.1,
     )
 
--- events that differ by places differ by recursion
-all_from : {X : Type 0} (P : X → Type 0) (xs : List X) → ((j : ℕ) (d : X) → j < length xs → P (get_or xs j d)) → AllByRecursion P xs
-all_from P [] all = tt
-all_from P (x ∷ xs) all = (all 0 x (omega arith), all_from P xs (λ j d less. all (suc j) d (omega arith)))
-
-each_before : (ids : List EventId) → AllPairs (λ one other. one ≢ other) ids → EachBefore (λ one other. one ≢ other) ids
-each_before [] pairs = tt
-each_before (id ∷ ids) pairs =
-    (all_from (λ other. id ≢ other) ids (λ j d less. pairs 0 (suc j) d (omega arith) (omega arith)), each_before ids (λ i j d less below. pairs (suc i) (suc j) d (omega arith) (omega arith)))
-
 -- what a list contains stands behind what is before it
 parted : (xs : List EventId) (x : EventId) → Contains xs x → (front : List EventId) × (back : List EventId) × (xs ≡ front ++ x ∷ back)
 parted [] x (k, within, is) = absurd (omega arith)
@@ -123,7 +113,7 @@ row_place window ids front row back e feasible is has =
 -- a group that stands together stands in a row
 in_row : (window : WindowForm) (ids group : List EventId) → GroupsStandInRows → IsFeasible window ids → stands_together group ids ≡ true → StandsInRow group ids
 in_row window ids group rows feasible together =
-    (rows group ids (each_before ids (run_is_distinct window (start_state window) feasible.0 ids (length-replicate (length window.segments) 0) feasible.1))).0 together
+    (rows group ids (pairwise_from_pairs (λ one other. one ≢ other) ids (run_is_distinct window (start_state window) feasible.0 ids (length-replicate (length window.segments) 0) feasible.1))).0 together
 
 near_places : (p q low n : ℕ) → p < low + n → low ≤ q → (pos p -ℤ pos q) ≤ℤ pos (n - 1)
 near_places p q low n most least = omega (arith, ints, most, least)

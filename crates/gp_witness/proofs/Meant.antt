@@ -1,6 +1,6 @@
 -- Each clause of program order, starts and joins is true where the events meet the families.
 use Rattle.std.proofs.Common.{ℕ, zero, suc, ◌≡◌, ◌-◌, ◌<◌, ap, sym, ◌∙◌, refl, inl, inr, List, [], ◌∷◌, true, false, not, arith, eqb-true, length}
-use Rattle.std.specs.Prelude.{Some, ◌||◌, ◌&&◌, ◌==◌, if◌then◌else◌, find, slice_get}
+use Rattle.std.specs.Prelude.{Some, ◌||◌, ◌&&◌, ◌==◌, if◌then◌else◌, find, slice_get, Contains}
 use Rattle.std.proofs.lemmas.Bool.{and_parts, eq-eqb}
 use Rattle.gp_trace.specs.declared.event.Event.{Event}
 use Rattle.gp_trace.specs.declared.event.Event.TheVariants as event
@@ -13,7 +13,6 @@ use Rattle.gp_constraint.specs.declared.action.Action.{Action}
 use Rattle.gp_constraint.specs.declared.action.Action.TheVariants.{Join}
 use Rattle.gp_constraint.specs.declared.point.Point.{Point}
 use Rattle.gp_constraint.specs.declared.symbol.Symbol.TheVariants.{Executed}
-use Rattle.gp_base.specs.HasLaws.{Has}
 use Rattle.gp_constraint.specs.Joins.{ended, is_last_of, join_of, joined, joined_by}
 use Rattle.gp_constraint.specs.Points.{points_of}
 use Rattle.gp_constraint.specs.ProgramOrder.{linked}
@@ -27,7 +26,7 @@ use Rattle.gp_witness.proofs.Listed.{all_either, all_if, clause_true}
 use Rattle.gp_witness.proofs.Located.{before_link, by_number, IsFound, located, needs_true, neg_or, not_fails, not_zero, or_here, point_is, says, Setting}
 use Rattle.gp_witness.proofs.Actions.{start_is}
 
-pub linked_true : (window : WindowForm) (t : Truth) → Setting window t → (f : Point) → Has f (points_of window) → AreTrue (says window t) (linked f)
+pub linked_true : (window : WindowForm) (t : Truth) → Setting window t → (f : Point) → Contains (points_of window) f → AreTrue (says window t) (linked f)
 linked_true window t s f in_f =
     let at : ℕ → EventId = id_at (points_of window) in
     all_either (says window t) (f.id.index == 0) [] (simplified (executed f false ∷ literal (Executed (f.number - 1)) true ∷ [])) (λ none. tt) (λ later.
@@ -46,7 +45,7 @@ start_found window t s thread e f starts comes =
     (λ q in_q same. ap (does_start thread) (event_action window q (event.Start thread) (point_is window q in_q) (ap (λ x. event_at window x) same ∙ starts)) ∙ eq-eqb thread thread refl)
     (λ p found in_p passes. s.formed.once p.id e thread (point_starts window p thread (point_is window p in_p) (start_is thread p.action passes)) starts)
 
-pub start_true : (window : WindowForm) (t : Truth) → Setting window t → (f : Point) → Has f (points_of window)
+pub start_true : (window : WindowForm) (t : Truth) → Setting window t → (f : Point) → Contains (points_of window) f
     → AreTrue (says window t) (start_of window (points_of window) f)
 start_true window t s f in_f =
     all_if (says window t) (f.id.index == 0 && not (is_among window.started f.id.thread)) (needs f (find (is_start_of f.id.thread) (points_of window))) (λ late.
@@ -65,7 +64,7 @@ there_at [] n less = absurd (omega (arith, less))
 there_at (first ∷ events) zero less = (first, refl)
 there_at (first ∷ events) (suc n) less = there_at events n (omega (arith, less))
 
-pub join_true : (window : WindowForm) (t : Truth) → Setting window t → (j : Point) → Has j (points_of window)
+pub join_true : (window : WindowForm) (t : Truth) → Setting window t → (j : Point) → Contains (points_of window) j
     → AreTrue (says window t) (join_of window (points_of window) j)
 join_true window t s j in_j = kind j.action refl
   where

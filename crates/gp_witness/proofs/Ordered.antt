@@ -1,5 +1,5 @@
 -- Starts and joins.
-use Rattle.std.proofs.Common.{ℕ, ◌≡◌, ap, sym, ◌∙◌, subst, inl, inr, List, true, arith, eqb-true}
+use Rattle.std.proofs.Common.{ℕ, ◌≡◌, ap, sym, ◌∙◌, inl, inr, List, true, arith, eqb-true}
 use Rattle.std.specs.Prelude.{◌==◌, ◌&&◌, Option, Some}
 use Rattle.std.proofs.lemmas.Bool.{and_parts}
 use Rattle.gp_trace.specs.declared.event.Event.{Event}
@@ -7,8 +7,9 @@ use Rattle.gp_trace.specs.declared.event.Event.TheVariants.{Join}
 use Rattle.gp_window.specs.declared.schedule.EventId.{EventId}
 use Rattle.gp_window.specs.Events.{event_at, size_of}
 use Rattle.gp_window.specs.Starts.{is_among}
+use Rattle.gp_window.specs.IdLaws.{contains_means}
 use Rattle.gp_window.specs.WindowForm.{WindowForm}
-use Rattle.gp_instance.specs.Matches.{is_among as is_in}
+use Rattle.gp_window.specs.Ids.{contains_event as is_in}
 use Rattle.gp_replay.specs.Step.{count_of, start_state}
 use Rattle.gp_replay.specs.Feasible.{IsFeasible}
 use Rattle.gp_replay.specs.OrderLaws.{join_finds_ended, started_by_run}
@@ -16,7 +17,6 @@ use Rattle.gp_replay.specs.SizeLaws.{event_inside}
 use Rattle.gp_replay.specs.StepLaws.{stepped}
 use Rattle.gp_witness.specs.Meaning.{IsStartedFor, JoinsHold, StartsHold}
 use Rattle.gp_witness.specs.ScheduleTruth.{before_of, schedule_truth}
-use Rattle.gp_witness.proofs.Standing.{in_middle}
 use Rattle.gp_witness.proofs.Done.{Happened, from_count, happened}
 use Rattle.gp_witness.proofs.Placed.{precedes}
 
@@ -26,9 +26,7 @@ started_for : (window : WindowForm) (ids : List EventId) (f : EventId) (thread :
 started_for window ids f thread is_f h among =
     elim (started_by_run window (start_state window) h.state (before_of ids f) thread h.runs among) [
       | inl at_start ↦ inl at_start
-      | inr by ↦
-          let before : is_in (before_of ids f) by.1 ≡ true = subst (λ list. is_in list by.1 ≡ true) (sym by.3) (in_middle by.0 by.2 by.1) in
-          inr (by.1, by.4, precedes window ids by.1 f is_f before)
+      | inr by ↦ inr (by.0, by.2, precedes window ids by.0 f is_f ((contains_means (before_of ids f) by.0).1 by.1))
     ]
 
 pub starts_hold : (window : WindowForm) (ids : List EventId) → IsFeasible window ids → StartsHold window (schedule_truth window ids)

@@ -53,9 +53,6 @@ event_action window p e is there =
 pub gives_action : (window : WindowForm) (p : Point) (mode : LockMode) (lock : List ℕ) → IsPoint window p → GivesBack window mode p.id lock → p.action ≡ Lock (GiveBack mode lock)
 gives_action window p mode lock is gives = is.action ∙ event_lock is.event (GiveBack mode lock) (sym (ap use_of is.there) ∙ gives)
 
-pub takes_action : (window : WindowForm) (p : Point) (mode : LockMode) (lock : List ℕ) → IsPoint window p → Takes window mode p.id lock → p.action ≡ Lock (Take mode lock)
-takes_action window p mode lock is takes = is.action ∙ event_lock is.event (Take mode lock) (sym (ap use_of is.there) ∙ takes)
-
 -- who gives a lock back is an event of the window
 pub gives_event : (window : WindowForm) (mode : LockMode) (id : EventId) (lock : List ℕ) → GivesBack window mode id lock → IsEventOf window id
 gives_event window mode id lock gives = let found = use_event (event_at window id) (GiveBack mode lock) gives in (found.0, found.1)

@@ -1,20 +1,21 @@
 -- What a true query says of the events, and that then the instance stands in the schedule.
 use Rattle.std.proofs.Common.{ℕ, ◌≡◌, ◌⊎◌, ap, sym, ◌∙◌, refl, subst, inl, inr, List, [], ◌∷◌, true, false, arith, length, take, drop}
-use Rattle.std.specs.Prelude.{◌≢◌, ◌-◌, ◌<ℤ◌, ◌==◌, nat_lt, flat_map}
+use Rattle.std.specs.Prelude.{◌≢◌, ◌-◌, ◌<ℤ◌, ◌==◌, nat_lt, flat_map, Contains}
 use Rattle.std.specs.List.{AllByRecursion}
 use Rattle.std.proofs.lemmas.Bool.{cases_Bool, cases_eq, cases_order, ne_eqb}
 use Rattle.std.proofs.lemmas.Int.{ints}
+use Rattle.std.proofs.lemmas.List.Elements.{Contains-append_left, Contains-append_right}
 use Rattle.gp_property.specs.declared.property.PatternStep.{PatternStep}
 use Rattle.gp_property.specs.Checks.{are_defined}
 use Rattle.gp_property.specs.PropertyForm.{PropertyForm}
-use Rattle.gp_instance.specs.Instance.{is_same}
 use Rattle.gp_instance.specs.Matches.{groups_of}
 use Rattle.gp_window.specs.declared.schedule.EventId.{EventId}
 use Rattle.gp_window.specs.WindowForm.{WindowForm}
+use Rattle.gp_window.specs.Ids.{is_same}
 use Rattle.gp_constraint.specs.declared.symbol.Symbol.{Symbol}
 use Rattle.gp_constraint.specs.declared.symbol.Symbol.TheVariants.{Order, Span}
 use Rattle.gp_constraint.specs.declared.symbol.SymbolicLit.{SymbolicLit}
-use Rattle.gp_base.specs.HasLaws.{AreDifferent, contains_has, different_dropped, different_taken, Has, has_contains, has_dropped, has_flat, has_left, has_right, has_taken, has_unless}
+use Rattle.gp_base.specs.ListLaws.{AreDifferent, contains_flat_map, contains_from_drop, contains_from_take, contains_unless, different_dropped, different_taken, nothing_in}
 use Rattle.gp_constraint.specs.InstanceLaws.{InstanceMeans, RiseAlong}
 use Rattle.gp_constraint.specs.Laws.{QueryMeans}
 use Rattle.gp_constraint.specs.PointLaws.{IsEventOf, point_for}
@@ -32,13 +33,13 @@ use Rattle.gp_witness.proofs.Together.{same_is}
 
 -- these literals are true, and these symbols keep what they say
 abbrev AreTrue : SymbolTruth → List SymbolicLit → Type 0
-AreTrue t lits = (lit : SymbolicLit) → Has lit lits → IsTrueLit t lit
+AreTrue t lits = (lit : SymbolicLit) → Contains lits lit → IsTrueLit t lit
 
 abbrev AreBound : SymbolTruth → List Symbol → Type 0
-AreBound t symbols = (symbol : Symbol) → Has symbol symbols → Bound t symbol (t.symbols symbol)
+AreBound t symbols = (symbol : Symbol) → Contains symbols symbol → Bound t symbol (t.symbols symbol)
 
 abbrev AreEvents : WindowForm → List EventId → Type 0
-AreEvents window ids = (id : EventId) → Has id ids → IsEventOf window id
+AreEvents window ids = (id : EventId) → Contains ids id → IsEventOf window id
 
 -- a true order is one of places
 order_means : (window : WindowForm) (t : SymbolTruth) (one other : EventId) → IsTrueLit t (ordered window one other) → Before (truth_in window t) one other
@@ -86,19 +87,17 @@ follow_means window t before (step ∷ steps) ids rise first later all along =
     let here : List SymbolicLit = flat_map (λ one. flat_map (order_lit window one) group) before in
     let more : List SymbolicLit = orders_from window group (groups_of steps rest) in (
       (λ one other i j.
-          let is_one = contains_has one before i in
-          let is_other = contains_has other group j in
           elim (cases_eq one.thread other.thread) [
-            | inl same ↦ rise one other (first one is_one) (later other (has_taken other n ids is_other)) same (along.0 one other is_one is_other same)
+            | inl same ↦ rise one other (first one i) (later other (contains_from_take n ids other j)) same (along.0 one other i j same)
             | inr differ ↦
                 let lit : SymbolicLit = ordered window one other in
-                let own = has_unless (one.thread == other.thread) lit (ne_eqb one.thread other.thread differ) in
-                let inner = has_flat (order_lit window one) other lit group is_other own in
-                let outer = has_flat (λ e. flat_map (order_lit window e) group) one lit before is_one inner in
-                order_means window t one other (all lit (has_left lit here more outer))
+                let own = contains_unless (one.thread == other.thread) lit (ne_eqb one.thread other.thread differ) in
+                let inner = contains_flat_map (order_lit window one) group other lit j own in
+                let outer = contains_flat_map (λ e. flat_map (order_lit window e) group) before one lit i inner in
+                order_means window t one other (all lit (Contains-append_left here more lit outer))
           ]),
-      follow_means window t group steps rest rise (λ id i. later id (has_taken id n ids i)) (λ id i. later id (has_dropped id n ids i))
-          (λ lit i. all lit (has_right lit here more i)) along.1,
+      follow_means window t group steps rest rise (λ id i. later id (contains_from_take n ids id i)) (λ id i. later id (contains_from_drop n ids id i))
+          (λ lit i. all lit (Contains-append_right here more lit i)) along.1,
     )
 
 -- the events of a group are near each other
@@ -109,9 +108,9 @@ near_means window t group all one other i j =
       | inl same ↦ let places = ap (λ id. t.places (number_in window id)) (same_is one other same) in omega (arith, ints, places)
       | inr differ ↦
           let lit : SymbolicLit = holds (Span (number_in window one) (number_in window other) width) in
-          let own = has_unless (is_same one other) lit differ in
-          let inner = has_flat (span_lit window width one) other lit group (contains_has other group j) own in
-          let outer = has_flat (λ e. flat_map (span_lit window width e) group) one lit group (contains_has one group i) inner in
+          let own = contains_unless (is_same one other) lit differ in
+          let inner = contains_flat_map (span_lit window width one) group other lit j own in
+          let outer = contains_flat_map (λ e. flat_map (span_lit window width e) group) group one lit i inner in
           (all lit outer).1
     ]
 
@@ -119,8 +118,8 @@ all_near : (window : WindowForm) (t : SymbolTruth) (groups : List (List EventId)
     → AllByRecursion (IsNear (truth_in window t)) groups
 all_near window t [] all = tt
 all_near window t (group ∷ groups) all = (
-  near_means window t group (λ lit i. all lit (has_left lit (spans_in window group) (flat_map (spans_in window) groups) i)),
-  all_near window t groups (λ lit i. all lit (has_right lit (spans_in window group) (flat_map (spans_in window) groups) i)),
+  near_means window t group (λ lit i. all lit (Contains-append_left (spans_in window group) (flat_map (spans_in window) groups) lit i)),
+  all_near window t groups (λ lit i. all lit (Contains-append_right (spans_in window group) (flat_map (spans_in window) groups) lit i)),
 )
 
 -- each event of a group stands before or after each other event
@@ -130,20 +129,19 @@ decided_means window t [] rise events all large one other i is differ = absurd (
 decided_means window t (single ∷ []) rise events all large one other i is differ = absurd (omega (arith, large))
 decided_means window t (first ∷ second ∷ rest) rise events all large one other i is differ =
     let group : List EventId = first ∷ second ∷ rest in
-    let has = contains_has one group i in
     elim (cases_eq one.thread other.thread) [
       | inl same ↦ elim (cases_order one.index other.index) [
         | inl alike ↦ absurd (differ (same_id one other same alike))
-        | inr (inl less) ↦ inl (rise one other (events one has) is same less)
-        | inr (inr more) ↦ inr (rise other one is (events one has) (sym same) more)
+        | inr (inl less) ↦ inl (rise one other (events one i) is same less)
+        | inr (inr more) ↦ inr (rise other one is (events one i) (sym same) more)
       ]
       | inr threads ↦
           let p = point_for window other is in
           let apart : one.thread ≢ p.0.id.thread = λ e. threads (e ∙ ap (λ (x : EventId). x.thread) p.3) in
           let symbol : Symbol = (ordered window one p.0.id).symbol in
-          let own = has_unless (one.thread == p.0.id.thread) symbol (ne_eqb one.thread p.0.id.thread apart) in
-          let inner = has_flat (side window one) p.0 symbol (points_of window) p.1 own in
-          let outer = has_flat (λ e. flat_map (side window e) (points_of window)) one symbol group has inner in
+          let own = contains_unless (one.thread == p.0.id.thread) symbol (ne_eqb one.thread p.0.id.thread apart) in
+          let inner = contains_flat_map (side window one) (points_of window) p.0 symbol p.1 own in
+          let outer = contains_flat_map (λ e. flat_map (side window e) (points_of window)) group one symbol i inner in
           let told = side_decides window t one p.0.id (all symbol outer) in
           subst (λ id. Before (truth_in window t) one id ⊎ Before (truth_in window t) id one) p.3 told
     ]
@@ -155,8 +153,8 @@ all_decided window t (step ∷ steps) ids rise events all =
     let n : ℕ = length step.atoms in
     let here : List Symbol = sides_of window (take n ids) in
     let more : List Symbol = flat_map (sides_of window) (groups_of steps (drop n ids)) in (
-      decided_means window t (take n ids) rise (λ id i. events id (has_taken id n ids i)) (λ symbol i. all symbol (has_left symbol here more i)),
-      all_decided window t steps (drop n ids) rise (λ id i. events id (has_dropped id n ids i)) (λ symbol i. all symbol (has_right symbol here more i)),
+      decided_means window t (take n ids) rise (λ id i. events id (contains_from_take n ids id i)) (λ symbol i. all symbol (Contains-append_left here more symbol i)),
+      all_decided window t steps (drop n ids) rise (λ id i. events id (contains_from_drop n ids id i)) (λ symbol i. all symbol (Contains-append_right here more symbol i)),
     )
 
 -- a true query makes its meaning true
@@ -169,46 +167,46 @@ query_told window property ids t rise told known q =
     let spans : List SymbolicLit = flat_map (spans_in window) groups in
     let sides : List Symbol = flat_map (sides_of window) groups in
     record {
-      executed = λ id i. let has = contains_has id ids i in does_from window t id (told.there id has) (q.executed id has);
-      follow = follow_means window t [] property.pattern ids rise (λ id i. absurd i) told.there (λ lit i. q.pattern lit (has_left lit orders spans i)) (told.rises known);
-      near = all_near window t groups (λ lit i. q.pattern lit (has_right lit orders spans i));
-      decided = all_decided window t property.pattern ids rise told.there (λ symbol i. q.mentioned symbol (has_right symbol _ sides i));
+      executed = λ id has. does_from window t id (told.there id has) (q.executed id has);
+      follow = follow_means window t [] property.pattern ids rise (λ id i. absurd (nothing_in _ i)) told.there (λ lit i. q.pattern lit (Contains-append_left orders spans lit i)) (told.rises known);
+      near = all_near window t groups (λ lit i. q.pattern lit (Contains-append_right orders spans lit i));
+      decided = all_decided window t property.pattern ids rise told.there (λ symbol i. q.mentioned symbol (Contains-append_right _ sides symbol i));
     }
 
 -- what a query means makes an instance stand in the schedule
 steps_stand : (t : Truth) (before : List EventId) (groups : List (List EventId)) → StepsFollow t before groups → StepsStand t before groups
 steps_stand t before [] h = tt
 steps_stand t before (group ∷ groups) h =
-    ((λ one other i j. h.0 one other (has_contains one before i) (has_contains other group j)), steps_stand t group groups h.1)
+    (h.0, steps_stand t group groups h.1)
 
-group_stands : (window : WindowForm) (t : Truth) (group : List EventId) → ((id : EventId) → Does t id → IsEventOf window id) → ((id : EventId) → Has id group → Does t id)
+group_stands : (window : WindowForm) (t : Truth) (group : List EventId) → ((id : EventId) → Does t id → IsEventOf window id) → ((id : EventId) → Contains group id → Does t id)
     → AreDifferent group → IsNear t group → IsDecided window t group → IsStep t group
 group_stands window t [] there does different near decided =
-    inr (record { does = does; different = tt; near = λ one other i j. absurd i; ordered = λ id other i happens apart. absurd i })
+    inr (record { does = does; different = tt; near = λ one other i j. absurd (nothing_in _ i); ordered = λ id other i happens apart. absurd (nothing_in _ i) })
 group_stands window t (single ∷ []) there does different near decided = inl (single, refl)
 group_stands window t (first ∷ second ∷ rest) there does different near decided =
     let group : List EventId = first ∷ second ∷ rest in
     inr (record {
       does = does;
       different = different;
-      near = λ one other i j. near one other (has_contains one group i) (has_contains other group j);
-      ordered = λ id other i happens apart. decided (omega arith) id other (has_contains id group i) (there other happens) apart;
+      near = near;
+      ordered = λ id other i happens apart. decided (omega arith) id other i (there other happens) apart;
     })
 
 groups_stand : (window : WindowForm) (t : Truth) (pattern : List PatternStep) (ids : List EventId) → ((id : EventId) → Does t id → IsEventOf window id)
-    → ((id : EventId) → Has id ids → Does t id) → AreDifferent ids → AllByRecursion (IsNear t) (groups_of pattern ids)
+    → ((id : EventId) → Contains ids id → Does t id) → AreDifferent ids → AllByRecursion (IsNear t) (groups_of pattern ids)
     → AllByRecursion (IsDecided window t) (groups_of pattern ids) → AllByRecursion (IsStep t) (groups_of pattern ids)
 groups_stand window t [] ids there does different near decided = tt
 groups_stand window t (step ∷ steps) ids there does different near decided =
     let n : ℕ = length step.atoms in (
-      group_stands window t (take n ids) there (λ id i. does id (has_taken id n ids i)) (different_taken n ids different) near.0 decided.0,
-      groups_stand window t steps (drop n ids) there (λ id i. does id (has_dropped id n ids i)) (different_dropped n ids different) near.1 decided.1,
+      group_stands window t (take n ids) there (λ id i. does id (contains_from_take n ids id i)) (different_taken n ids different) near.0 decided.0,
+      groups_stand window t steps (drop n ids) there (λ id i. does id (contains_from_drop n ids id i)) (different_dropped n ids different) near.1 decided.1,
     )
 
 pub query_stands : (window : WindowForm) (t : Truth) (property : PropertyForm) (ids : List EventId) → ((id : EventId) → Does t id → IsEventOf window id)
     → AreDifferent ids → MeetsQuery window t property ids → InstanceStands t property ids
 query_stands window t property ids there different q =
-    let does : (id : EventId) → Has id ids → Does t id = λ id i. q.executed id (has_contains id ids i) in
+    let does : (id : EventId) → Contains ids id → Does t id = λ id i. q.executed id i in
     record {
       does = does;
       follow = steps_stand t [] (groups_of property.pattern ids) q.follow;

@@ -1,6 +1,6 @@
 -- Each clause of sections and of locks held at the start is true where the events meet the families.
 use Rattle.std.proofs.Common.{ℕ, zero, suc, ◌≡◌, ◌<◌, ◌≤◌, ap, sym, ◌∙◌, refl, subst, inl, inr, List, [], ◌∷◌, Bool, true, false, not, arith, eqb-true}
-use Rattle.std.specs.Prelude.{Some, ◌||◌, ◌&&◌, ◌==◌, find, nat_lt, nat_le}
+use Rattle.std.specs.Prelude.{Some, ◌||◌, ◌&&◌, ◌==◌, find, nat_lt, nat_le, Contains}
 use Rattle.std.specs.Str.{bytes_eq}
 use Rattle.std.proofs.lemmas.Bool.{and_parts, cases_eq, cases_lt, eq-eqb, le-leb, leb-true, ltb-true}
 use Rattle.std.proofs.lemmas.Slice.Eq.{bytes_eq-Decides}
@@ -14,7 +14,7 @@ use Rattle.gp_replay.specs.LockUses.{GivesBack}
 use Rattle.gp_constraint.specs.declared.action.Action.{Action}
 use Rattle.gp_constraint.specs.declared.action.Action.TheVariants.{Lock}
 use Rattle.gp_constraint.specs.declared.point.Point.{Point}
-use Rattle.gp_base.specs.HasLaws.{find_has, Has}
+use Rattle.gp_base.specs.ListLaws.{contains_found}
 use Rattle.gp_constraint.specs.HeldLocks.{held_apart}
 use Rattle.gp_constraint.specs.PointLaws.{point_for}
 use Rattle.gp_constraint.specs.Points.{number_at, points_of, sizes_of}
@@ -76,7 +76,7 @@ pub found_ends : (window : WindowForm) (mode : LockMode) (lock : List ℕ) (thre
     → EndsHold window mode lock thread from p.id
 found_ends window mode lock thread from p found =
     let test : Point → Bool = ends_hold mode lock thread from in
-    let is = find_has test (points_of window) p found in
+    let is = contains_found test (points_of window) p found in
     let parts = passed mode lock thread from p is.1 in
     record {
       own = parts.0;
@@ -85,7 +85,7 @@ found_ends window mode lock thread from p found =
       none = λ k low high gives.
           let other = point_for window (record { thread = thread; index = k }) (gives_event window mode (record { thread = thread; index = k }) lock gives) in
           let q : Point = other.0 in
-          let in_q : Has q (points_of window) = other.1 in
+          let in_q : Contains (points_of window) q = other.1 in
           let thread_is : q.id.thread ≡ thread = ap (λ (x : EventId). x.thread) other.3 in
           let index_is : q.id.index ≡ k = ap (λ (x : EventId). x.index) other.3 in
           let action : q.action ≡ Lock (GiveBack mode lock) =
@@ -116,7 +116,7 @@ end_found window t mode lock thread from f freed =
 
 -- locks that are held at the start
 pub held_true : (window : WindowForm) (t : Truth) → Setting window t → (hold : Holding) → mode_at_start window hold.0.1 hold.0.0 ≡ Some hold.1
-    → (c : Point) → Has c (points_of window) → AreTrue (says window t) (held_apart (points_of window) hold c)
+    → (c : Point) → Contains (points_of window) c → AreTrue (says window t) (held_apart (points_of window) hold c)
 held_true window t s hold holds c in_c =
     let lock : List ℕ = hold.0.0 in
     let thread : ℕ = hold.0.1 in
@@ -130,7 +130,7 @@ held_true window t s hold holds c in_c =
     (λ own. let tied : (c.id.thread == thread) ≡ true = eq-eqb c.id.thread thread own in let bad : true ≡ false = sym tied ∙ not_fails (c.id.thread == thread) parts.1 in cc) runs)))
 
 -- sections of one lock
-pub apart_true : (window : WindowForm) (t : Truth) → Setting window t → (a c : Point) → Has a (points_of window) → Has c (points_of window)
+pub apart_true : (window : WindowForm) (t : Truth) → Setting window t → (a c : Point) → Contains (points_of window) a → Contains (points_of window) c
     → AreTrue (says window t) (sections_apart (points_of window) a c)
 apart_true window t s a c in_a in_c = kinds a.action c.action refl refl
   where

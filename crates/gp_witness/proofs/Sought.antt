@@ -1,6 +1,6 @@
 -- Each clause of reads is true where the events meet the families, and all clauses together.
 use Rattle.std.proofs.Common.{ℕ, ℤ, ◌≡◌, ◌≢◌, ◌<◌, ap, sym, ◌∙◌, refl, inl, inr, List, [], ◌∷◌, ◌++◌, Bool, true, false, not, arith, eqb-true}
-use Rattle.std.specs.Prelude.{Some, ◌&&◌, ◌==◌, flat_map, nat_lt}
+use Rattle.std.specs.Prelude.{Some, ◌&&◌, ◌==◌, flat_map, nat_lt, Contains}
 use Rattle.std.specs.List.{list_any}
 use Rattle.std.specs.Ordering.{int_eq}
 use Rattle.std.specs.Str.{bytes_eq}
@@ -10,7 +10,7 @@ use Rattle.std.proofs.lemmas.Slice.Eq.{bytes_eq-Decides}
 use Rattle.gp_trace.specs.declared.event.Event.TheVariants as event
 use Rattle.gp_window.specs.declared.schedule.EventId.{EventId}
 use Rattle.gp_window.specs.Events.{event_at}
-use Rattle.gp_window.specs.WindowForm.{WindowForm}
+use Rattle.gp_window.specs.WindowForm.{start_value, WindowForm}
 use Rattle.gp_replay.specs.Value.{Reads, Writes}
 use Rattle.gp_constraint.specs.declared.action.Action.{Action}
 use Rattle.gp_constraint.specs.declared.action.Action.TheVariants.{Read, Write}
@@ -18,13 +18,12 @@ use Rattle.gp_constraint.specs.declared.point.Point.{Point}
 use Rattle.gp_constraint.specs.declared.symbol.Symbol.{Symbol}
 use Rattle.gp_constraint.specs.declared.symbol.SymbolicLit.{SymbolicLit}
 use Rattle.gp_constraint.specs.Base.{clauses_of}
-use Rattle.gp_base.specs.HasLaws.{Has}
 use Rattle.gp_constraint.specs.HeldLocks.{held_apart, holds_at_start}
 use Rattle.gp_constraint.specs.Joins.{join_of}
 use Rattle.gp_constraint.specs.PointLaws.{point_for}
 use Rattle.gp_constraint.specs.Points.{points_of}
 use Rattle.gp_constraint.specs.ProgramOrder.{linked}
-use Rattle.gp_constraint.specs.Reads.{choice, choices_of, finds_at_start, is_choice, is_read, is_rival, kept_apart, kept_later, seen_from, sees, start_choice, start_value}
+use Rattle.gp_constraint.specs.Reads.{choice, choices_of, finds_at_start, is_choice, is_read, is_rival, kept_apart, kept_later, seen_from, sees, start_choice}
 use Rattle.gp_constraint.specs.Sections.{sections_apart}
 use Rattle.gp_constraint.specs.Starts.{start_of}
 use Rattle.gp_constraint.specs.Terms.{before, chosen, executed, preceded, simplified, start_chosen}
@@ -103,7 +102,7 @@ choice_early r w test apart own =
       | inr differ ↦ omega (arith, most, differ)
     ]
 
-choices_true : (window : WindowForm) (t : Truth) → Setting window t → (r : Point) → Has r (points_of window) → AreTrue (says window t) (choices_of window (points_of window) r)
+choices_true : (window : WindowForm) (t : Truth) → Setting window t → (r : Point) → Contains (points_of window) r → AreTrue (says window t) (choices_of window (points_of window) r)
 choices_true window t s r in_r =
     let points : List Point = points_of window in
     let truth : Symbol → Bool = says window t in
@@ -119,7 +118,7 @@ choices_true window t s r in_r =
       | inl by ↦
           let q = point_for window by.0 (event.Write name value, by.1.0) in
           let p : Point = q.0 in
-          let in_p : Has p points = q.1 in
+          let in_p : Contains points p = q.1 in
           let same : p.id ≡ by.0 = q.3 in
           let writes : p.action ≡ Write name value = event_action window p (event.Write name value) (point_is window p in_p) (ap (λ x. event_at window x) same ∙ by.1.0) in
           let test : is_choice r p ≡ true = choice_to r p name value read.2 writes (λ own.
@@ -138,7 +137,7 @@ choices_true window t s r in_r =
           any_right (term_true truth) (flat_map (choice r) points) (start_choice window r) here
     ])))
 
-seen_true : (window : WindowForm) (t : Truth) → Setting window t → (r w : Point) → Has r (points_of window) → Has w (points_of window)
+seen_true : (window : WindowForm) (t : Truth) → Setting window t → (r w : Point) → Contains (points_of window) r → Contains (points_of window) w
     → AreTrue (says window t) (seen_from (points_of window) r w)
 seen_true window t s r w in_r in_w =
     let points : List Point = points_of window in
@@ -174,7 +173,7 @@ seen_true window t s r w in_r in_w =
       | inr late ↦ or_rest (term_true truth (before other w)) (list_any (term_true truth) (before r other ∷ [])) (or_here (term_true truth (before r other)) false (before_true window t s r other in_r in_other late))
     ])))))))
 
-start_apart_true : (window : WindowForm) (t : Truth) → Setting window t → (r other : Point) → Has r (points_of window) → Has other (points_of window)
+start_apart_true : (window : WindowForm) (t : Truth) → Setting window t → (r other : Point) → Contains (points_of window) r → Contains (points_of window) other
     → AreTrue (says window t) (kept_later window r other)
 start_apart_true window t s r other in_r in_other =
     let truth : Symbol → Bool = says window t in
@@ -195,7 +194,7 @@ start_apart_true window t s r other in_r in_other =
 
 -- a piece for each two points
 pairs_true : (truth : Symbol → Bool) (points : List Point) (f : Point → Point → List (List SymbolicLit))
-    → ((p q : Point) → Has p points → Has q points → AreTrue truth (f p q)) → AreTrue truth (flat_map (λ p. flat_map (f p) points) points)
+    → ((p q : Point) → Contains points p → Contains points q → AreTrue truth (f p q)) → AreTrue truth (flat_map (λ p. flat_map (f p) points) points)
 pairs_true truth points f holds = all_flat truth (λ p. flat_map (f p) points) points (λ p in_p. all_flat truth (f p) points (λ q in_q. holds p q in_p in_q))
 
 -- all clauses are true

@@ -1,34 +1,17 @@
--- When a step is made, and what it keeps.
-use Rattle.std.proofs.Common.{ℕ, zero, suc, ◌≡◌, ◌⊎◌, ap, sym, ◌∙◌, refl, subst, inl, inr, List, [], ◌∷◌, ◌++◌, true, append-nil, append_assoc}
-use Rattle.std.specs.Prelude.{Some, Option, Ok, ◌==◌}
-use Rattle.std.proofs.lemmas.Bool.{cases_Bool, eq-eqb}
-use Rattle.gp_trace.specs.declared.event.Event.{Event}
-use Rattle.gp_trace.specs.declared.event.Event.TheVariants.{Read, Write, Acquire, Release, RAcquire, RRelease, Start, Join, Op, Begin, End}
-use Rattle.gp_window.specs.Events.{event_at}
-use Rattle.gp_window.specs.Starts.{is_among}
+-- When a schedule is feasible: where each of its events may happen, once those before it have.
+use Rattle.std.proofs.Common.{◌≡◌, sym, ◌∙◌, refl, subst, List, [], ◌∷◌, ◌++◌, append-nil, append_assoc}
+use Rattle.std.specs.Prelude.{Ok}
 use Rattle.gp_window.specs.declared.schedule.EventId.{EventId}
 use Rattle.gp_window.specs.WindowForm.{WindowForm}
 use Rattle.gp_replay.specs.declared.state.State.{State}
-use Rattle.gp_replay.specs.Step.{after, allowed_in, count_of, counted, effect, next, start_state, started_after as started_with}
-use Rattle.gp_replay.specs.StepLaws.{stepped}
 use Rattle.gp_replay.specs.Feasible.{IsFeasible, Runs}
-use Rattle.gp_replay.specs.Order.{Starts}
-use Rattle.gp_base.specs.HasLaws.{Has}
-
--- an event in its turn, which is allowed, happens
-pub happens : (window : WindowForm) (state : State) (id : EventId) (event : Event)
-    → event_at window id ≡ Some event → count_of state id.thread ≡ id.index → is_among state.started id.thread ≡ true
-    → allowed_in window state event ≡ Ok tt
-    → next window state id ≡ Ok (after id.thread event state)
-happens window state id event there turn started allowed =
-    let due : (count_of state id.thread == id.index) ≡ true = eq-eqb (count_of state id.thread) id.index turn in
-    rw there (rw due (rw started (rw allowed refl)))
+use Rattle.gp_replay.specs.RunLaws.{runs_join}
+use Rattle.gp_replay.specs.Step.{next, start_state}
 
 -- one event more happens after others
 pub runs_more : (window : WindowForm) (before state middle : State) (ids : List EventId) (id : EventId)
     → Runs window before ids state → next window state id ≡ Ok middle → Runs window before (ids ++ id ∷ []) middle
-runs_more window before state middle [] id r e = (middle, subst (λ s. next window s id ≡ Ok middle) r e, refl)
-runs_more window before state middle (first ∷ ids) id r e = (r.0, r.1, runs_more window r.0 state middle ids id r.2 e)
+runs_more window before state middle ids id r e = runs_join window before state middle ids (id ∷ []) r (middle, e, refl)
 
 -- each event of a schedule may happen, once those before it have
 abbrev pub EachMayHappen : WindowForm → List EventId → Type 0
@@ -47,65 +30,3 @@ feasible_after window all done (id ∷ todo) state each is r =
 -- a schedule of which each event may happen after those before it is feasible
 pub feasible_by_steps : (window : WindowForm) (all : List EventId) → EachMayHappen window all → IsFeasible window all
 feasible_by_steps window all each = feasible_after window all [] all (start_state window) each refl refl
-
--- a thread that is among some is among them and one more
-among_more : (threads : List ℕ) (other thread : ℕ) → is_among threads thread ≡ true → is_among (threads ++ other ∷ []) thread ≡ true
-among_more [] other thread e = cc
-among_more (first ∷ threads) other thread e =
-    elim (cases_Bool (first == thread)) [
-      | inl same ↦ rw same refl
-      | inr differ ↦ rw differ (among_more threads other thread (rw differ at e))
-    ]
-
-among_last : (threads : List ℕ) (thread : ℕ) → is_among (threads ++ thread ∷ []) thread ≡ true
-among_last [] thread = let same : (thread == thread) ≡ true = eq-eqb thread thread refl in rw same refl
-among_last (first ∷ threads) thread =
-    elim (cases_Bool (first == thread)) [
-      | inl same ↦ rw same refl
-      | inr differ ↦ rw differ (among_last threads thread)
-    ]
-
-more_started : (event : Event) (started : List ℕ) (thread : ℕ) → is_among started thread ≡ true → is_among (started_with event started) thread ≡ true
-more_started (Start other) started thread e = among_more started other thread e
-more_started (Read name value) started thread e = e
-more_started (Write name value) started thread e = e
-more_started (Acquire lock) started thread e = e
-more_started (Release lock) started thread e = e
-more_started (RAcquire lock) started thread e = e
-more_started (RRelease lock) started thread e = e
-more_started (Join other) started thread e = e
-more_started (Op operation) started thread e = e
-more_started (Begin region) started thread e = e
-more_started (End region) started thread e = e
-
-counted_keeps_started : (thread : ℕ) (state : State) → (counted thread state).started ≡ state.started
-counted_keeps_started zero state = refl
-counted_keeps_started (suc place) state = refl
-
-step_is_started : (window : WindowForm) (state middle : State) (id : EventId) (thread : ℕ)
-    → next window state id ≡ Ok middle → (is_among state.started thread ≡ true) ⊎ Starts window id thread → is_among middle.started thread ≡ true
-step_is_started window state middle id thread e why =
-    let s = stepped window state middle id e in
-    let started : middle.started ≡ started_with s.event state.started =
-    ap (λ (m : State). m.started) s.gives ∙ counted_keeps_started id.thread (effect id.thread s.event state) in
-    elim why [
-      | inl already ↦ subst (λ threads. is_among threads thread ≡ true) (sym started) (more_started s.event state.started thread already)
-      | inr starts ↦
-          let is : s.event ≡ Start thread = (let found : ◌≡◌ {A = Option Event} (Some s.event) (Some (Start thread)) = sym s.there ∙ starts in cc) in
-          let now : middle.started ≡ state.started ++ thread ∷ [] = started ∙ ap (λ e. started_with e state.started) is in
-          subst (λ threads. is_among threads thread ≡ true) (sym now) (among_last state.started thread)
-    ]
-
--- a thread is started after events that happen where it was before them, or where one of them starts it
-pub started_after : (window : WindowForm) (before last : State) (ids : List EventId) (thread : ℕ) → Runs window before ids last
-    → (is_among before.started thread ≡ true) ⊎ ((id : EventId) × Has id ids × Starts window id thread) → is_among last.started thread ≡ true
-started_after window before last [] thread r (inl already) = subst (λ (s : State). is_among s.started thread ≡ true) (sym r) already
-started_after window before last [] thread r (inr by) = absurd by.1
-started_after window before last (first ∷ ids) thread r (inl already) =
-    started_after window r.0 last ids thread r.2 (inl (step_is_started window before r.0 first thread r.1 (inl already)))
-started_after window before last (first ∷ ids) thread r (inr by) =
-    elim by.1 [
-      | inl same ↦ started_after window r.0 last ids thread r.2
-          (inl (step_is_started window before r.0 first thread r.1 (inr (subst (λ e. Starts window e thread) (sym same) by.2))))
-      | inr later ↦ started_after window r.0 last ids thread r.2 (inr (by.0, later, by.2))
-    ]

@@ -1,6 +1,6 @@
 -- What true clauses say of the events: the families, each by its meaning.
 use Rattle.std.proofs.Common.{ℕ, zero, suc, ◌≡◌, ◌<◌, ◌≤◌, ap, sym, ◌∙◌, refl, subst, inl, inr, List, [], ◌∷◌, ◌++◌, Bool, true, false, arith, eqb-true, length}
-use Rattle.std.specs.Prelude.{ℤ, ◌<ℤ◌, ◌-◌, Some, Option, slice_get, if◌then◌else◌, ◌==◌, ◌&&◌, not, nat_lt, nat_le, flat_map, find}
+use Rattle.std.specs.Prelude.{ℤ, ◌<ℤ◌, ◌-◌, Some, Option, slice_get, if◌then◌else◌, ◌==◌, ◌&&◌, not, nat_lt, nat_le, flat_map, find, Contains}
 use Rattle.std.specs.Str.{bytes_eq}
 use Rattle.std.proofs.lemmas.Bool.{and_from, and_parts, cases_Bool, cases_eq, cases_order, eq-eqb, false≢true, false_from_ne_true, le-leb, leb-true, lt-ltb, ltb-true, ne_eqb}
 use Rattle.std.proofs.lemmas.Bool.Decides.{Decides-int_eq}
@@ -14,7 +14,7 @@ use Rattle.gp_window.specs.Events.{event_at, segment_of, size_of}
 use Rattle.gp_window.specs.Formed.{IsFormed}
 use Rattle.gp_window.specs.Holders.{Holding}
 use Rattle.gp_window.specs.Starts.{is_among}
-use Rattle.gp_window.specs.WindowForm.{WindowForm}
+use Rattle.gp_window.specs.WindowForm.{start_value, WindowForm}
 use Rattle.gp_window.specs.declared.schedule.EventId.{EventId}
 use Rattle.gp_replay.specs.LockUses.{use_of}
 use Rattle.gp_replay.specs.Value.{Reads}
@@ -25,13 +25,13 @@ use Rattle.gp_constraint.specs.declared.symbol.SymbolicLit.{SymbolicLit}
 use Rattle.gp_constraint.specs.declared.term.Term.{Term}
 use Rattle.gp_constraint.specs.Action.{action_of}
 use Rattle.gp_constraint.specs.Base.{clauses_of}
-use Rattle.gp_base.specs.HasLaws.{find_first, Has}
+use Rattle.gp_base.specs.ListLaws.{found_first, here, there}
 use Rattle.gp_constraint.specs.HeldLocks.{held_apart, held_locks, holds_at_start}
 use Rattle.gp_constraint.specs.Joins.{ended, is_last_of, join_of, joined, joins}
 use Rattle.gp_constraint.specs.PointLaws.{event_id, HasLesserNumber, IsEventOf, points_named, points_rise}
 use Rattle.gp_constraint.specs.Points.{number_at, number_in, points_of, sizes_of}
 use Rattle.gp_constraint.specs.ProgramOrder.{linked, program_order}
-use Rattle.gp_constraint.specs.Reads.{choice, choices, choices_of, finds_at_start, is_choice, is_rival, kept_apart, kept_later, reads, seen_from, sees, start_choice, start_choices, start_value}
+use Rattle.gp_constraint.specs.Reads.{choice, choices, choices_of, finds_at_start, is_choice, is_rival, kept_apart, kept_later, reads, seen_from, sees, start_choice, start_choices}
 use Rattle.gp_constraint.specs.Sections.{apart, ends_hold, exclude, gives_back, in_either_order, sections, sections_apart, takes_against}
 use Rattle.gp_constraint.specs.Starts.{is_start_of, start_of, starts}
 use Rattle.gp_constraint.specs.SymbolTruth.{HoldAll, KeepsEdges, SymbolTruth}
@@ -46,7 +46,7 @@ use Rattle.gp_witness.proofs.Holds.{mode_held_at}
 abbrev at : WindowForm → EventId → Event → Point
 at window id event = record { number = number_in window id; id = id; action = action_of event }
 
-has_point : (window : WindowForm) (id : EventId) (event : Event) → event_at window id ≡ Some event → Has (at window id event) (points_of window)
+has_point : (window : WindowForm) (id : EventId) (event : Event) → event_at window id ≡ Some event → Contains (points_of window) (at window id event)
 has_point window id event there = (points_named window).all id event there
 
 -- program order
@@ -201,12 +201,12 @@ joins_told window t edges order begins all id thread is does =
 
 -- reads
 chosen_in : (t : SymbolTruth) (r : Point) (points : List Point) → AnyTerm t (flat_map (choice r) points)
-    → (w : Point) × Has w points × (is_choice r w ≡ true) × (t.symbols (Choice r.number w.number) ≡ true)
+    → (w : Point) × Contains points w × (is_choice r w ≡ true) × (t.symbols (Choice r.number w.number) ≡ true)
 chosen_in t r [] h = absurd h
 chosen_in t r (w ∷ points) h =
     elim (split_terms t (choice r w) (flat_map (choice r) points) h) [
-      | inl here ↦ let c = one_term t (is_choice r w) (chosen r w true) here in (w, inl refl, c.0, c.1.0)
-      | inr there ↦ let rest = chosen_in t r points there in (rest.0, inr rest.1, rest.2, rest.3)
+      | inl first ↦ let c = one_term t (is_choice r w) (chosen r w true) first in (w, here _ _, c.0, c.1.0)
+      | inr later ↦ let rest = chosen_in t r points later in (rest.0, there _ _ _ rest.1, rest.2, rest.3)
     ]
 
 not_true : (b : Bool) → not b ≡ true → b ≡ false
@@ -214,7 +214,7 @@ not_true true e = cc
 not_true false e = refl
 
 -- a choice is a write of the value that is not after the read in its own thread
-choice_from : (window : WindowForm) (id : EventId) (variable : List ℕ) (value : ℤ) (w : Point) → Reads window id variable value → Has w (points_of window)
+choice_from : (window : WindowForm) (id : EventId) (variable : List ℕ) (value : ℤ) (w : Point) → Reads window id variable value → Contains (points_of window) w
     → is_choice (at window id (Read variable value)) w ≡ true → IsChoice window id variable value w.id
 choice_from window id variable value w is has passes =
     let parts = and_parts (sees (action.Read variable value) w.action) (not (w.id.thread == id.thread && nat_lt id.index w.id.index)) passes in
@@ -332,7 +332,7 @@ ends_test mode lock thread from p own inside gives =
     and_from (p.id.thread == thread) (nat_le from p.id.index && gives_back mode lock p.action) (eq-eqb p.id.thread thread own)
     (and_from (nat_le from p.id.index) (gives_back mode lock p.action) (le-leb from p.id.index inside) gives)
 
-ends_told : (window : WindowForm) (mode : LockMode) (lock : List ℕ) (thread from : ℕ) (b : Point) → Has b (points_of window)
+ends_told : (window : WindowForm) (mode : LockMode) (lock : List ℕ) (thread from : ℕ) (b : Point) → Contains (points_of window) b
     → find (ends_hold mode lock thread from) (points_of window) ≡ Some b → ends_hold mode lock thread from b ≡ true → EndsHold window mode lock thread from b.id
 ends_told window mode lock thread from b has found passes =
     let parts = and_parts (b.id.thread == thread) (nat_le from b.id.index && gives_back mode lock b.action) passes in
@@ -350,7 +350,7 @@ ends_told window mode lock thread from b has found passes =
           let q : Point = at window id event.0 in
           let does : gives_back mode lock q.action ≡ true = subst (λ a. gives_back mode lock a ≡ true) (sym (event_lock event.0 (GiveBack mode lock) event.2)) (does_give mode lock) in
           let test = ends_test mode lock thread from q refl low does in
-          elim (find_first HasLesserNumber (ends_hold mode lock thread from) (points_of window) b q (points_rise window) found (has_point window id event.0 event.1) test) [
+          elim (found_first HasLesserNumber (ends_hold mode lock thread from) (points_of window) b q (points_rise window) found (has_point window id event.0 event.1) test) [
             | inl same ↦ let index = ap (λ (p : Point). p.id.index) same in absurd (omega (arith, index, high))
             | inr less ↦
                 let number : number_in window b.id < number_in window id = subst (λ n. n < number_in window id) own.3 less in

@@ -1,20 +1,21 @@
 -- A schedule is a valuation.
-use Rattle.std.proofs.Common.{ℕ, zero, suc, ℤ, pos, negsuc, ◌≡◌, ◌+◌, ◌-◌, ◌<◌, ◌-ℤ◌, ◌≤ℤ◌, ◌<ℤ◌, ap, sym, ◌∙◌, refl, subst, inl, inr, List, [], ◌∷◌, ◌++◌, Bool, true, false, length, map, arith}
-use Rattle.std.specs.Prelude.{Option, Some, ◌==◌, flat_map, if◌then◌else◌, int_le, int_lt, slice_get}
+use Rattle.std.proofs.Common.{ℕ, zero, suc, ℤ, pos, negsuc, ◌≡◌, ◌+◌, ◌-◌, ◌<◌, ◌-ℤ◌, ◌≤ℤ◌, ◌<ℤ◌, ap, sym, ◌∙◌, refl, subst, List, [], ◌∷◌, ◌++◌, Bool, true, false, length, map, arith}
+use Rattle.std.specs.Prelude.{Option, Some, ◌==◌, flat_map, if◌then◌else◌, int_le, int_lt, slice_get, Contains}
 use Rattle.std.specs.List.{AllByRecursion}
 use Rattle.std.proofs.lemmas.Int.{ints}
+use Rattle.std.proofs.lemmas.List.Elements.{All-from_recursion}
 use Rattle.gp_clause.specs.declared.kind.Kind.{Kind}
 use Rattle.gp_clause.specs.Edge.{Keeps}
 use Rattle.gp_clause.specs.Kind.{FitsKind}
 use Rattle.gp_clause.specs.Valuation.{IsValuation}
-use Rattle.gp_instance.specs.Matches.{is_among as is_in}
 use Rattle.gp_window.specs.declared.schedule.EventId.{EventId}
 use Rattle.gp_window.specs.WindowForm.{WindowForm}
+use Rattle.gp_window.specs.Ids.{contains_event as is_in}
 use Rattle.gp_replay.specs.Feasible.{IsFeasible}
 use Rattle.gp_constraint.specs.declared.point.Point.{Point}
 use Rattle.gp_constraint.specs.declared.symbol.Symbol.{Symbol}
-use Rattle.gp_constraint.specs.declared.symbol.Symbol.TheVariants.{Executed, Order, Choice, StartChoice, First, Span}
-use Rattle.gp_base.specs.HasLaws.{Has, rec_all, rec_flat}
+use Rattle.gp_constraint.specs.declared.symbol.Symbol.TheVariants.{Executed, Order, Choice, StartChoice, First, Last, Signal, Span}
+use Rattle.gp_base.specs.ListLaws.{here, recursion_flat_map, there}
 use Rattle.gp_constraint.specs.PointLaws.{IsEventOf}
 use Rattle.gp_constraint.specs.Points.{number_in, points_of}
 use Rattle.gp_constraint.specs.ProgramOrder.{edge_to}
@@ -38,10 +39,10 @@ abbrev pub place_at : WindowForm → Truth → ℕ → ℤ
 place_at window t number = t.place (id_at (points_of window) number)
 
 -- the point at a place
-there_is : (points : List Point) (a : ℕ) → a < length points → (p : Point) × (slice_get points a ≡ Some p) × Has p points
+there_is : (points : List Point) (a : ℕ) → a < length points → (p : Point) × (slice_get points a ≡ Some p) × Contains points p
 there_is [] a less = absurd (omega (arith, less))
-there_is (p ∷ points) zero less = (p, refl, inl refl)
-there_is (p ∷ points) (suc a) less = let rest = there_is points a (omega (arith, less)) in (rest.0, rest.1, inr rest.2)
+there_is (p ∷ points) zero less = (p, refl, here _ _)
+there_is (p ∷ points) (suc a) less = let rest = there_is points a (omega (arith, less)) in (rest.0, rest.1, there _ _ _ rest.2)
 
 counted_at : (number : ℕ) (points : List Point) (k : ℕ) (p : Point) → Counted number points → slice_get points k ≡ Some p → p.number ≡ number + k
 counted_at number [] k p counted is = cc
@@ -56,7 +57,7 @@ counted_at number (q ∷ points) (suc k) p counted is = let rest = counted_at (s
 keeps_less : (a b : ℤ) → a <ℤ b → (a -ℤ b) ≤ℤ negsuc 0
 keeps_less a b less = omega (arith, ints, less)
 
-edge_kept : (window : WindowForm) (t : Truth) → PlacesRise window t → (f : Point) → Has f (points_of window) → (b : Bool) → (f.id.index == 0) ≡ b
+edge_kept : (window : WindowForm) (t : Truth) → PlacesRise window t → (f : Point) → Contains (points_of window) f → (b : Bool) → (f.id.index == 0) ≡ b
     → AllByRecursion (Keeps (place_at window t)) (if b then [] else record { a = f.number - 1; b = f.number; c = negsuc 0 } ∷ [])
 edge_kept window t rise f in_f true first = tt
 edge_kept window t rise f in_f false later =
@@ -70,7 +71,7 @@ edge_kept window t rise f in_f false later =
     )
 
 edges_kept : (window : WindowForm) (t : Truth) → PlacesRise window t → AllByRecursion (Keeps (place_at window t)) (flat_map edge_to (points_of window))
-edges_kept window t rise = rec_flat (Keeps (place_at window t)) edge_to (points_of window) (λ f in_f. edge_kept window t rise f in_f (f.id.index == 0) refl)
+edges_kept window t rise = recursion_flat_map (Keeps (place_at window t)) edge_to (points_of window) (λ f in_f. edge_kept window t rise f in_f (f.id.index == 0) refl)
 
 -- each variable says what its kind says
 lt_back : (a b : ℤ) → int_lt a b ≡ true → a <ℤ b
@@ -84,6 +85,8 @@ kind_fits window t (Executed e) = tt
 kind_fits window t (Choice r w) = tt
 kind_fits window t (StartChoice r) = tt
 kind_fits window t (First a c) = tt
+kind_fits window t (Last w) = tt
+kind_fits window t (Signal w g) = tt
 kind_fits window t (Order e f) = (lt_back (place_at window t e) (place_at window t f), int_lt_to (place_at window t e) (place_at window t f))
 kind_fits window t (Span a b c) =
     (le_back (place_at window t a -ℤ place_at window t b) (pos c), int_le_to (place_at window t a -ℤ place_at window t b) (pos c))
@@ -115,7 +118,7 @@ valued window ids names feasible =
           let number_b = counted_at 0 points b q.0 (from_counted 1 0 window.segments) q.1 in
           let numbers : p.0.number ≡ q.0.number = number_is window p.0 p.2 ∙ ap (λ e. number_in window e) one ∙ sym (number_is window q.0 q.2) in
           differ (let is : a ≡ b = omega (arith, number_a, number_b, numbers) in is);
-      keeps = rec_all (Keeps (place_at window t)) (flat_map edge_to points) (edges_kept window t (places_rise window ids feasible));
+      keeps = All-from_recursion (Keeps (place_at window t)) (flat_map edge_to points) (edges_kept window t (places_rise window ids feasible));
       fits = kinds_fit window t names;
     }
 

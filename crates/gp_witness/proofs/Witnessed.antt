@@ -15,7 +15,6 @@ use Rattle.gp_window.specs.declared.schedule.EventId.{EventId}
 use Rattle.gp_window.specs.WindowForm.{IsWindow, WindowForm}
 use Rattle.gp_replay.specs.Feasible.{IsFeasible}
 use Rattle.gp_replay.specs.Holder.{HoldersAcquired}
-use Rattle.gp_replay.specs.Part.{PartsArePrefixes}
 use Rattle.gp_replay.specs.RunLaws.{runs_prefix}
 use Rattle.gp_replay.specs.Sharing.{ReadersAcquired}
 use Rattle.gp_replay.specs.Start.{BeginsAsTold}
@@ -24,7 +23,7 @@ use Rattle.gp_replay.specs.Value.{ValuesAreLastWrites}
 use Rattle.gp_constraint.specs.declared.symbol.Symbol.{Symbol}
 use Rattle.gp_constraint.specs.declared.symbol.Symbol.TheVariants.{Executed}
 use Rattle.gp_constraint.specs.Base.{base_of, names_in}
-use Rattle.gp_base.specs.HasLaws.{contains_has, has_contains, Pairwise, pairs_from}
+use Rattle.gp_base.specs.ListLaws.{Pairwise, pairwise_from_pairs}
 use Rattle.gp_constraint.specs.InstanceLaws.{instance_means}
 use Rattle.gp_constraint.specs.Laws.{AnswersMean, BaseMeans}
 use Rattle.gp_constraint.specs.PointLaws.{event_below, IsEventOf}
@@ -46,7 +45,6 @@ use Rattle.gp_witness.proofs.Told.{clauses_told}
 pub record LowerLaws : Type 0 where
   pub formed : WindowsAreFormed
   pub begins : BeginsAsTold
-  pub parts : PartsArePrefixes
   pub written : ValuesAreLastWrites
   pub acquired : HoldersAcquired
   pub shared : ReadersAcquired
@@ -88,14 +86,14 @@ sorted_by_place window names valuation (id ∷ ids) sorted =
 schedule_from : (window : WindowForm) (names : List Symbol) (valuation : Valuation) (schedule : List EventId) → NamesPoints window names valuation
     → IsByPlace window valuation schedule → IsScheduleOf (answer window names valuation) schedule
 schedule_from window names valuation schedule points by = record {
-  sorted = sorted_by_place window names valuation schedule (pairs_from (ComesBefore window valuation) schedule by.sorted);
+  sorted = sorted_by_place window names valuation schedule (pairwise_from_pairs (ComesBefore window valuation) schedule by.sorted);
   only = λ id i.
-      let e = by.only id (has_contains id schedule i) in
+      let e = by.only id i in
       does_from window (read_by names valuation) id e.0 (points (number_in window id) (event_below window id e.0) ∙ e.1);
   all = λ id does.
       let d = does_parts window (read_by names valuation) id does in
       let there : IsEventOf window id = (d.0, d.1) in
-      contains_has id schedule (by.all id (there, sym (points (number_in window id) (event_below window id there)) ∙ d.2));
+      (by.all id (there, sym (points (number_in window id) (event_below window id there)) ∙ d.2));
 }
 
 -- all that is known of the answer
@@ -106,9 +104,6 @@ ground_from window names valuation laws is base =
     record {
       formed = formed;
       values = laws.begins.values window is;
-      holders = laws.begins.holders window is;
-      readers = laws.begins.readers window is;
-      parts = laws.parts;
       written = laws.written;
       acquired = laws.acquired;
       shared = laws.shared;

@@ -10,24 +10,21 @@ use Rattle.gp_trace.specs.declared.event.Event.{Event}
 use Rattle.gp_trace.specs.declared.event.Event.TheVariants.{Read, Write}
 use Rattle.gp_window.specs.declared.schedule.EventId.{EventId}
 use Rattle.gp_window.specs.Events.{event_at}
-use Rattle.gp_window.specs.WindowForm.{WindowForm}
-use Rattle.gp_instance.specs.Matches.{is_among as is_in}
+use Rattle.gp_window.specs.WindowForm.{start_value, WindowForm}
+use Rattle.gp_window.specs.Ids.{contains_event as is_in}
 use Rattle.gp_replay.specs.Step.{start_state, value_of}
 use Rattle.gp_replay.specs.Feasible.{IsFeasible, Runs}
 use Rattle.gp_replay.specs.Value.{NoneWrites, Reads, Writes}
 use Rattle.gp_replay.specs.ValueLaws.{read_in_run}
-use Rattle.gp_constraint.specs.Reads.{start_value}
 use Rattle.gp_witness.specs.Meaning.{ChoicesHold, ReadsHold, StartChoicesHold}
 use Rattle.gp_witness.specs.ScheduleTruth.{before_of, is_that, last_write, later_of, schedule_place, schedule_truth, sees_start, sees_write, writes_to}
 use Rattle.gp_witness.proofs.Standing.{before_apart, before_in, in_cases, in_middle, in_parts, same_is, same_itself}
 use Rattle.gp_witness.proofs.Done.{happened, stands_at}
 use Rattle.gp_witness.proofs.Placed.{less_back, less_pos, place_executed, precedes, rises, stands_before}
 
--- a window begins just as it tells
+-- a window begins with the values that it tells
 pub record IsTold (window : WindowForm) : Type 0 where
   pub values : (start_state window).values ≡ window.start_values
-  pub holders : (start_state window).holders ≡ window.holders
-  pub readers : (start_state window).readers ≡ window.readers
 
 -- the value with which a variable begins
 begins_with : (window : WindowForm) (variable : List ℕ) → IsTold window → value_of (start_state window) variable ≡ start_value window variable

@@ -10,12 +10,12 @@ use Rattle.gp_window.specs.WindowForm.{WindowForm}
 use Rattle.gp_witness.specs.Witness.{IsByPlace, up_to_last}
 
 -- an answer to the problem of a window, with nothing asked
-abbrev pub AnswersWindow : WindowForm → Valuation → Type 0
-AnswersWindow window valuation = Meets (base_of window) (record { locals = []; assumed = [] }) valuation
+abbrev pub SolvesWindow : WindowForm → Valuation → Type 0
+SolvesWindow window valuation = Meets (base_of window) (record { locals = []; assumed = [] }) valuation
 
 -- an answer to the query of an instance in a window
-abbrev pub AnswersInstance : WindowForm → PropertyForm → List EventId → Valuation → Type 0
-AnswersInstance window property ids valuation = Meets (base_of window) (query_of window property ids) valuation
+abbrev pub SolvesInstance : WindowForm → PropertyForm → List EventId → Valuation → Type 0
+SolvesInstance window property ids valuation = Meets (base_of window) (query_of window property ids) valuation
 
 -- the executed events of an answer in the order of their places, up to the last of these events
 abbrev pub IsWitness : WindowForm → Valuation → List EventId → List EventId → Type 0

@@ -4,22 +4,24 @@ use Rattle.gp_trace.specs.declared.lock_use.LockMode.{LockMode}
 use Rattle.gp_window.specs.declared.schedule.EventId.{EventId}
 use Rattle.gp_window.specs.Formed.{mode_at_start}
 use Rattle.gp_window.specs.Starts.{is_among}
-use Rattle.gp_window.specs.WindowForm.{WindowForm}
+use Rattle.gp_window.specs.WindowForm.{start_value, WindowForm}
 use Rattle.gp_replay.specs.LockUses.{GivesBack, Takes}
 use Rattle.gp_replay.specs.Order.{Joins, Starts}
 use Rattle.gp_replay.specs.Value.{Reads, Writes}
 use Rattle.gp_constraint.specs.PointLaws.{IsEventOf}
-use Rattle.gp_constraint.specs.Reads.{start_value}
 use Rattle.gp_constraint.specs.Sections.{exclude}
 
--- which events are executed, and the place of each; which write each read sees, and whether it sees the start value; and
--- of two sections of a lock, whether that which the first event begins comes first
+-- which events are executed, and the place of each; which write each read sees, and whether it sees the start value; of
+-- two sections of a lock, whether that which the first event begins comes first; and, of which no clause of a window speaks,
+-- whether a write is the last, and whether a wake takes the signal of an event
 pub record Truth : Type 0 where
   pub executed : EventId → Bool
   pub place : EventId → ℤ
   pub reads : EventId → EventId → Bool
   pub reads_start : EventId → Bool
   pub first : EventId → EventId → Bool
+  pub last : EventId → Bool
+  pub signals : EventId → EventId → Bool
 
 -- the event is executed, before the other
 abbrev pub Precedes : Truth → EventId → EventId → Type 0

@@ -1,20 +1,15 @@
 -- What a schedule says of the events of its window: which are executed, at which places, and what each read sees.
-use Rattle.std.specs.Prelude.{ℕ, pos, ◌+◌, Bool, true, false, not, ◌&&◌, List, [], ◌∷◌, Option, Some, None, is_some, if◌then◌else◌, length, nat_lt}
+use Rattle.std.specs.Prelude.{ℕ, pos, ◌+◌, Bool, true, false, not, ◌&&◌, List, [], ◌∷◌, Option, Some, None, is_some, length, nat_lt}
 use Rattle.std.specs.Str.{bytes_eq}
 use Rattle.gp_trace.specs.declared.event.Event.{Event}
 use Rattle.gp_trace.specs.declared.event.Event.TheVariants.{Read, Write}
 use Rattle.gp_window.specs.declared.schedule.EventId.{EventId}
 use Rattle.gp_window.specs.Events.{event_at}
 use Rattle.gp_window.specs.WindowForm.{WindowForm}
-use Rattle.gp_instance.specs.Instance.{is_same}
-use Rattle.gp_instance.specs.Matches.{is_among as is_in}
+use Rattle.gp_window.specs.Ids.{contains_event as is_in, is_same}
 use Rattle.gp_constraint.specs.Points.{number_in}
 use Rattle.gp_witness.specs.Meaning.{Truth}
-
--- what stands before the event; all, where it is not there
-abbrev pub before_of : List EventId → EventId → List EventId
-before_of [] e = []
-before_of (id ∷ ids) e = if is_same id e then [] else id ∷ before_of ids e
+pub use Rattle.gp_constraint.specs.StandingLaws.{before_of}
 
 -- what is added to the place of an event that is not executed
 abbrev pub late : WindowForm → Bool → EventId → ℕ
@@ -64,4 +59,6 @@ schedule_truth window ids = record {
   reads = λ r w. is_in ids r && sees_write window (before_of ids r) (event_at window r) w;
   reads_start = λ r. is_in ids r && sees_start window (before_of ids r) (event_at window r);
   first = λ a c. nat_lt (schedule_place window ids a) (schedule_place window ids c);
+  last = λ w. false;
+  signals = λ w g. false;
 }

@@ -1,9 +1,8 @@
 ghost use Rattle.std.specs.Prelude.{◌≡◌, true, IfOk};
-ghost use Rattle.gp_constraint.specs.Encoded.{encoded_of};
 ghost use Rattle.gp_instance.specs.Instance.{is_instance};
 ghost use Rattle.gp_instance.specs.Matches.{matches_events};
 ghost use Rattle.gp_replay.specs.Feasible.{IsFeasible};
-ghost use Rattle.gp_witness.specs.Answered.{AnswersInstance, AnswersWindow, IsWitness};
+ghost use Rattle.gp_witness.specs.Answered.{SolvesInstance, SolvesWindow, IsWitness};
 ghost use Rattle.gp_witness.specs.Witness.{IsByPlace};
 
 use crate::cutting::up_to_last;
@@ -13,50 +12,52 @@ use gp_clause::Valuation;
 use gp_constraint::Encoded;
 use gp_instance::Instance;
 use gp_property::Property;
-use gp_window::{Schedule, Window};
+use gp_window::Schedule;
 use std::alloc::{AllocError, Global};
 
 /// The executed events of an answer to the problem of a window, by place, then by thread, then by index: a feasible
 /// schedule.
 pub fn executed_of(
     alloc: Global,
-    window: &Window,
     encoded: &Encoded,
     valuation: &Valuation,
 ) -> Result<Schedule, AllocError>
-    requires encoded { encoded.now ≡ encoded_of window.now }
-    requires answer { AnswersWindow window.now valuation.now }
-    ensures order { IfOk result (λ schedule. IsByPlace window.now valuation.now schedule.events) }
-    ensures feasible { IfOk result (λ schedule. IsFeasible window.now schedule.events) }
+    requires { SolvesWindow encoded.now valuation.now }
+    ensures order { IfOk result (λ schedule. IsByPlace encoded.now valuation.now schedule.events) }
+    ensures feasible { IfOk result (λ schedule. IsFeasible encoded.now schedule.events) }
 {
     // the window's type says that it is one of a recording, which the law wants
-    let _ = window.number();
+    let _ = encoded.window().number();
     witnesses_are_sound();
-    executed_events(alloc, window, valuation)
+    by_place(alloc, encoded, valuation)
+}
+
+fn by_place(alloc: Global, encoded: &Encoded, valuation: &Valuation) -> Result<Schedule, AllocError>
+    ensures { IfOk result (λ schedule. IsByPlace encoded.now valuation.now schedule.events) }
+{
+    executed_events(alloc, encoded.window(), valuation)
 }
 
 /// The same of an answer to the query of an instance, up to the last event of the instance: a feasible schedule that
 /// matches the instance.
 pub fn schedule_of(
     alloc: Global,
-    window: &Window,
     encoded: &Encoded,
     property: &Property,
     instance: &Instance,
     valuation: &Valuation,
 ) -> Result<Schedule, AllocError>
-    requires encoded { encoded.now ≡ encoded_of window.now }
-    requires instance { is_instance window.now property.now instance.now.events ≡ true }
-    requires answer { AnswersInstance window.now property.now instance.now.events valuation.now }
-    ensures order { IfOk result (λ schedule. IsWitness window.now valuation.now instance.now.events schedule.events) }
-    ensures feasible { IfOk result (λ schedule. IsFeasible window.now schedule.events) }
+    requires instance { is_instance encoded.now property.now instance.now.events ≡ true }
+    requires answer { SolvesInstance encoded.now property.now instance.now.events valuation.now }
+    ensures order { IfOk result (λ schedule. IsWitness encoded.now valuation.now instance.now.events schedule.events) }
+    ensures feasible { IfOk result (λ schedule. IsFeasible encoded.now schedule.events) }
     ensures matches { IfOk result (λ schedule. matches_events property.now instance.now.events schedule.events ≡ true) }
 {
     // the types of both say what the law wants of them
-    let _ = window.number();
+    let _ = encoded.window().number();
     let _ = property.pattern();
     witnesses_are_sound();
-    let executed = executed_events(alloc, window, valuation)?;
+    let executed = by_place(alloc, encoded, valuation)?;
     let events = up_to_last(instance.events.as_slice(), executed.events);
     Ok(Schedule { events })
 }

@@ -1,9 +1,7 @@
 ghost use Rattle.gp_witness.specs.Witness.{WitnessesAreSound};
 
 use gp_constraint::answers_mean;
-use gp_replay::{
-    begins_as_told, holders_acquired, parts_are_prefixes, readers_acquired, values_are_last_writes,
-};
+use gp_replay::{begins_as_told, holders_acquired, readers_acquired, values_are_last_writes};
 use gp_window::windows_are_formed;
 
 /// The executed events of an answer to the problem of a window are a feasible schedule in the order of their places; and
@@ -13,7 +11,6 @@ pub fn witnesses_are_sound()
 {
     windows_are_formed();
     begins_as_told();
-    parts_are_prefixes();
     values_are_last_writes();
     holders_acquired();
     readers_acquired();

@@ -1,6 +1,5 @@
-use Rattle.std.proofs.Common.{◌≡◌, ◌+◌, ◌++◌, ◌≤◌, length, drop}
+use Rattle.std.proofs.Common.{◌≡◌, ◌+◌, ◌++◌, length, drop}
 use Rattle.std.specs.Prelude.{flat_map}
-use Rattle.gp_constraint.specs.declared.fault.TheConstants.{MOST_CLAUSES}
 use Rattle.gp_constraint.specs.HeldUses.{held_with}
 use Rattle.gp_constraint.proofs.held_locks.held_among.Given as goal
 
@@ -8,5 +7,4 @@ abbrev pub invariant-loop-c : goal.invariant-loop-c
 invariant-loop-c l = record {
   adds : l.clauses ++ flat_map (held_with l.end l.hold) (drop l.c-index l.uses) ≡ l.initial.clauses ++ flat_map (held_with l.end l.hold) l.uses;
   lengths : length l.clauses + length (flat_map (held_with l.end l.hold) (drop l.c-index l.uses)) ≡ length l.initial.clauses + length (flat_map (held_with l.end l.hold) l.uses);
-  room : length l.clauses ≤ MOST_CLAUSES;
 }

@@ -6,4 +6,4 @@ use Rattle.gp_constraint.specs.Query.{executed_lits}
 use Rattle.gp_constraint.proofs.instance_query.assume_executed.Given as goal
 
 abbrev pub invariant-loop-id : goal.invariant-loop-id
-invariant-loop-id l = l.assumed ++ map (numbered_lit (all_names l.names)) (executed_lits l.window (drop l.id-index l.ids)) ≡ l.initial.assumed ++ map (numbered_lit (all_names l.names)) (executed_lits l.window l.ids)
+invariant-loop-id l = l.assumed ++ map (numbered_lit (all_names l.names)) (executed_lits l.encoded (drop l.id-index l.ids)) ≡ l.initial.assumed ++ map (numbered_lit (all_names l.names)) (executed_lits l.encoded l.ids)

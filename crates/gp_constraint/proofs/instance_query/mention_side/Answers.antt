@@ -14,6 +14,6 @@ returns c =
     let id : EventId = c.args.id in
     let p : Point = c.args.p.now in
     let differ : (id.thread == p.id.thread) ≡ false = ne_eqb id.thread p.id.thread c.if-id-p.false in
-    let is : c.order_of.result ∷ [] ≡ side c.args.window.now id p =
-    side_is c.args.window.now id p c.args.number c.order_of.result c.requires.own c.requires.other differ c.order_of.ensures in
+    let is : c.order_of.result ∷ [] ≡ side c.args.encoded.now id p =
+    side_is c.args.encoded.now id p c.args.number c.order_of.result c.requires.own c.requires.other differ c.order_of.ensures in
     subst (λ (symbols : List Symbol). OnOk c.mention.result (AreMentioned c.args.names.now c.mention.new.self symbols)) is c.mention.ensures

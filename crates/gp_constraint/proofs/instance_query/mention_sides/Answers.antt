@@ -16,7 +16,7 @@ loop-step-preserved c =
     record {
       base = c.in_ok-mention_sides_of.ensures.base ∙ c.loop-step.invariant.base;
       all =
-          sides_more c.args.window.now (all_names c.loop-step.names) (all_names c.mention_sides_of.new.names) pattern i d rest c.cut.result.0.now c.cut.result.1.now
+          sides_more c.args.encoded.now (all_names c.loop-step.names) (all_names c.mention_sides_of.new.names) pattern i d rest c.cut.result.0.now c.cut.result.1.now
           c.loop-step-test.true group after c.in_ok-mention_sides_of.ensures.all
           ∙ c.loop-step.invariant.all;
     }

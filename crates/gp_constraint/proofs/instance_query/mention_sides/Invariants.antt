@@ -9,5 +9,5 @@ use Rattle.gp_constraint.proofs.instance_query.mention_sides.Given as goal
 abbrev pub invariant-loop-step : goal.invariant-loop-step
 invariant-loop-step l = record {
   base : l.names.base ≡ l.fn.names.base;
-  all : with_mentions (all_names l.names) (flat_map (sides_of l.window) (groups_of (drop l.step-index l.pattern) l.rest)) ≡ with_mentions (all_names l.fn.names) (flat_map (sides_of l.window) (groups_of l.pattern l.ids));
+  all : with_mentions (all_names l.names) (flat_map (sides_of l.encoded) (groups_of (drop l.step-index l.pattern) l.rest)) ≡ with_mentions (all_names l.fn.names) (flat_map (sides_of l.encoded) (groups_of l.pattern l.ids));
 }

@@ -9,5 +9,5 @@ use Rattle.gp_constraint.proofs.instance_query.mention_sides_of.Given as goal
 abbrev pub invariant-loop-id : goal.invariant-loop-id
 invariant-loop-id l = record {
   base : l.names.base ≡ l.fn.names.base;
-  all : with_mentions (all_names l.names) (flat_map (λ id. flat_map (side l.window id) (points_of l.window)) (drop l.id-index l.group)) ≡ with_mentions (all_names l.fn.names) (flat_map (λ id. flat_map (side l.window id) (points_of l.window)) l.group);
+  all : with_mentions (all_names l.names) (flat_map (λ id. flat_map (side l.encoded id) (points_of l.encoded)) (drop l.id-index l.group)) ≡ with_mentions (all_names l.fn.names) (flat_map (λ id. flat_map (side l.encoded id) (points_of l.encoded)) l.group);
 }

@@ -12,6 +12,6 @@ loop-step-preserved c =
     let rest : List EventId = c.loop-step.rest.now in
     let group : c.cut.result.0.now ≡ take (length (get_or pattern i d).atoms) rest = c.cut.ensures.group ∙ ap (λ (step : PatternStep). take (length step.atoms) rest) c.step-item.is in
     let after : c.cut.result.1.now ≡ drop (length (get_or pattern i d).atoms) rest = c.cut.ensures.rest ∙ ap (λ (step : PatternStep). drop (length step.atoms) rest) c.step-item.is in
-    orders_more c.args.window.now c.loop-step.lits c.push_orders_between.new.lits c.loop-step.before.now pattern i d rest c.cut.result.0.now c.cut.result.1.now
+    orders_more c.args.encoded.now c.loop-step.lits c.push_orders_between.new.lits c.loop-step.before.now pattern i d rest c.cut.result.0.now c.cut.result.1.now
     c.loop-step-test.true group after c.in_ok-push_orders_between.ensures
     ∙ c.loop-step.invariant

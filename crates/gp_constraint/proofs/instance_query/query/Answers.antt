@@ -8,7 +8,6 @@ use Rattle.gp_window.specs.WindowForm.{WindowForm}
 use Rattle.gp_constraint.specs.declared.symbol.Symbol.{Symbol}
 use Rattle.gp_constraint.specs.declared.symbol.SymbolicLit.{SymbolicLit}
 use Rattle.gp_constraint.specs.Base.{names_in}
-use Rattle.gp_constraint.specs.Encoded.{EncodedForm}
 use Rattle.gp_constraint.specs.Numbering.{numbered_lit}
 use Rattle.gp_constraint.specs.Query.{executed_lits, pattern_lits, query_of, sides_of}
 use Rattle.gp_constraint.specs.QueryNames.{all_names, AreMentioned, QueryNamesForm}
@@ -18,7 +17,7 @@ use Rattle.gp_constraint.proofs.instance_query.query.Goals as goal
 
 pub returns : goal.returns
 returns c =
-    let window : WindowForm = c.args.window.now in
+    let window : WindowForm = c.args.encoded.now in
     let property : PropertyForm = c.args.property.now in
     let ids : List EventId = c.as_slice-ids.result.now in
     let lits : List SymbolicLit = c.in_ok-lits.lits in
@@ -26,7 +25,7 @@ returns c =
     let middle : QueryNamesForm = c.mention_lits.new.names in
     let names : QueryNamesForm = c.mention_sides.new.names in
     let begin : start ≡ record { base = names_in window; own = [] } =
-    c.new-names.ensures ∙ ap (λ (ns : List Symbol). record { base = ns; own = [] }) (c.names.ensures ∙ ap (λ (e : EncodedForm). e.names) c.requires) in
+    c.new-names.ensures ∙ ap (λ (ns : List Symbol). record { base = ns; own = [] }) c.names.ensures in
     let these : lits ≡ pattern_lits window property ids = c.in_ok-lits.ensures in
     let one : AreMentioned start middle (map (λ (lit : SymbolicLit). lit.symbol) lits) =
     subst (λ (ls : List SymbolicLit). AreMentioned start middle (map (λ (lit : SymbolicLit). lit.symbol) ls)) c.as_slice.ensures c.in_ok-mention_lits.ensures in

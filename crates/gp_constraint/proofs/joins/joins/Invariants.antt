@@ -1,6 +1,5 @@
-use Rattle.std.proofs.Common.{◌≡◌, ◌+◌, ◌++◌, ◌≤◌, length, drop}
+use Rattle.std.proofs.Common.{◌≡◌, ◌+◌, ◌++◌, length, drop}
 use Rattle.std.specs.Prelude.{flat_map}
-use Rattle.gp_constraint.specs.declared.fault.TheConstants.{MOST_CLAUSES}
 use Rattle.gp_constraint.specs.Joins.{join_of}
 use Rattle.gp_constraint.proofs.joins.joins.Given as goal
 
@@ -8,5 +7,4 @@ abbrev pub invariant-loop-j : goal.invariant-loop-j
 invariant-loop-j l = record {
   adds : l.clauses ++ flat_map (join_of l.window l.points) (drop l.j-index l.j-items) ≡ l.initial.clauses ++ flat_map (join_of l.window l.points) l.j-items;
   lengths : length l.clauses + length (flat_map (join_of l.window l.points) (drop l.j-index l.j-items)) ≡ length l.initial.clauses + length (flat_map (join_of l.window l.points) l.j-items);
-  room : length l.clauses ≤ MOST_CLAUSES;
 }

@@ -1,6 +1,5 @@
-use Rattle.std.proofs.Common.{◌≡◌, ◌+◌, ◌++◌, ◌≤◌, length, drop}
+use Rattle.std.proofs.Common.{◌≡◌, ◌+◌, ◌++◌, length, drop}
 use Rattle.std.specs.Prelude.{flat_map}
-use Rattle.gp_constraint.specs.declared.fault.TheConstants.{MOST_CLAUSES}
 use Rattle.gp_constraint.specs.ProgramOrder.{linked}
 use Rattle.gp_constraint.proofs.program_order.program_order.Given as goal
 
@@ -8,5 +7,4 @@ abbrev pub invariant-loop-f : goal.invariant-loop-f
 invariant-loop-f l = record {
   adds : l.clauses ++ flat_map linked (drop l.f-index l.points) ≡ l.initial.clauses ++ flat_map linked l.points;
   lengths : length l.clauses + length (flat_map linked (drop l.f-index l.points)) ≡ length l.initial.clauses + length (flat_map linked l.points);
-  room : length l.clauses ≤ MOST_CLAUSES;
 }

@@ -9,8 +9,8 @@ use Rattle.gp_constraint.specs.Terms.{executed, simplified}
 use Rattle.gp_constraint.proofs.Tabled.{choices_tabled}
 use Rattle.gp_constraint.proofs.reads.choice_clause.Goals as goal
 
-pub returns-clause-adds : goal.returns-clause-adds
-returns-clause-adds c =
+pub returns : goal.returns
+returns c =
     let points : List Point = c.args.points.now in
     let window : WindowForm = c.args.window.now in
     let r : Point = c.args.r.now in
@@ -18,4 +18,4 @@ returns-clause-adds c =
     c.as_slice.ensures ∙ c.in_ok-terms.ensures
     ∙ ap (λ (writes : List Point). executed r false ∷ (flat_map (choice r) writes ++ start_choice window r)) c.writes_for.ensures
     ∙ ap (λ (choices : List Term). executed r false ∷ (choices ++ start_choice window r)) (choices_tabled points r) in
-    subst (λ (ts : List Term). Adds c.add.result c.args.clauses.now c.add.new.clauses (simplified ts)) terms c.add.ensures.adds
+    subst (λ (ts : List Term). Adds c.add.result c.args.clauses.now c.add.new.clauses (simplified ts)) terms c.add.ensures

@@ -1,6 +1,5 @@
-use Rattle.std.proofs.Common.{◌≡◌, ◌+◌, ◌++◌, ◌≤◌, length, drop}
+use Rattle.std.proofs.Common.{◌≡◌, ◌+◌, ◌++◌, length, drop}
 use Rattle.std.specs.Prelude.{flat_map}
-use Rattle.gp_constraint.specs.declared.fault.TheConstants.{MOST_CLAUSES}
 use Rattle.gp_constraint.specs.Reads.{kept_apart}
 use Rattle.gp_constraint.proofs.reads.keep_apart_all.Given as goal
 
@@ -8,5 +7,4 @@ abbrev pub invariant-loop-other : goal.invariant-loop-other
 invariant-loop-other l = record {
   adds : l.clauses ++ flat_map (kept_apart l.r l.w) (drop l.other-index l.rivals) ≡ l.initial.clauses ++ flat_map (kept_apart l.r l.w) l.rivals;
   lengths : length l.clauses + length (flat_map (kept_apart l.r l.w) (drop l.other-index l.rivals)) ≡ length l.initial.clauses + length (flat_map (kept_apart l.r l.w) l.rivals);
-  room : length l.clauses ≤ MOST_CLAUSES;
 }

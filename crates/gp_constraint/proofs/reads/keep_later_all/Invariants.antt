@@ -1,6 +1,5 @@
-use Rattle.std.proofs.Common.{◌≡◌, ◌+◌, ◌++◌, ◌≤◌, length, drop}
+use Rattle.std.proofs.Common.{◌≡◌, ◌+◌, ◌++◌, length, drop}
 use Rattle.std.specs.Prelude.{flat_map}
-use Rattle.gp_constraint.specs.declared.fault.TheConstants.{MOST_CLAUSES}
 use Rattle.gp_constraint.specs.Listed.{kept_from}
 use Rattle.gp_constraint.proofs.reads.keep_later_all.Given as goal
 
@@ -8,5 +7,4 @@ abbrev pub invariant-loop-other : goal.invariant-loop-other
 invariant-loop-other l = record {
   adds : l.clauses ++ flat_map (kept_from l.r) (drop l.other-index l.writes) ≡ l.initial.clauses ++ flat_map (kept_from l.r) l.writes;
   lengths : length l.clauses + length (flat_map (kept_from l.r) (drop l.other-index l.writes)) ≡ length l.initial.clauses + length (flat_map (kept_from l.r) l.writes);
-  room : length l.clauses ≤ MOST_CLAUSES;
 }

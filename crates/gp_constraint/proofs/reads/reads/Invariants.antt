@@ -1,6 +1,5 @@
-use Rattle.std.proofs.Common.{◌≡◌, ◌+◌, ◌++◌, ◌≤◌, length, drop}
+use Rattle.std.proofs.Common.{◌≡◌, ◌+◌, ◌++◌, length, drop}
 use Rattle.std.specs.Prelude.{flat_map}
-use Rattle.gp_constraint.specs.declared.fault.TheConstants.{MOST_CLAUSES}
 use Rattle.gp_constraint.specs.Reads.{choices_of}
 use Rattle.gp_constraint.proofs.reads.reads.Given as goal
 
@@ -8,5 +7,4 @@ abbrev pub invariant-loop-r : goal.invariant-loop-r
 invariant-loop-r l = record {
   adds : l.clauses ++ flat_map (choices_of l.window l.points) (drop l.r-index l.r-items) ≡ l.initial.clauses ++ flat_map (choices_of l.window l.points) l.r-items;
   lengths : length l.clauses + length (flat_map (choices_of l.window l.points) (drop l.r-index l.r-items)) ≡ length l.initial.clauses + length (flat_map (choices_of l.window l.points) l.r-items);
-  room : length l.clauses ≤ MOST_CLAUSES;
 }

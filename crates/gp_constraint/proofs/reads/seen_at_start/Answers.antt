@@ -10,17 +10,17 @@ use Rattle.gp_constraint.proofs.Lists.{append_none}
 use Rattle.gp_constraint.proofs.Tabled.{later_none, later_tabled}
 use Rattle.gp_constraint.proofs.reads.seen_at_start.Goals as goal
 
-pub returns-then-not-finds_at_start-clause-adds : goal.returns-then-not-finds_at_start-clause-adds
-returns-then-not-finds_at_start-clause-adds c =
+pub returns-then-not-finds_at_start : goal.returns-then-not-finds_at_start
+returns-then-not-finds_at_start c =
     let missed = sym c.finds_at_start.ensures ∙ c.if-not-finds_at_start.true in
     sym (ap (λ due. c.args.clauses.now ++ due) (later_none c.args.window.now c.args.points.now c.args.r.now missed) ∙ append_none c.args.clauses.now)
 
-pub returns-clause-adds : goal.returns-clause-adds
-returns-clause-adds c =
+pub returns : goal.returns
+returns c =
     let points : List Point = c.args.points.now in
     let window : WindowForm = c.args.window.now in
     let r : Point = c.args.r.now in
     let found = sym c.finds_at_start.ensures ∙ c.if-not-finds_at_start.false in
     let due : flat_map (kept_from r) c.writes_for.result.now ≡ flat_map (kept_later window r) points =
     ap (flat_map (kept_from r)) c.writes_for.ensures ∙ later_tabled window points r found in
-    subst (λ (d : List (List SymbolicLit)). Adds c.keep_later_all.result c.args.clauses.now c.keep_later_all.new.clauses d) due c.keep_later_all.ensures.adds
+    subst (λ (d : List (List SymbolicLit)). Adds c.keep_later_all.result c.args.clauses.now c.keep_later_all.new.clauses d) due c.keep_later_all.ensures

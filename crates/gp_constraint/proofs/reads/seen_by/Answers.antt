@@ -8,8 +8,8 @@ use Rattle.gp_constraint.specs.Reads.{seen_from}
 use Rattle.gp_constraint.proofs.Tabled.{seen_tabled}
 use Rattle.gp_constraint.proofs.reads.seen_by.Goals as goal
 
-pub returns-clause-adds : goal.returns-clause-adds
-returns-clause-adds c =
+pub returns : goal.returns
+returns c =
     let points : List Point = c.args.points.now in
     let r : Point = c.args.r.now in
     let writes : List Point = c.writes_for-writes.result.now in
@@ -18,4 +18,4 @@ returns-clause-adds c =
     ∙ ap (λ (choices : List Point). flat_map (seen (rivals_in writes r) r) choices) (c.as_slice.ensures ∙ c.in_ok-choices.ensures)
     ∙ ap (λ (ws : List Point). flat_map (seen (rivals_in ws r) r) (choices_in ws r)) c.writes_for-writes.ensures
     ∙ seen_tabled points r in
-    subst (λ (d : List (List SymbolicLit)). Adds c.seen_each.result c.args.clauses.now c.seen_each.new.clauses d) due c.seen_each.ensures.adds
+    subst (λ (d : List (List SymbolicLit)). Adds c.seen_each.result c.args.clauses.now c.seen_each.new.clauses d) due c.seen_each.ensures

@@ -1,6 +1,5 @@
-use Rattle.std.proofs.Common.{◌≡◌, ◌+◌, ◌++◌, ◌≤◌, length, drop}
+use Rattle.std.proofs.Common.{◌≡◌, ◌+◌, ◌++◌, length, drop}
 use Rattle.std.specs.Prelude.{flat_map}
-use Rattle.gp_constraint.specs.declared.fault.TheConstants.{MOST_CLAUSES}
 use Rattle.gp_constraint.specs.Listed.{seen}
 use Rattle.gp_constraint.proofs.reads.seen_each.Given as goal
 
@@ -8,5 +7,4 @@ abbrev pub invariant-loop-w : goal.invariant-loop-w
 invariant-loop-w l = record {
   adds : l.clauses ++ flat_map (seen l.rivals l.r) (drop l.w-index l.choices) ≡ l.initial.clauses ++ flat_map (seen l.rivals l.r) l.choices;
   lengths : length l.clauses + length (flat_map (seen l.rivals l.r) (drop l.w-index l.choices)) ≡ length l.initial.clauses + length (flat_map (seen l.rivals l.r) l.choices);
-  room : length l.clauses ≤ MOST_CLAUSES;
 }

@@ -9,10 +9,10 @@ use Rattle.gp_constraint.specs.SectionTables.{sections_between, sections_on}
 use Rattle.gp_constraint.proofs.Sectioned.{sections_tabled}
 use Rattle.gp_constraint.proofs.sections.sections.Goals as goal
 
-pub returns-clause-adds : goal.returns-clause-adds
-returns-clause-adds c =
+pub returns : goal.returns
+returns c =
     let points : List Point = c.args.points.now in
     let due : flat_map (λ a. flat_map (sections_between a) (sections_on a.lock c.as_slice-2.result.now)) c.as_slice-2.result.now ≡ sections points =
     ap (λ (all : List Section). flat_map (λ a. flat_map (sections_between a) (sections_on a.lock all)) all) (c.as_slice-2.ensures ∙ c.in_ok-all.ensures)
     ∙ sections_tabled points in
-    subst (λ (d : List (List SymbolicLit)). Adds c.sections_each.result c.args.clauses.now c.sections_each.new.clauses d) due c.sections_each.ensures.adds
+    subst (λ (d : List (List SymbolicLit)). Adds c.sections_each.result c.args.clauses.now c.sections_each.new.clauses d) due c.sections_each.ensures

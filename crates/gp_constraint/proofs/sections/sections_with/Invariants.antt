@@ -1,6 +1,5 @@
-use Rattle.std.proofs.Common.{◌≡◌, ◌+◌, ◌++◌, ◌≤◌, length, drop}
+use Rattle.std.proofs.Common.{◌≡◌, ◌+◌, ◌++◌, length, drop}
 use Rattle.std.specs.Prelude.{flat_map}
-use Rattle.gp_constraint.specs.declared.fault.TheConstants.{MOST_CLAUSES}
 use Rattle.gp_constraint.specs.SectionTables.{sections_between}
 use Rattle.gp_constraint.proofs.sections.sections_with.Given as goal
 
@@ -8,5 +7,4 @@ abbrev pub invariant-loop-c : goal.invariant-loop-c
 invariant-loop-c l = record {
   adds : l.clauses ++ flat_map (sections_between l.a) (drop l.c-index l.others) ≡ l.initial.clauses ++ flat_map (sections_between l.a) l.others;
   lengths : length l.clauses + length (flat_map (sections_between l.a) (drop l.c-index l.others)) ≡ length l.initial.clauses + length (flat_map (sections_between l.a) l.others);
-  room : length l.clauses ≤ MOST_CLAUSES;
 }

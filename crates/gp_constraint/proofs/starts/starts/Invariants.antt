@@ -1,6 +1,5 @@
-use Rattle.std.proofs.Common.{◌≡◌, ◌+◌, ◌++◌, ◌≤◌, length, drop}
+use Rattle.std.proofs.Common.{◌≡◌, ◌+◌, ◌++◌, length, drop}
 use Rattle.std.specs.Prelude.{flat_map}
-use Rattle.gp_constraint.specs.declared.fault.TheConstants.{MOST_CLAUSES}
 use Rattle.gp_constraint.specs.Starts.{start_of}
 use Rattle.gp_constraint.proofs.starts.starts.Given as goal
 
@@ -8,5 +7,4 @@ abbrev pub invariant-loop-f : goal.invariant-loop-f
 invariant-loop-f l = record {
   adds : l.clauses ++ flat_map (start_of l.window l.points) (drop l.f-index l.f-items) ≡ l.initial.clauses ++ flat_map (start_of l.window l.points) l.f-items;
   lengths : length l.clauses + length (flat_map (start_of l.window l.points) (drop l.f-index l.f-items)) ≡ length l.initial.clauses + length (flat_map (start_of l.window l.points) l.f-items);
-  room : length l.clauses ≤ MOST_CLAUSES;
 }

@@ -11,7 +11,7 @@ returns c =
     let numbered = c.truths_are_numbered.ensures in
     let rows = c.groups_stand_in_rows.ensures in
     let told : (window : WindowForm) → IsWindow window → IsTold window =
-    λ window is. record { values = begins.values window is; holders = begins.holders window is; readers = begins.readers window is } in
+    λ window is. record { values = begins.values window is } in
     record {
       base = λ window schedule is feasible. base_model window schedule numbered (formed window is) (told window is) feasible;
       instance = λ window property ids schedule is feasible matches. query_model window property ids schedule numbered rows (formed window is) (told window is) feasible matches;

@@ -2,11 +2,11 @@ use Rattle.std.proofs.Common.{◌≡◌, ◌∙◌, sym, subst, List, [], ℕ, g
 use Rattle.gp_clause.specs.Clause.{IsRising}
 use Rattle.gp_constraint.specs.declared.symbol.Symbol.{Symbol}
 use Rattle.gp_constraint.specs.declared.symbol.SymbolicLit.{SymbolicLit}
-use Rattle.gp_base.specs.HasLaws.{Pairwise}
+use Rattle.gp_base.specs.ListLaws.{Pairwise}
 use Rattle.gp_constraint.specs.Numbering.{lits_onto}
 use Rattle.gp_constraint.specs.Signed.{Agree}
 use Rattle.gp_constraint.proofs.Rising.{clause_rises, rising_from, signed_head}
-use Rattle.gp_constraint.proofs.numbering.number_clauses.Goals as goal
+use Rattle.gp_constraint.proofs.numbering.number_onto.Goals as goal
 
 pub of_rising-requires : goal.of_rising-requires
 of_rising-requires c =

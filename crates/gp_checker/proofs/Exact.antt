@@ -8,12 +8,12 @@ use Rattle.gp_clause.specs.declared.problem.Query.{Query}
 use Rattle.gp_constraint.specs.declared.fault.BaseFault.{BaseFault}
 use Rattle.gp_constraint.specs.declared.fault.BaseFault.TheVariants as fault
 use Rattle.gp_constraint.specs.Base.{base_of}
-use Rattle.gp_constraint.specs.Encoded.{EncodedForm, base_due}
+use Rattle.gp_constraint.specs.Encoded.{base_due}
 use Rattle.gp_constraint.specs.Query.{query_of}
-use Rattle.gp_derivation.specs.declared.certificate.Certificate.{Certificate}
-use Rattle.gp_derivation.specs.declared.step.Step.{Step}
-use Rattle.gp_derivation.specs.Certificate.{StepsCheck, clauses_of}
-use Rattle.gp_derivation.specs.Shared.{OwnStepsPass, PassesOver, SharedPasses}
+use Rattle.gp_certificate.specs.declared.certificate.Certificate.{Certificate}
+use Rattle.gp_certificate.specs.declared.step.Step.{Step}
+use Rattle.gp_certificate.specs.Certificate.{StepsCheck, clauses_of}
+use Rattle.gp_certificate.specs.Shared.{OwnStepsPass, PassesOver, SharedPasses}
 use Rattle.gp_instance.specs.declared.instance.Instance.{Instance}
 use Rattle.gp_instance.specs.declared.instance.InstancesFault.{InstancesFault}
 use Rattle.gp_instance.specs.declared.instance.InstancesFault.TheVariants as many
@@ -37,10 +37,11 @@ use Rattle.gp_report.specs.ReportForm.{ReportForm}
 use Rattle.gp_window.specs.declared.schedule.EventId.{EventId}
 use Rattle.gp_window.specs.RecordingForm.{RecordingForm}
 use Rattle.gp_window.specs.WindowForm.{WindowForm}
+use Rattle.gp_window.specs.Windows.{all_windows}
 use Rattle.gp_checker.specs.declared.failure.Failure.{Failure}
 use Rattle.gp_checker.specs.declared.failure.Reason.{Reason}
 use Rattle.gp_checker.specs.declared.failure.Reason.TheVariants.{WindowCount, WrongSize, WrongProperty, Stuck, Unmatched, BadStep, Unrefuted}
-use Rattle.gp_checker.specs.Accepted.{AcceptsAnswer, AcceptsBody, AcceptsEntry, AcceptsListed, AcceptsProperty, AcceptsWindow, RefutesAtLast, windows_of}
+use Rattle.gp_checker.specs.Accepted.{AcceptsAnswer, AcceptsBody, AcceptsEntry, AcceptsListed, AcceptsProperty, AcceptsWindow, RefutesAtLast}
 use Rattle.gp_checker.specs.Checked.{ChecksAreExact}
 use Rattle.gp_checker.specs.Laws.{Laws}
 use Rattle.gp_checker.specs.Reasons.{IsOfProperty, IsOfWindow}
@@ -206,7 +207,7 @@ module _ (laws : Laws) where
     properties = fails.1 ∙ sym fails'.1;
   }
 
-  body_apart : (window : WindowForm) (budget : ℕ) (properties : List PropertyForm) (shared : List Step) (failure : Failure) (due : Result EncodedForm BaseFault) (told_body : WindowBody)
+  body_apart : (window : WindowForm) (budget : ℕ) (properties : List PropertyForm) (shared : List Step) (failure : Failure) (due : Result WindowForm BaseFault) (told_body : WindowBody)
       → FailsBody window budget properties shared failure due told_body → AcceptsBody window budget properties shared due told_body → ⊥
   body_apart window budget properties shared failure (Ok encoded) (told.TooLarge events clauses) fails accepts = accepts
   body_apart window budget properties shared failure (Ok encoded) (told.Answers records) (inl fails) accepts = shared_apart (base_of window) shared failure fails accepts.0
@@ -216,7 +217,7 @@ module _ (laws : Laws) where
   body_apart window budget properties shared failure (Err (fault.TooLarge events clauses)) told_body fails accepts = fails.1 accepts
   body_apart window budget properties shared failure (Err fault.Memory) told_body fails accepts = fails
 
-  body_once : (window : WindowForm) (budget : ℕ) (properties : List PropertyForm) (shared : List Step) (one other : Failure) (due : Result EncodedForm BaseFault) (told_body : WindowBody)
+  body_once : (window : WindowForm) (budget : ℕ) (properties : List PropertyForm) (shared : List Step) (one other : Failure) (due : Result WindowForm BaseFault) (told_body : WindowBody)
       → FailsBody window budget properties shared one due told_body → FailsBody window budget properties shared other due told_body → SameProperty one other
   body_once window budget properties shared one other (Ok encoded) (told.TooLarge events clauses) fails fails' = of_window WrongSize one other fails fails'
   body_once window budget properties shared one other (Ok encoded) (told.Answers records) (inl fails) (inl fails') = shared_once (base_of window) shared one other fails fails'
@@ -250,7 +251,7 @@ module _ (laws : Laws) where
   rejected_once : (recording : RecordingForm) (properties : List PropertyForm) (report : ReportForm) (one other : Failure) → IsRejected recording properties report one → IsRejected recording properties report other → one ≡ other
   rejected_once recording properties report one other fails fails' =
       let both = first_both (AcceptsWindow properties report.budget) (FailsWindow properties report.budget one) (FailsWindow properties report.budget other) (IsOfWindow WindowCount one) (IsOfWindow WindowCount other) (SameProperty one other)
-      (window_apart properties report.budget one) (window_apart properties report.budget other) (windows_of recording) report.windows fails.0 fails'.0
+      (window_apart properties report.budget one) (window_apart properties report.budget other) (all_windows recording) report.windows fails.0 fails'.0
       (window_once properties report.budget one other) (of_window WindowCount one other) fails.2 fails'.2 in
       same_failure one other (fails.1 ∙ ap (λ (n : ℕ). n + 1) both.0 ∙ sym fails'.1) both.1
 
@@ -258,6 +259,6 @@ module _ (laws : Laws) where
   checks_exact = record {
     not_both = λ recording properties report failure accepted fails.
         here_not_all (AcceptsWindow properties report.budget) (FailsWindow properties report.budget failure) (IsOfWindow WindowCount failure) (window_apart properties report.budget failure)
-        (windows_of recording) report.windows fails.0 fails.2.here accepted;
+        (all_windows recording) report.windows fails.0 fails.2.here accepted;
     one = rejected_once;
   }

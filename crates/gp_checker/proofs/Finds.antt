@@ -5,10 +5,9 @@ use Rattle.std.specs.Option.{MatchOption}
 use Rattle.gp_clause.specs.declared.problem.Problem.{Problem}
 use Rattle.gp_clause.specs.declared.problem.Query.{Query}
 use Rattle.gp_constraint.specs.declared.fault.BaseFault.{BaseFault}
-use Rattle.gp_constraint.specs.Encoded.{EncodedForm}
-use Rattle.gp_derivation.specs.declared.certificate.Certificate.{Certificate}
-use Rattle.gp_derivation.specs.declared.step.Step.{Step}
-use Rattle.gp_derivation.specs.Shared.{PassesOver}
+use Rattle.gp_certificate.specs.declared.certificate.Certificate.{Certificate}
+use Rattle.gp_certificate.specs.declared.step.Step.{Step}
+use Rattle.gp_certificate.specs.Shared.{PassesOver}
 use Rattle.gp_instance.specs.declared.instance.Instance.{Instance}
 use Rattle.gp_instance.specs.declared.instance.InstancesFault.{InstancesFault}
 use Rattle.gp_instance.specs.declared.instance.InstancesFault.TheVariants.{TooMany}
@@ -52,7 +51,7 @@ too_many_told window budget shared property body.TooMany (Some failure) finds = 
 too_many_told window budget shared property (body.Entries entries) (Some failure) finds = finds.0
 
 -- what is found of what is told of a window with these constraints
-abbrev pub FindsBody : WindowForm → ℕ → List PropertyForm → List Step → WindowBody → Option Failure → Result EncodedForm BaseFault → Type 0
+abbrev pub FindsBody : WindowForm → ℕ → List PropertyForm → List Step → WindowBody → Option Failure → Result WindowForm BaseFault → Type 0
 FindsBody window budget properties shared told_body found due =
     MatchOption found (AcceptsBody window budget properties shared due told_body) (λ (failure : Failure). FailsBody window budget properties shared failure due told_body)
 

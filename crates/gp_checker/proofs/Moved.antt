@@ -3,8 +3,8 @@ use Rattle.std.proofs.Common.{ℕ, inl, inr, List, Option, None, Some, Result, O
 use Rattle.std.specs.List.{enumerate_from, slice_get}
 use Rattle.gp_constraint.specs.declared.fault.BaseFault.{BaseFault}
 use Rattle.gp_constraint.specs.declared.fault.BaseFault.TheVariants as fault
-use Rattle.gp_constraint.specs.Encoded.{EncodedForm, base_due}
-use Rattle.gp_derivation.specs.declared.step.Step.{Step}
+use Rattle.gp_constraint.specs.Encoded.{base_due}
+use Rattle.gp_certificate.specs.declared.step.Step.{Step}
 use Rattle.gp_instance.specs.declared.instance.Instance.{Instance}
 use Rattle.gp_instance.specs.declared.instance.InstancesFault.{InstancesFault}
 use Rattle.gp_instance.specs.Instances.{due_instances}
@@ -65,7 +65,7 @@ module _ (number : ℕ) (failure : Failure) where
   of_window_moved : (reason : Reason) → IsOfWindow reason failure → IsOfWindow reason (moved number failure.property failure)
   of_window_moved reason is = record { whole = of_property_moved number failure.property failure reason is.whole; no_property = is.no_property }
 
-  body_moved : (window : WindowForm) (budget : ℕ) (properties : List PropertyForm) (shared : List Step) (due : Result EncodedForm BaseFault) (told_body : WindowBody)
+  body_moved : (window : WindowForm) (budget : ℕ) (properties : List PropertyForm) (shared : List Step) (due : Result WindowForm BaseFault) (told_body : WindowBody)
       → FailsBody window budget properties shared failure due told_body → FailsBody window budget properties shared (moved number failure.property failure) due told_body
   body_moved window budget properties shared (Err (fault.TooLarge events clauses)) told_body fails = (of_window_moved WrongSize fails.0, fails.1)
   body_moved window budget properties shared (Err fault.Memory) told_body fails = fails

@@ -5,9 +5,9 @@ use Rattle.std.proofs.lemmas.Bool.{cases_lt}
 use Rattle.gp_clause.specs.declared.edge.Edge.{Edge}
 use Rattle.gp_clause.specs.declared.kind.Kind.{Kind}
 use Rattle.gp_clause.specs.declared.lit.Lit.{Lit}
-use Rattle.gp_derivation.specs.declared.step.Step.{Step}
-use Rattle.gp_derivation.specs.Certificate.{StepsCheck}
-use Rattle.gp_derivation.specs.Shared.{OwnStepsPass}
+use Rattle.gp_certificate.specs.declared.step.Step.{Step}
+use Rattle.gp_certificate.specs.Certificate.{StepsCheck}
+use Rattle.gp_certificate.specs.Shared.{OwnStepsPass}
 use Rattle.gp_checker.specs.First.{FailsFirst, FailsHere}
 
 -- where the first steps check, fewer do

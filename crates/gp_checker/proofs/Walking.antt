@@ -1,29 +1,30 @@
 -- How far the windows of a report are checked.
-use Rattle.std.proofs.Common.{◌≡◌, refl, sym, ap, ◌∙◌, subst, ℕ, zero, suc, ◌+◌, ◌-◌, ◌<◌, ◌≤◌, List, ◌⊎◌, inl, inr, Option, None, Some, length, map, take, arith}
+use Rattle.std.proofs.Common.{◌≡◌, refl, sym, ap, ◌∙◌, subst, ℕ, suc, ◌+◌, ◌-◌, ◌<◌, ◌≤◌, List, ◌⊎◌, inl, inr, [], ◌∷◌, Option, None, Some, length, get_or, drop, take, add-one, arith}
 use Rattle.std.specs.List.{AllZip, slice_get}
 use Rattle.std.specs.Option.{IsSomeAnd, MatchOption}
 use Rattle.std.proofs.lemmas.Bool.{cases_lt}
-use Rattle.std.proofs.lemmas.List.{length-map}
-use Rattle.std.proofs.lemmas.Option.{slice_get_past}
+use Rattle.std.proofs.lemmas.List.{length-drop}
+use Rattle.std.proofs.Math.Seq.{drop-cons}
+use Rattle.std.proofs.lemmas.Option.{slice_get-get_or, slice_get_past}
 use Rattle.gp_property.specs.PropertyForm.{PropertyForm}
 use Rattle.gp_report.specs.declared.record.WindowRecord.{WindowRecord}
 use Rattle.gp_report.specs.ReportForm.{ReportForm}
 use Rattle.gp_window.specs.RecordingForm.{RecordingForm}
-use Rattle.gp_window.specs.Walk.{WalkForm}
-use Rattle.gp_window.specs.WindowForm.{numbers_from, window_of}
+use Rattle.gp_window.specs.WindowForm.{WindowForm, window_of}
+use Rattle.gp_window.specs.Windows.{all_windows}
+use Rattle.gp_window.specs.WindowsLaws.{count_windows}
 use Rattle.gp_checker.specs.declared.failure.Checked.{Checked}
 use Rattle.gp_checker.specs.declared.failure.Checked.TheVariants.{Accepted, Rejected}
 use Rattle.gp_checker.specs.declared.failure.Failure.{Failure}
 use Rattle.gp_checker.specs.declared.failure.Reason.TheVariants.{WindowCount}
-use Rattle.gp_checker.specs.Accepted.{AcceptsWindow, IsAccepted, windows_of}
+use Rattle.gp_checker.specs.Accepted.{AcceptsWindow, IsAccepted}
 use Rattle.gp_checker.specs.Checked.{IsChecked}
 use Rattle.gp_checker.specs.First.{FailsHere}
 use Rattle.gp_checker.specs.Reasons.{IsOfWindow}
 use Rattle.gp_checker.specs.Rejected.{FailsWindow, IsRejected}
-use Rattle.gp_checker.specs.WindowLaws.{count_numbers, window_there}
 use Rattle.gp_checker.proofs.Finds.{of_window_is}
 use Rattle.gp_checker.proofs.Firsts.{accepted_all, accepted_more, lacks_first}
-use Rattle.gp_checker.proofs.Places.{one_at}
+use Rattle.gp_checker.proofs.Places.{counted_at, one_at}
 
 told_there : {X : Type 0} (told : Option X) (P : X → Type 0) → IsSomeAnd told P → (x : X) × (told ≡ Some x) × P x
 told_there (Some x) P holds = (x, refl, holds)
@@ -34,74 +35,113 @@ pub record_there : (report : ReportForm) (records : List WindowRecord) (told : W
     → slice_get report.windows (number - 1) ≡ Some told
 record_there report records told read number same is got = subst (λ all. slice_get all (number - 1) ≡ Some told) same (subst (λ k. slice_get records (k - 1) ≡ Some told) is got)
 
+-- what stands first without so many at the front, and what is left behind it
+first_left : {X : Type 0} (xs : List X) (n : ℕ) (x : X) (rest : List X) → drop n xs ≡ x ∷ rest → (slice_get xs n ≡ Some x) × (drop (n + 1) xs ≡ rest)
+first_left xs n x rest is =
+    let size : length (drop n xs) ≡ length (x ∷ rest) = ap (λ ys. length ys) is in
+    let within : n < length xs = omega (arith, size, length-drop n xs) in
+    let parted : get_or xs n x ∷ drop (suc n) xs ≡ x ∷ rest = sym (drop-cons xs n x within) ∙ is in
+    let one : get_or xs n x ≡ x = cc in
+    let others : drop (suc n) xs ≡ rest = cc in
+    (slice_get-get_or xs n x within ∙ ap Some one, ap (λ k. drop k xs) (add-one n) ∙ others)
+
 module _ (r : RecordingForm) (properties : List PropertyForm) (report : ReportForm) (number : ℕ) where
-  window_past : number ≡ r.manifest.epochs → slice_get (windows_of r) number ≡ None
+  window_past : number ≡ r.manifest.epochs → slice_get (all_windows r) number ≡ None
   window_past last =
-      let size : length (windows_of r) ≡ r.manifest.epochs = length-map (numbers_from 1 r.manifest.epochs) (window_of r) ∙ count_numbers 1 r.manifest.epochs in
-      slice_get_past (windows_of r) number (omega (arith, size, last))
-
-  -- the windows before this one are accepted
-  abbrev pub AreAccepted : Type 0
-  AreAccepted = AllZip (AcceptsWindow properties report.budget) (take (number - 1) (windows_of r)) (take (number - 1) report.windows)
-
-  -- what is found where a walk stands: the record of its window is accepted, or there is none, or it fails
-  abbrev pub FindsAt : WalkForm → Option Failure → Type 0
-  FindsAt walk found =
-      MatchOption found (IsSomeAnd (slice_get report.windows (walk.number - 1)) (AcceptsWindow properties report.budget (window_of walk.recording walk.number)))
-      (λ (failure : Failure). (failure.window ≡ walk.number)
-      × FailsHere (FailsWindow properties report.budget failure) (IsOfWindow WindowCount failure) (Some (window_of walk.recording walk.number)) (slice_get report.windows (walk.number - 1)))
-
-  -- where it stands at this window
-  pub found_here : (walk : WalkForm) (found : Option Failure) → walk.recording ≡ r → number ≡ walk.number → FindsAt walk found → FindsAt (record { recording = r; number = number }) found
-  found_here walk found same is finds =
-      let here : walk ≡ record { recording = r; number = number } = λ i. record { recording = same i; number = sym is i } in subst (λ (w : WalkForm). FindsAt w found) here finds
-
-  -- this one is missing, or it fails
-  pub window_rejected : (failure : Failure) → 1 ≤ number → number ≤ r.manifest.epochs → failure.window ≡ number
-      → FailsHere (FailsWindow properties report.budget failure) (IsOfWindow WindowCount failure) (Some (window_of r number)) (slice_get report.windows (number - 1)) → AreAccepted → IsRejected r properties report failure
-  window_rejected failure some within told here before =
-      let place : number ≡ number - 1 + 1 = omega (arith, some) in (
-        number - 1,
-        told ∙ place,
-        record {
-          before = before;
-          here = subst (λ window. FailsHere (FailsWindow properties report.budget failure) (IsOfWindow WindowCount failure) window (slice_get report.windows (number - 1))) (sym (window_there r number some within)) here;
-        },
-      )
-
-  -- this one is accepted too
-  pub window_accepted : 1 ≤ number → number ≤ r.manifest.epochs → IsSomeAnd (slice_get report.windows (number - 1)) (AcceptsWindow properties report.budget (window_of r number)) → AreAccepted
-      → AllZip (AcceptsWindow properties report.budget) (take number (windows_of r)) (take number report.windows)
-  window_accepted some within accepts before =
-      let place : number - 1 + 1 ≡ number = omega (arith, some) in
-      let told = told_there (slice_get report.windows (number - 1)) (AcceptsWindow properties report.budget (window_of r number)) accepts in
-      subst (λ (n : ℕ). AllZip (AcceptsWindow properties report.budget) (take n (windows_of r)) (take n report.windows)) place
-      (accepted_more (AcceptsWindow properties report.budget) (windows_of r) report.windows (number - 1) (window_of r number) told.0 (window_there r number some within) told.1 told.2 before)
+      let size = count_windows r 1 r.manifest.epochs in
+      slice_get_past (all_windows r) number (omega (arith, size, last))
 
   -- and it is the last
-  pub all_windows : number ≡ r.manifest.epochs → length report.windows ≤ number → AllZip (AcceptsWindow properties report.budget) (take number (windows_of r)) (take number report.windows) → IsAccepted r properties report
-  all_windows last few accepted =
-      let size : length (windows_of r) ≡ r.manifest.epochs = length-map (numbers_from 1 r.manifest.epochs) (window_of r) ∙ count_numbers 1 r.manifest.epochs in
-      accepted_all (AcceptsWindow properties report.budget) (windows_of r) report.windows number (omega (arith, size, last)) few accepted
+  pub every_window : number ≡ r.manifest.epochs → length report.windows ≤ number → AllZip (AcceptsWindow properties report.budget) (take number (all_windows r)) (take number report.windows) → IsAccepted r properties report
+  every_window last few accepted =
+      let size = count_windows r 1 r.manifest.epochs in
+      accepted_all (AcceptsWindow properties report.budget) (all_windows r) report.windows number (omega (arith, size, last)) few accepted
 
   -- but the report has more
-  pub windows_surplus : number ≡ r.manifest.epochs → number < length report.windows → AllZip (AcceptsWindow properties report.budget) (take number (windows_of r)) (take number report.windows)
+  pub windows_surplus : number ≡ r.manifest.epochs → number < length report.windows → AllZip (AcceptsWindow properties report.budget) (take number (all_windows r)) (take number report.windows)
       → IsRejected r properties report (record { window = number + 1; property = 0; instance = 0; reason = WindowCount; place = 0 })
   windows_surplus last more accepted =
       let told = one_at report.windows number more in
       let failure : Failure = record { window = number + 1; property = 0; instance = 0; reason = WindowCount; place = 0 } in (
         number,
         refl,
-        lacks_first (AcceptsWindow properties report.budget) (windows_of r) report.windows number (FailsWindow properties report.budget failure) (IsOfWindow WindowCount failure) told.0
+        lacks_first (AcceptsWindow properties report.budget) (all_windows r) report.windows number (FailsWindow properties report.budget failure) (IsOfWindow WindowCount failure) told.0
             (window_past last) told.1 (of_window_is WindowCount failure (number + 1) refl) accepted,
       )
 
   -- so the check is at its end
   pub checked_at_end : (checked : Checked) (count : ℕ) → number ≡ r.manifest.epochs → count ≡ length report.windows → (count ≤ number → checked ≡ Accepted)
       → (number < count → checked ≡ Rejected (record { window = number + 1; property = 0; instance = 0; reason = WindowCount; place = 0 }))
-      → AllZip (AcceptsWindow properties report.budget) (take number (windows_of r)) (take number report.windows) → IsChecked r properties report checked
+      → AllZip (AcceptsWindow properties report.budget) (take number (all_windows r)) (take number report.windows) → IsChecked r properties report checked
   checked_at_end checked count last size all more accepted = at (cases_lt number count)
     where
       at : (number < count) ⊎ (count ≤ number) → IsChecked r properties report checked
       at (inl surplus) = subst (IsChecked r properties report) (sym (more surplus)) (windows_surplus last (omega (arith, surplus, size)) accepted)
-      at (inr few) = subst (IsChecked r properties report) (sym (all few)) (all_windows last (omega (arith, few, size)) accepted)
+      at (inr few) = subst (IsChecked r properties report) (sym (all few)) (every_window last (omega (arith, few, size)) accepted)
+
+module _ (r : RecordingForm) (properties : List PropertyForm) (report : ReportForm) where
+  -- the windows before those that are left are accepted
+  pub record AreChecked (left : List WindowForm) : Type 0 where
+    pub passed : ℕ
+    pub within : passed ≤ r.manifest.epochs
+    pub left_is : drop passed (all_windows r) ≡ left
+    pub accepted : AllZip (AcceptsWindow properties report.budget) (take passed (all_windows r)) (take passed report.windows)
+
+  -- what is found at a window: its record is accepted, or there is none, or it fails
+  abbrev pub FindsAt : WindowForm → Option Failure → Type 0
+  FindsAt window found =
+      MatchOption found (IsSomeAnd (slice_get report.windows (window.number - 1)) (AcceptsWindow properties report.budget window))
+      (λ (failure : Failure). (failure.window ≡ window.number)
+      × FailsHere (FailsWindow properties report.budget failure) (IsOfWindow WindowCount failure) (Some window) (slice_get report.windows (window.number - 1)))
+
+  -- none is checked yet
+  pub none_checked : (left : List WindowForm) → left ≡ all_windows r → AreChecked left
+  none_checked left all = record { passed = 0; within = omega arith; left_is = sym all; accepted = tt }
+
+  -- where the first of those that are left stands
+  place_of : (left rest : List WindowForm) (window : WindowForm) (checked : AreChecked left) → left ≡ window ∷ rest
+      → (checked.passed < r.manifest.epochs) × (slice_get (all_windows r) checked.passed ≡ Some window) × (drop (checked.passed + 1) (all_windows r) ≡ rest) × (window.number - 1 ≡ checked.passed) × (window.number ≡ checked.passed + 1)
+  place_of left rest window checked first =
+      let here = first_left (all_windows r) checked.passed window rest (checked.left_is ∙ first) in
+      let counted = counted_at (window_of r) 1 r.manifest.epochs checked.passed window here.0 in
+      let number : window.number ≡ 1 + checked.passed = ap (λ (w : WindowForm). w.number) counted.1 in
+      (counted.0, here.0, here.1, omega (arith, number), omega (arith, number))
+
+  -- the first of those that are left is missing, or it fails
+  pub window_rejected : (left rest : List WindowForm) (window : WindowForm) (failure : Failure) → AreChecked left → left ≡ window ∷ rest → (failure.window ≡ window.number)
+      × FailsHere (FailsWindow properties report.budget failure) (IsOfWindow WindowCount failure) (Some window) (slice_get report.windows (window.number - 1)) → IsRejected r properties report failure
+  window_rejected left rest window failure checked first fails =
+      let place = place_of left rest window checked first in
+      let here : FailsHere (FailsWindow properties report.budget failure) (IsOfWindow WindowCount failure) (Some window) (slice_get report.windows checked.passed) =
+      subst (λ (k : ℕ). FailsHere (FailsWindow properties report.budget failure) (IsOfWindow WindowCount failure) (Some window) (slice_get report.windows k)) place.3 fails.1 in (
+        checked.passed,
+        fails.0 ∙ place.4,
+        record {
+          before = checked.accepted;
+          here = subst (λ (one : Option WindowForm). FailsHere (FailsWindow properties report.budget failure) (IsOfWindow WindowCount failure) one (slice_get report.windows checked.passed)) (sym place.1) here;
+        },
+      )
+
+  -- it is accepted too
+  pub window_accepted : (left rest : List WindowForm) (window : WindowForm) → AreChecked left → left ≡ window ∷ rest
+      → IsSomeAnd (slice_get report.windows (window.number - 1)) (AcceptsWindow properties report.budget window) → AreChecked rest
+  window_accepted left rest window checked first accepts =
+      let place = place_of left rest window checked first in
+      let told = told_there (slice_get report.windows (window.number - 1)) (AcceptsWindow properties report.budget window) accepts in
+      let there : slice_get report.windows checked.passed ≡ Some told.0 = subst (λ (k : ℕ). slice_get report.windows k ≡ Some told.0) place.3 told.1 in
+      record {
+        passed = checked.passed + 1;
+        within = omega (arith, place.0);
+        left_is = place.2;
+        accepted = accepted_more (AcceptsWindow properties report.budget) (all_windows r) report.windows checked.passed window told.0 place.1 there told.2 checked.accepted;
+      }
+
+  -- no window is left
+  pub all_checked : (left : List WindowForm) (epochs : ℕ) (checked : Checked) (count : ℕ) → AreChecked left → left ≡ [] → epochs ≡ r.manifest.epochs → count ≡ length report.windows → (count ≤ epochs → checked ≡ Accepted)
+      → (epochs < count → checked ≡ Rejected (record { window = epochs + 1; property = 0; instance = 0; reason = WindowCount; place = 0 })) → IsChecked r properties report checked
+  all_checked left epochs checked count so_far none last size all more =
+      let whole = count_windows r 1 r.manifest.epochs in
+      let rest : length (all_windows r) - so_far.passed ≡ 0 = sym (length-drop so_far.passed (all_windows r)) ∙ ap (λ (ws : List WindowForm). length ws) (so_far.left_is ∙ none) in
+      let passed : so_far.passed ≡ epochs = omega (arith, so_far.within, whole, rest, last) in
+      checked_at_end r properties report epochs checked count last size all more
+      (subst (λ (n : ℕ). AllZip (AcceptsWindow properties report.budget) (take n (all_windows r)) (take n report.windows)) passed so_far.accepted)

@@ -1,16 +1,16 @@
 -- What a report has to say so that it is accepted, whoever wrote it.
-use Rattle.std.specs.Prelude.{ℕ, ◌≡◌, ◌+◌, true, List, Result, Ok, Err, map, All, Contains}
+use Rattle.std.specs.Prelude.{ℕ, ◌≡◌, ◌+◌, true, List, Result, Ok, Err, All, Contains}
 use Rattle.std.specs.List.{AllZip, enumerate_from}
 use Rattle.gp_clause.specs.declared.problem.Query.{Query}
 use Rattle.gp_clause.specs.Lit.{opposite}
 use Rattle.gp_constraint.specs.declared.fault.BaseFault.{BaseFault}
 use Rattle.gp_constraint.specs.declared.fault.BaseFault.TheVariants.{TooLarge}
 use Rattle.gp_constraint.specs.Base.{base_of}
-use Rattle.gp_constraint.specs.Encoded.{EncodedForm, base_due}
+use Rattle.gp_constraint.specs.Encoded.{base_due}
 use Rattle.gp_constraint.specs.Query.{query_of}
-use Rattle.gp_derivation.specs.declared.step.Step.{Step}
-use Rattle.gp_derivation.specs.Certificate.{IsLast}
-use Rattle.gp_derivation.specs.Shared.{PassesOver, SharedPasses}
+use Rattle.gp_certificate.specs.declared.step.Step.{Step}
+use Rattle.gp_certificate.specs.Certificate.{IsLast}
+use Rattle.gp_certificate.specs.Shared.{PassesOver, SharedPasses}
 use Rattle.gp_instance.specs.declared.instance.Instance.{Instance}
 use Rattle.gp_instance.specs.declared.instance.InstancesFault.{InstancesFault}
 use Rattle.gp_instance.specs.declared.instance.InstancesFault.TheVariants.{TooMany}
@@ -30,7 +30,8 @@ use Rattle.gp_report.specs.declared.record.WindowRecord.{WindowRecord}
 use Rattle.gp_report.specs.ReportForm.{ReportForm}
 use Rattle.gp_window.specs.declared.schedule.EventId.{EventId}
 use Rattle.gp_window.specs.RecordingForm.{RecordingForm}
-use Rattle.gp_window.specs.WindowForm.{WindowForm, numbers_from, window_of}
+use Rattle.gp_window.specs.WindowForm.{WindowForm}
+use Rattle.gp_window.specs.Windows.{all_windows}
 
 -- there is a last step, and it has negations of assumptions alone
 abbrev pub RefutesAtLast : Query → List Step → Type 0
@@ -70,7 +71,7 @@ TellsSize events clauses (told.Answers records) = ⊥
 
 -- what is told of a window: too large exactly where it is, with its numbers; else the shared steps pass, and there is a
 -- record for each property
-abbrev pub AcceptsBody : WindowForm → ℕ → List PropertyForm → List Step → Result EncodedForm BaseFault → WindowBody → Type 0
+abbrev pub AcceptsBody : WindowForm → ℕ → List PropertyForm → List Step → Result WindowForm BaseFault → WindowBody → Type 0
 AcceptsBody window budget properties shared (Err (TooLarge events clauses)) body = TellsSize events clauses body
 AcceptsBody window budget properties shared (Ok encoded) (told.Answers records) =
     SharedPasses (base_of window) shared
@@ -81,10 +82,6 @@ AcceptsBody window budget properties shared _ _ = ⊥
 abbrev pub AcceptsWindow : List PropertyForm → ℕ → WindowForm → WindowRecord → Type 0
 AcceptsWindow properties budget window told = AcceptsBody window budget properties told.shared (base_due window) told.body
 
--- the windows of a recording, in order
-abbrev pub windows_of : RecordingForm → List WindowForm
-windows_of recording = map (window_of recording) (numbers_from 1 recording.manifest.epochs)
-
 -- a report is accepted where it has a record for each window
 abbrev pub IsAccepted : RecordingForm → List PropertyForm → ReportForm → Type 0
-IsAccepted recording properties report = AllZip (AcceptsWindow properties report.budget) (windows_of recording) report.windows
+IsAccepted recording properties report = AllZip (AcceptsWindow properties report.budget) (all_windows recording) report.windows

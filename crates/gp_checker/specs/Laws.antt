@@ -1,6 +1,6 @@
 -- The laws of lower layers on which the check rests.
 use Rattle.gp_constraint.specs.Laws.{ProblemsAreValid}
-use Rattle.gp_derivation.specs.Shared.{RefutedOverMeans}
+use Rattle.gp_certificate.specs.Shared.{RefutedOverMeans}
 use Rattle.gp_property.specs.Laws.{AtomsKept}
 use Rattle.gp_replay.specs.Feasible.{ReplayMeansFeasible}
 use Rattle.gp_witness.specs.Complete.{SchedulesAreComplete}

@@ -4,6 +4,4 @@ pub mod Accepted
 pub mod Rejected
 pub mod Checked
 pub mod Sound
-pub mod Basis
 pub mod Laws
-pub mod WindowLaws

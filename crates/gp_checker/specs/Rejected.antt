@@ -6,12 +6,12 @@ use Rattle.gp_clause.specs.declared.problem.Query.{Query}
 use Rattle.gp_constraint.specs.declared.fault.BaseFault.{BaseFault}
 use Rattle.gp_constraint.specs.declared.fault.BaseFault.TheVariants.{Memory, TooLarge}
 use Rattle.gp_constraint.specs.Base.{base_of}
-use Rattle.gp_constraint.specs.Encoded.{EncodedForm, base_due}
+use Rattle.gp_constraint.specs.Encoded.{base_due}
 use Rattle.gp_constraint.specs.Query.{query_of}
-use Rattle.gp_derivation.specs.declared.certificate.Certificate.{Certificate}
-use Rattle.gp_derivation.specs.declared.step.Step.{Step}
-use Rattle.gp_derivation.specs.Certificate.{clauses_of}
-use Rattle.gp_derivation.specs.Shared.{FirstFails, FirstOwnFails, PassesOver, SharedPasses}
+use Rattle.gp_certificate.specs.declared.certificate.Certificate.{Certificate}
+use Rattle.gp_certificate.specs.declared.step.Step.{Step}
+use Rattle.gp_certificate.specs.Certificate.{clauses_of}
+use Rattle.gp_certificate.specs.Shared.{FirstFails, FirstOwnFails, PassesOver, SharedPasses}
 use Rattle.gp_instance.specs.declared.instance.Instance.{Instance}
 use Rattle.gp_instance.specs.declared.instance.InstancesFault.{InstancesFault}
 use Rattle.gp_instance.specs.Instances.{due_instances}
@@ -33,10 +33,11 @@ use Rattle.gp_report.specs.ReportForm.{ReportForm}
 use Rattle.gp_window.specs.declared.schedule.EventId.{EventId}
 use Rattle.gp_window.specs.RecordingForm.{RecordingForm}
 use Rattle.gp_window.specs.WindowForm.{WindowForm}
+use Rattle.gp_window.specs.Windows.{all_windows}
 use Rattle.gp_checker.specs.declared.failure.Failure.{Failure}
 use Rattle.gp_checker.specs.declared.failure.Reason.{Reason}
 use Rattle.gp_checker.specs.declared.failure.Reason.TheVariants.{WindowCount, WrongSize, WrongProperty, WrongEvents, Stuck, Unmatched, BadStep, Unrefuted, WrongBudget, BadSharedStep}
-use Rattle.gp_checker.specs.Accepted.{AcceptsEntry, AcceptsProperty, AcceptsWindow, RefutesAtLast, TellsSize, windows_of}
+use Rattle.gp_checker.specs.Accepted.{AcceptsEntry, AcceptsProperty, AcceptsWindow, RefutesAtLast, TellsSize}
 use Rattle.gp_checker.specs.First.{FailsFirst}
 use Rattle.gp_checker.specs.Reasons.{IsOfProperty, IsOfWindow}
 
@@ -96,7 +97,7 @@ FailsShared problem shared failure =
 
 -- a window is told as too large and is not, or with other numbers, or the reverse; or a shared step fails; or else a
 -- property is the first that fails, is missing or is surplus
-abbrev pub FailsBody : WindowForm → ℕ → List PropertyForm → List Step → Failure → Result EncodedForm BaseFault → WindowBody → Type 0
+abbrev pub FailsBody : WindowForm → ℕ → List PropertyForm → List Step → Failure → Result WindowForm BaseFault → WindowBody → Type 0
 FailsBody window budget properties shared failure (Err (TooLarge events clauses)) body =
     IsOfWindow WrongSize failure × (TellsSize events clauses body → ⊥)
 FailsBody window budget properties shared failure (Err Memory) body = ⊥
@@ -117,4 +118,4 @@ abbrev pub IsRejected : RecordingForm → List PropertyForm → ReportForm → F
 IsRejected recording properties report failure =
     (place : ℕ) × (failure.window ≡ place + 1)
     × FailsFirst (AcceptsWindow properties report.budget) (FailsWindow properties report.budget failure) (IsOfWindow WindowCount failure)
-    (windows_of recording) report.windows place
+    (all_windows recording) report.windows place

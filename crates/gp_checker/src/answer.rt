@@ -2,14 +2,14 @@ ghost use Rattle.std.specs.Prelude.{◌≡◌, ◌≢◌, ◌+◌, true, IfOk, M
 ghost use Rattle.gp_constraint.specs.Base.{base_of};
 ghost use Rattle.gp_instance.specs.Instance.{is_instance};
 ghost use Rattle.gp_checker.specs.Accepted.{AcceptsAnswer};
-ghost use Rattle.gp_checker.specs.Basis.{IsBasis};
+ghost use Rattle.gp_certificate.specs.Shared.{SharedPasses};
 ghost use Rattle.gp_checker.specs.Rejected.{FailsAnswer};
 
 use crate::basis::Basis;
 use crate::certificate::check_certificate;
 use crate::failure::{Failure, Reason};
 use crate::schedule::check_schedule;
-use gp_derivation::Judge;
+use gp_certificate::Judge;
 use gp_instance::Instance;
 use gp_property::Property;
 use gp_report::Answer;
@@ -24,15 +24,15 @@ pub(crate) fn check_answer(
     instance: &Instance,
     answer: &Answer,
 ) -> Result<Option<Failure>, AllocError>
-    requires basis { IsBasis basis.now.window.now basis.now.encoded.now basis.now.shared.now }
-    requires judge { judge.old ≡ base_of basis.now.window.now }
-    requires instance { is_instance basis.now.window.now property.now instance.now.events ≡ true }
-    ensures found { IfOk result (λ found. MatchOption found (AcceptsAnswer basis.now.window.now basis.now.budget basis.now.shared.now property.now instance.now.events answer.now) (λ failure. FailsAnswer basis.now.window.now basis.now.budget basis.now.shared.now property.now instance.now.events answer.now failure.reason failure.place)) }
+    requires shares { SharedPasses (base_of basis.now.encoded.now) basis.now.shared.now }
+    requires judge { judge.old ≡ base_of basis.now.encoded.now }
+    requires instance { is_instance basis.now.encoded.now property.now instance.now.events ≡ true }
+    ensures found { IfOk result (λ found. MatchOption found (AcceptsAnswer basis.now.encoded.now basis.now.budget basis.now.shared.now property.now instance.now.events answer.now) (λ failure. FailsAnswer basis.now.encoded.now basis.now.budget basis.now.shared.now property.now instance.now.events answer.now failure.reason failure.place)) }
     ensures same { judge.new ≡ judge.old }
 {
     match answer {
         Answer::Found(schedule) => {
-            check_schedule(alloc, basis.window, property, instance, schedule)
+            check_schedule(alloc, basis.encoded.window(), property, instance, schedule)
         }
         Answer::Impossible(certificate) => {
             check_certificate(alloc, basis, judge, property, instance, certificate)

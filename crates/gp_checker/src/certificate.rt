@@ -3,18 +3,17 @@ ghost use Rattle.gp_clause.specs.Lit.{opposite};
 ghost use Rattle.gp_clause.specs.Problem.{IsValidQuery};
 ghost use Rattle.gp_constraint.specs.Base.{base_of};
 ghost use Rattle.gp_constraint.specs.Query.{query_of};
-ghost use Rattle.gp_derivation.specs.Shared.{PassesOver, SharedPasses};
+ghost use Rattle.gp_certificate.specs.Shared.{PassesOver, SharedPasses};
 ghost use Rattle.gp_instance.specs.Instance.{is_instance};
 ghost use Rattle.gp_checker.specs.Accepted.{RefutesAtLast};
-ghost use Rattle.gp_checker.specs.Basis.{IsBasis};
 ghost use Rattle.gp_checker.specs.Rejected.{FailsCertificate};
 
 use crate::basis::Basis;
 use crate::failure::{Failure, Reason};
 use crate::laws::laws;
+use gp_certificate::{Certificate, Judge, Step};
 use gp_clause::{Lit, Problem, Query};
 use gp_constraint::query;
-use gp_derivation::{Certificate, Judge, Step};
 use gp_instance::Instance;
 use gp_property::Property;
 use std::alloc::{AllocError, Global};
@@ -28,16 +27,16 @@ pub(crate) fn check_certificate(
     instance: &Instance,
     certificate: &Certificate,
 ) -> Result<Option<Failure>, AllocError>
-    requires basis { IsBasis basis.now.window.now basis.now.encoded.now basis.now.shared.now }
-    requires judge { judge.old ≡ base_of basis.now.window.now }
-    requires instance { is_instance basis.now.window.now property.now instance.now.events ≡ true }
-    ensures found { IfOk result (λ found. MatchOption found (PassesOver (base_of basis.now.window.now) basis.now.shared.now (query_of basis.now.window.now property.now instance.now.events) certificate.now × RefutesAtLast (query_of basis.now.window.now property.now instance.now.events) certificate.now.steps) (λ failure. FailsCertificate (base_of basis.now.window.now) basis.now.shared.now (query_of basis.now.window.now property.now instance.now.events) certificate.now failure.reason failure.place)) }
+    requires shares { SharedPasses (base_of basis.now.encoded.now) basis.now.shared.now }
+    requires judge { judge.old ≡ base_of basis.now.encoded.now }
+    requires instance { is_instance basis.now.encoded.now property.now instance.now.events ≡ true }
+    ensures found { IfOk result (λ found. MatchOption found (PassesOver (base_of basis.now.encoded.now) basis.now.shared.now (query_of basis.now.encoded.now property.now instance.now.events) certificate.now × RefutesAtLast (query_of basis.now.encoded.now property.now instance.now.events) certificate.now.steps) (λ failure. FailsCertificate (base_of basis.now.encoded.now) basis.now.shared.now (query_of basis.now.encoded.now property.now instance.now.events) certificate.now failure.reason failure.place)) }
     ensures same { judge.new ≡ judge.old }
 {
     // the type says that it is a property of the language, whose instances have at most six events
     let _ = property.name();
     laws();
-    let asked = query(alloc, basis.encoded, basis.window, property, instance)?;
+    let asked = query(alloc, basis.encoded, property, instance)?;
     let problem = basis.encoded.problem();
     check_steps(judge, problem, basis.shared, &asked, certificate)
 }

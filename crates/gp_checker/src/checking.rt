@@ -1,5 +1,4 @@
 ghost use Rattle.std.specs.Prelude.{◌≡◌, ◌+◌, ◌-◌, ◌<◌, ◌≤◌, IfOk, IsSomeAnd, MatchOption, Some, length, slice_get};
-ghost use Rattle.gp_window.specs.WindowForm.{window_of};
 ghost use Rattle.gp_checker.specs.Accepted.{AcceptsWindow};
 ghost use Rattle.gp_checker.specs.Checked.{IsChecked};
 ghost use Rattle.gp_checker.specs.First.{FailsHere};
@@ -9,8 +8,8 @@ ghost use Rattle.gp_checker.specs.Rejected.{FailsWindow};
 use crate::failure::{Checked, Failure, Reason};
 use crate::window::check_window;
 use gp_property::Property;
-use gp_report::{Report, WindowRecord};
-use gp_window::{Recording, WindowWalk};
+use gp_report::Report;
+use gp_window::{Recording, Window, Windows};
 use std::alloc::{AllocError, Global};
 
 /// Checks a report on a recording and its properties, whoever wrote it: it is accepted, or rejected by its first failure.
@@ -23,57 +22,36 @@ pub fn check_report(
     requires { length properties.now ≤ 64 }
     ensures { IfOk result (IsChecked recording.now properties.now report.now) }
 {
-    // the type says that the epochs are few
-    let _ = recording.manifest();
-    let mut walk = WindowWalk::new(alloc, recording)?;
-    loop {
-        let number = walk.number();
-        if let Some(failure) = check_at(alloc, &walk, properties, report)? {
+    let mut left = Windows::new(alloc, recording)?;
+    while let Some(window) = left.next(alloc)? {
+        if let Some(failure) = check_at(alloc, window, properties, report)? {
             return Ok(Checked::Rejected(failure));
         }
-        let Some(next) = walk.advance()? else {
-            return Ok(at_end(number, report.windows().len()));
-        };
-        walk = next;
     }
+    Ok(at_end(recording.manifest().epochs(), report.windows().len()))
 }
 
-// How a report fails at the window at which a walk stands: it has no record of it, or the record fails.
+// How a report fails at a window: it has no record of it, or the record fails.
 fn check_at(
     alloc: Global,
-    walk: &WindowWalk,
+    window: Window,
     properties: &[Property],
     report: &Report,
 ) -> Result<Option<Failure>, AllocError>
     requires { length properties.now ≤ 64 }
-    ensures { IfOk result (λ found. MatchOption found (IsSomeAnd (slice_get report.now.windows (walk.now.number - 1)) (AcceptsWindow properties.now report.now.budget (window_of walk.now.recording walk.now.number))) (λ failure. (failure.window ≡ walk.now.number) × FailsHere (FailsWindow properties.now report.now.budget failure) (IsOfWindow Reason.WindowCount failure) (Some (window_of walk.now.recording walk.now.number)) (slice_get report.now.windows (walk.now.number - 1)))) }
+    ensures { IfOk result (λ found. MatchOption found (IsSomeAnd (slice_get report.now.windows (window.number - 1)) (AcceptsWindow properties.now report.now.budget window)) (λ failure. (failure.window ≡ window.number) × FailsHere (FailsWindow properties.now report.now.budget failure) (IsOfWindow Reason.WindowCount failure) (Some window) (slice_get report.now.windows (window.number - 1)))) }
 {
-    let number = walk.number();
+    let number = window.number();
     let Some(told) = report.windows().get(number as usize - 1) else {
         return Ok(Some(wrong_count(number)));
     };
-    if let Some(failure) = check_cut(alloc, walk, properties, report.budget(), told)? {
+    if let Some(failure) = check_window(alloc, window, properties, report.budget(), told)? {
         return Ok(Some(Failure {
             window: number,
             ..failure
         }));
     }
     Ok(None)
-}
-
-// How the record of the window at which a walk stands fails.
-fn check_cut(
-    alloc: Global,
-    walk: &WindowWalk,
-    properties: &[Property],
-    budget: u64,
-    told: &WindowRecord,
-) -> Result<Option<Failure>, AllocError>
-    requires { length properties.now ≤ 64 }
-    ensures { IfOk result (λ found. MatchOption found (AcceptsWindow properties.now budget (window_of walk.now.recording walk.now.number) told.now) (λ failure. FailsWindow properties.now budget failure (window_of walk.now.recording walk.now.number) told.now)) }
-{
-    let window = walk.window(alloc)?;
-    check_window(alloc, &window, properties, budget, told)
 }
 
 fn wrong_count(number: u32) -> Failure

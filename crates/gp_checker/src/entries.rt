@@ -4,14 +4,14 @@ ghost use Rattle.gp_constraint.specs.Base.{base_of};
 ghost use Rattle.gp_instance.specs.Instance.{is_instance};
 ghost use Rattle.gp_instance.specs.ListedLaws.{AreInstances};
 ghost use Rattle.gp_checker.specs.Accepted.{AcceptsEntry};
-ghost use Rattle.gp_checker.specs.Basis.{IsBasis};
+ghost use Rattle.gp_certificate.specs.Shared.{SharedPasses};
 ghost use Rattle.gp_checker.specs.First.{FailsFirst};
 ghost use Rattle.gp_checker.specs.Rejected.{FailsEntry};
 
 use crate::answer::check_answer;
 use crate::basis::Basis;
 use crate::failure::{Failure, Reason};
-use gp_derivation::Judge;
+use gp_certificate::Judge;
 use gp_instance::Instance;
 use gp_property::Property;
 use gp_report::Entry;
@@ -27,12 +27,12 @@ pub(crate) fn check_entries(
     instances: &[Instance],
     entries: &[Entry],
 ) -> Result<Option<Failure>, AllocError>
-    requires basis { IsBasis basis.now.window.now basis.now.encoded.now basis.now.shared.now }
-    requires judge { judge.old ≡ base_of basis.now.window.now }
-    requires instances { AreInstances basis.now.window.now property.now instances.now }
+    requires shares { SharedPasses (base_of basis.now.encoded.now) basis.now.shared.now }
+    requires judge { judge.old ≡ base_of basis.now.encoded.now }
+    requires instances { AreInstances basis.now.encoded.now property.now instances.now }
     requires few { length instances.now ≤ 10000 }
     requires count { length entries.now ≡ length instances.now }
-    ensures found { IfOk result (λ found. MatchOption found (AllZip (AcceptsEntry basis.now.window.now basis.now.budget basis.now.shared.now property.now) instances.now entries.now) (λ failure. FailsFirst (AcceptsEntry basis.now.window.now basis.now.budget basis.now.shared.now property.now) (FailsEntry basis.now.window.now basis.now.budget basis.now.shared.now property.now failure) ⊥ instances.now entries.now failure.instance)) }
+    ensures found { IfOk result (λ found. MatchOption found (AllZip (AcceptsEntry basis.now.encoded.now basis.now.budget basis.now.shared.now property.now) instances.now entries.now) (λ failure. FailsFirst (AcceptsEntry basis.now.encoded.now basis.now.budget basis.now.shared.now property.now) (FailsEntry basis.now.encoded.now basis.now.budget basis.now.shared.now property.now failure) ⊥ instances.now entries.now failure.instance)) }
     ensures same { judge.new ≡ judge.old }
 {
     for (place, entry) in entries.iter().enumerate() {
@@ -56,10 +56,10 @@ fn check_entry(
     instance: &Instance,
     entry: &Entry,
 ) -> Result<Option<Failure>, AllocError>
-    requires basis { IsBasis basis.now.window.now basis.now.encoded.now basis.now.shared.now }
-    requires judge { judge.old ≡ base_of basis.now.window.now }
-    requires instance { is_instance basis.now.window.now property.now instance.now.events ≡ true }
-    ensures found { IfOk result (λ found. MatchOption found (AcceptsEntry basis.now.window.now basis.now.budget basis.now.shared.now property.now instance.now entry.now) (λ failure. FailsEntry basis.now.window.now basis.now.budget basis.now.shared.now property.now failure instance.now entry.now)) }
+    requires shares { SharedPasses (base_of basis.now.encoded.now) basis.now.shared.now }
+    requires judge { judge.old ≡ base_of basis.now.encoded.now }
+    requires instance { is_instance basis.now.encoded.now property.now instance.now.events ≡ true }
+    ensures found { IfOk result (λ found. MatchOption found (AcceptsEntry basis.now.encoded.now basis.now.budget basis.now.shared.now property.now instance.now entry.now) (λ failure. FailsEntry basis.now.encoded.now basis.now.budget basis.now.shared.now property.now failure instance.now entry.now)) }
     ensures same { judge.new ≡ judge.old }
 {
     if !are_same(entry.events.as_slice(), instance.events.as_slice()) {

@@ -2,8 +2,8 @@ ghost use Rattle.gp_checker.specs.Checked.{ChecksAreExact};
 ghost use Rattle.gp_checker.specs.Laws.{Laws};
 ghost use Rattle.gp_checker.specs.Sound.{AcceptedIsTrue};
 
+use gp_certificate::refuted_over_means;
 use gp_constraint::problems_are_valid;
-use gp_derivation::refuted_over_means;
 use gp_property::atoms_kept;
 use gp_replay::replay_means_feasible;
 use gp_witness::schedules_are_complete;

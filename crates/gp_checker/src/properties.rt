@@ -4,7 +4,7 @@ ghost use Rattle.gp_constraint.specs.Base.{base_of};
 ghost use Rattle.gp_instance.specs.Instances.{due_instances};
 ghost use Rattle.gp_instance.specs.ListedLaws.{AreInstances};
 ghost use Rattle.gp_checker.specs.Accepted.{AcceptsListed, AcceptsProperty};
-ghost use Rattle.gp_checker.specs.Basis.{IsBasis};
+ghost use Rattle.gp_certificate.specs.Shared.{SharedPasses};
 ghost use Rattle.gp_checker.specs.First.{FailsFirst};
 ghost use Rattle.gp_checker.specs.Reasons.{IsOfProperty};
 ghost use Rattle.gp_checker.specs.Rejected.{FailsListed, FailsProperty};
@@ -13,7 +13,7 @@ use crate::basis::Basis;
 use crate::entries::check_entries;
 use crate::failure::{Failure, Reason};
 use crate::laws::laws;
-use gp_derivation::Judge;
+use gp_certificate::Judge;
 use gp_instance::{Instance, InstancesFault, instances};
 use gp_property::Property;
 use gp_report::{Entry, PropertyBody, PropertyRecord};
@@ -28,10 +28,10 @@ pub(crate) fn check_properties(
     properties: &[Property],
     records: &[PropertyRecord],
 ) -> Result<Option<Failure>, AllocError>
-    requires basis { IsBasis basis.now.window.now basis.now.encoded.now basis.now.shared.now }
-    requires judge { judge.old ≡ base_of basis.now.window.now }
+    requires shares { SharedPasses (base_of basis.now.encoded.now) basis.now.shared.now }
+    requires judge { judge.old ≡ base_of basis.now.encoded.now }
     requires few { length properties.now ≤ 64 }
-    ensures found { IfOk result (λ found. MatchOption found (AllZip (AcceptsProperty basis.now.window.now basis.now.budget basis.now.shared.now) (enumerate_from 0 properties.now) records.now) (λ failure. FailsFirst (AcceptsProperty basis.now.window.now basis.now.budget basis.now.shared.now) (FailsProperty basis.now.window.now basis.now.budget basis.now.shared.now failure) (IsOfProperty Reason.WrongProperty failure) (enumerate_from 0 properties.now) records.now failure.property)) }
+    ensures found { IfOk result (λ found. MatchOption found (AllZip (AcceptsProperty basis.now.encoded.now basis.now.budget basis.now.shared.now) (enumerate_from 0 properties.now) records.now) (λ failure. FailsFirst (AcceptsProperty basis.now.encoded.now basis.now.budget basis.now.shared.now) (FailsProperty basis.now.encoded.now basis.now.budget basis.now.shared.now failure) (IsOfProperty Reason.WrongProperty failure) (enumerate_from 0 properties.now) records.now failure.property)) }
     ensures same { judge.new ≡ judge.old }
 {
     for (number, property) in properties.iter().enumerate() {
@@ -69,9 +69,9 @@ fn check_property(
     property: &Property,
     told: &PropertyRecord,
 ) -> Result<Option<Failure>, AllocError>
-    requires basis { IsBasis basis.now.window.now basis.now.encoded.now basis.now.shared.now }
-    requires judge { judge.old ≡ base_of basis.now.window.now }
-    ensures found { IfOk result (λ found. MatchOption found (AcceptsProperty basis.now.window.now basis.now.budget basis.now.shared.now (number, property.now) told.now) (λ failure. FailsProperty basis.now.window.now basis.now.budget basis.now.shared.now failure (number, property.now) told.now)) }
+    requires shares { SharedPasses (base_of basis.now.encoded.now) basis.now.shared.now }
+    requires judge { judge.old ≡ base_of basis.now.encoded.now }
+    ensures found { IfOk result (λ found. MatchOption found (AcceptsProperty basis.now.encoded.now basis.now.budget basis.now.shared.now (number, property.now) told.now) (λ failure. FailsProperty basis.now.encoded.now basis.now.budget basis.now.shared.now failure (number, property.now) told.now)) }
     ensures same { judge.new ≡ judge.old }
 {
     if !is_same_name(&told.name, property.name()) {
@@ -95,15 +95,15 @@ fn check_body(
     property: &Property,
     body: &PropertyBody,
 ) -> Result<Option<Failure>, AllocError>
-    requires basis { IsBasis basis.now.window.now basis.now.encoded.now basis.now.shared.now }
-    requires judge { judge.old ≡ base_of basis.now.window.now }
-    ensures found { IfOk result (λ found. MatchOption found (AcceptsListed basis.now.window.now basis.now.budget basis.now.shared.now property.now (due_instances basis.now.window.now property.now number) body.now) (λ failure. FailsListed basis.now.window.now basis.now.budget basis.now.shared.now property.now failure (due_instances basis.now.window.now property.now number) body.now)) }
+    requires shares { SharedPasses (base_of basis.now.encoded.now) basis.now.shared.now }
+    requires judge { judge.old ≡ base_of basis.now.encoded.now }
+    ensures found { IfOk result (λ found. MatchOption found (AcceptsListed basis.now.encoded.now basis.now.budget basis.now.shared.now property.now (due_instances basis.now.encoded.now property.now number) body.now) (λ failure. FailsListed basis.now.encoded.now basis.now.budget basis.now.shared.now property.now failure (due_instances basis.now.encoded.now property.now number) body.now)) }
     ensures same { judge.new ≡ judge.old }
 {
     // the type says that it is a property of the language, whose instances have an event for each atom
     let _ = property.name();
     laws();
-    match instances(alloc, basis.window, property, number) {
+    match instances(alloc, basis.encoded.window(), property, number) {
         Ok(listed) => check_listed(alloc, basis, judge, property, listed.as_slice(), body),
         Err(InstancesFault::TooMany) => Ok(check_too_many(body)),
         Err(InstancesFault::Memory) => Err(AllocError),
@@ -129,11 +129,11 @@ fn check_listed(
     instances: &[Instance],
     body: &PropertyBody,
 ) -> Result<Option<Failure>, AllocError>
-    requires basis { IsBasis basis.now.window.now basis.now.encoded.now basis.now.shared.now }
-    requires judge { judge.old ≡ base_of basis.now.window.now }
-    requires instances { AreInstances basis.now.window.now property.now instances.now }
+    requires shares { SharedPasses (base_of basis.now.encoded.now) basis.now.shared.now }
+    requires judge { judge.old ≡ base_of basis.now.encoded.now }
+    requires instances { AreInstances basis.now.encoded.now property.now instances.now }
     requires few { length instances.now ≤ 10000 }
-    ensures found { IfOk result (λ found. MatchOption found (AcceptsListed basis.now.window.now basis.now.budget basis.now.shared.now property.now (Ok instances.now) body.now) (λ failure. FailsListed basis.now.window.now basis.now.budget basis.now.shared.now property.now failure (Ok instances.now) body.now)) }
+    ensures found { IfOk result (λ found. MatchOption found (AcceptsListed basis.now.encoded.now basis.now.budget basis.now.shared.now property.now (Ok instances.now) body.now) (λ failure. FailsListed basis.now.encoded.now basis.now.budget basis.now.shared.now property.now failure (Ok instances.now) body.now)) }
     ensures same { judge.new ≡ judge.old }
 {
     match body {
@@ -153,11 +153,11 @@ fn check_counted(
     instances: &[Instance],
     entries: &[Entry],
 ) -> Result<Option<Failure>, AllocError>
-    requires basis { IsBasis basis.now.window.now basis.now.encoded.now basis.now.shared.now }
-    requires judge { judge.old ≡ base_of basis.now.window.now }
-    requires instances { AreInstances basis.now.window.now property.now instances.now }
+    requires shares { SharedPasses (base_of basis.now.encoded.now) basis.now.shared.now }
+    requires judge { judge.old ≡ base_of basis.now.encoded.now }
+    requires instances { AreInstances basis.now.encoded.now property.now instances.now }
     requires few { length instances.now ≤ 10000 }
-    ensures found { IfOk result (λ found. MatchOption found (AcceptsListed basis.now.window.now basis.now.budget basis.now.shared.now property.now (Ok instances.now) (PropertyBody.Entries entries.now)) (λ failure. FailsListed basis.now.window.now basis.now.budget basis.now.shared.now property.now failure (Ok instances.now) (PropertyBody.Entries entries.now))) }
+    ensures found { IfOk result (λ found. MatchOption found (AcceptsListed basis.now.encoded.now basis.now.budget basis.now.shared.now property.now (Ok instances.now) (PropertyBody.Entries entries.now)) (λ failure. FailsListed basis.now.encoded.now basis.now.budget basis.now.shared.now property.now failure (Ok instances.now) (PropertyBody.Entries entries.now))) }
     ensures same { judge.new ≡ judge.old }
 {
     if entries.len() != instances.len() {

@@ -1,6 +1,5 @@
 ghost use Rattle.std.specs.Prelude.{◌≡◌, ◌≤◌, ◌↔◌, IsTrue, IfOk, MatchOption, length, Ok};
 ghost use Rattle.gp_constraint.specs.Base.{base_of};
-ghost use Rattle.gp_constraint.specs.Encoded.{base_due, encoded_of};
 ghost use Rattle.gp_checker.specs.Accepted.{AcceptsBody, AcceptsWindow, TellsSize};
 ghost use Rattle.gp_checker.specs.Reasons.{IsOfWindow};
 ghost use Rattle.gp_checker.specs.Rejected.{FailsBody, FailsWindow};
@@ -9,8 +8,8 @@ use crate::basis::Basis;
 use crate::failure::{Failure, Reason};
 use crate::laws::laws;
 use crate::properties::check_properties;
+use gp_certificate::Judge;
 use gp_constraint::{BaseFault, Encoded, base};
-use gp_derivation::Judge;
 use gp_property::Property;
 use gp_report::{PropertyRecord, WindowBody, WindowRecord};
 use gp_window::Window;
@@ -19,16 +18,16 @@ use std::alloc::{AllocError, Global};
 // How the record of a window fails.
 pub(crate) fn check_window(
     alloc: Global,
-    window: &Window,
+    window: Window,
     properties: &[Property],
     budget: u64,
     told: &WindowRecord,
 ) -> Result<Option<Failure>, AllocError>
     requires { length properties.now ≤ 64 }
-    ensures { IfOk result (λ found. MatchOption found (AcceptsWindow properties.now budget window.now told.now) (λ failure. FailsWindow properties.now budget failure window.now told.now)) }
+    ensures { IfOk result (λ found. MatchOption found (AcceptsWindow properties.now budget window told.now) (λ failure. FailsWindow properties.now budget failure window told.now)) }
 {
     match base(alloc, window) {
-        Ok(encoded) => check_answers(alloc, window, &encoded, properties, budget, told),
+        Ok(encoded) => check_answers(alloc, &encoded, properties, budget, told),
         Err(BaseFault::TooLarge { events, clauses }) => {
             Ok(check_size(&told.body, events, clauses))
         }
@@ -61,18 +60,15 @@ fn tells_size(body: &WindowBody, events: u64, clauses: u64) -> bool
 // How what is told of a window fails that has these constraints.
 fn check_answers(
     alloc: Global,
-    window: &Window,
     encoded: &Encoded,
     properties: &[Property],
     budget: u64,
     told: &WindowRecord,
 ) -> Result<Option<Failure>, AllocError>
-    requires few { length properties.now ≤ 64 }
-    requires due { base_due window.now ≡ Ok encoded.now }
-    ensures { IfOk result (λ found. MatchOption found (AcceptsBody window.now budget properties.now told.now.shared (Ok encoded.now) told.now.body) (λ failure. FailsBody window.now budget properties.now told.now.shared failure (Ok encoded.now) told.now.body)) }
+    requires { length properties.now ≤ 64 }
+    ensures { IfOk result (λ found. MatchOption found (AcceptsBody encoded.now budget properties.now told.now.shared (Ok encoded.now) told.now.body) (λ failure. FailsBody encoded.now budget properties.now told.now.shared failure (Ok encoded.now) told.now.body)) }
 {
     let basis = Basis {
-        window,
         encoded,
         shared: told.shared.as_slice(),
         budget,
@@ -92,9 +88,8 @@ fn check_records(
     properties: &[Property],
     records: &[PropertyRecord],
 ) -> Result<Option<Failure>, AllocError>
-    requires few { length properties.now ≤ 64 }
-    requires due { base_due basis.now.window.now ≡ Ok basis.now.encoded.now }
-    ensures { IfOk result (λ found. MatchOption found (AcceptsBody basis.now.window.now basis.now.budget properties.now basis.now.shared.now (Ok basis.now.encoded.now) (WindowBody.Answers records.now)) (λ failure. FailsBody basis.now.window.now basis.now.budget properties.now basis.now.shared.now failure (Ok basis.now.encoded.now) (WindowBody.Answers records.now))) }
+    requires { length properties.now ≤ 64 }
+    ensures { IfOk result (λ found. MatchOption found (AcceptsBody basis.now.encoded.now basis.now.budget properties.now basis.now.shared.now (Ok basis.now.encoded.now) (WindowBody.Answers records.now)) (λ failure. FailsBody basis.now.encoded.now basis.now.budget properties.now basis.now.shared.now failure (Ok basis.now.encoded.now) (WindowBody.Answers records.now))) }
 {
     laws();
     let mut judge = Judge::new(alloc, basis.encoded.problem())?;
@@ -110,9 +105,8 @@ fn judge_records(
     records: &[PropertyRecord],
 ) -> Result<Option<Failure>, AllocError>
     requires few { length properties.now ≤ 64 }
-    requires same { basis.now.encoded.now ≡ encoded_of basis.now.window.now }
-    requires judge { judge.old ≡ base_of basis.now.window.now }
-    ensures { IfOk result (λ found. MatchOption found (AcceptsBody basis.now.window.now basis.now.budget properties.now basis.now.shared.now (Ok basis.now.encoded.now) (WindowBody.Answers records.now)) (λ failure. FailsBody basis.now.window.now basis.now.budget properties.now basis.now.shared.now failure (Ok basis.now.encoded.now) (WindowBody.Answers records.now))) }
+    requires judge { judge.old ≡ base_of basis.now.encoded.now }
+    ensures { IfOk result (λ found. MatchOption found (AcceptsBody basis.now.encoded.now basis.now.budget properties.now basis.now.shared.now (Ok basis.now.encoded.now) (WindowBody.Answers records.now)) (λ failure. FailsBody basis.now.encoded.now basis.now.budget properties.now basis.now.shared.now failure (Ok basis.now.encoded.now) (WindowBody.Answers records.now))) }
 {
     let problem = basis.encoded.problem();
     if let Some(place) = judge.first_shared_to_fail(problem, basis.shared)? {

@@ -5,10 +5,10 @@ use Rattle.std.specs.List.{AllZip, enumerate_from}
 use Rattle.std.proofs.lemmas.List.Elements.{All-weaker}
 use Rattle.gp_constraint.specs.declared.fault.BaseFault.{BaseFault}
 use Rattle.gp_constraint.specs.Base.{base_of}
-use Rattle.gp_constraint.specs.Encoded.{EncodedForm, base_due}
+use Rattle.gp_constraint.specs.Encoded.{base_due}
 use Rattle.gp_constraint.specs.Laws.{ProblemsAreValid}
-use Rattle.gp_derivation.specs.declared.step.Step.{Step}
-use Rattle.gp_derivation.specs.Shared.{SharedPasses}
+use Rattle.gp_certificate.specs.declared.step.Step.{Step}
+use Rattle.gp_certificate.specs.Shared.{SharedPasses}
 use Rattle.gp_property.specs.PropertyForm.{PropertyForm}
 use Rattle.gp_report.specs.declared.record.PropertyRecord.{PropertyRecord}
 use Rattle.gp_report.specs.declared.record.WindowBody.{WindowBody}
@@ -16,8 +16,9 @@ use Rattle.gp_report.specs.declared.record.WindowBody.TheVariants.{TooLarge, Ans
 use Rattle.gp_report.specs.declared.record.WindowRecord.{WindowRecord}
 use Rattle.gp_report.specs.Entries.{entries_among}
 use Rattle.gp_window.specs.WindowForm.{WindowForm}
+use Rattle.gp_window.specs.Windows.{all_windows}
 use Rattle.gp_compact.specs.declared.moving.Sizes.{Sizes}
-use Rattle.gp_checker.specs.Accepted.{AcceptsBody, AcceptsProperty, AcceptsWindow, windows_of}
+use Rattle.gp_checker.specs.Accepted.{AcceptsBody, AcceptsProperty, AcceptsWindow}
 use Rattle.gp_compact.specs.Compact.{CompactKeepsAcceptance, IsSameWindow, are_few, body_by, compacted_over, compacted_window, compacted_windows, entries_told, over_list, property_by, sizes_of, steps_in, with_entries}
 use Rattle.gp_compact.specs.Moving.{compacted_steps, first_own}
 use Rattle.gp_constraint.specs.EncodedLaws.{is_encoded, is_valid}
@@ -27,15 +28,14 @@ use Rattle.gp_compact.proofs.Kept.{Fits, entries_begin, gather_entries, properti
 use Rattle.gp_compact.proofs.Sized.{IsSized, is_less}
 
 -- the sizes of a window are those of its base and of its shared steps
-sized : ProblemsAreValid → (window : WindowForm) (encoded : EncodedForm) (shared : List Step) → base_due window ≡ Ok encoded → IsSized (base_of window).kinds (base_of window).clauses shared (sizes_of encoded shared)
+sized : ProblemsAreValid → (window encoded : WindowForm) (shared : List Step) → base_due window ≡ Ok encoded → IsSized (base_of window).kinds (base_of window).clauses shared (sizes_of encoded shared)
 sized valid window encoded shared due =
     let is = is_encoded window encoded due in
-    let problem : encoded.problem ≡ base_of window = ap (λ (e : EncodedForm). e.problem) is.same in
     record {
-      clauses = ap (λ p. length p.clauses) problem;
-      variables = ap (λ p. length p.kinds) problem;
+      clauses = ap (λ (w : WindowForm). length (base_of w).clauses) is.same;
+      variables = ap (λ (w : WindowForm). length (base_of w).kinds) is.same;
       shared = refl;
-      below = (is_valid valid window encoded is).clauses;
+      below = (is_valid valid window is.encodable).clauses;
     }
 
 module _ (window : WindowForm) (budget : ℕ) (properties : List PropertyForm) (old : List Step) (sizes : Sizes) (is : IsSized (base_of window).kinds (base_of window).clauses old sizes) (records : List PropertyRecord)
@@ -79,7 +79,7 @@ module _ (window : WindowForm) (budget : ℕ) (properties : List PropertyForm) (
           checks_front (base_of window).edges (base_of window).kinds (base_of window).clauses old begins.0 (subst (SharedPasses (base_of window)) begins.1 checks)
 
 module _ (valid : ProblemsAreValid) (budget : ℕ) (properties : List PropertyForm) where
-  body_kept : (window : WindowForm) (encoded : EncodedForm) (told : WindowRecord) (body : WindowBody) → base_due window ≡ Ok encoded → (b : Bool) → are_few (sizes_of encoded told.shared) body ≡ b
+  body_kept : (window encoded : WindowForm) (told : WindowRecord) (body : WindowBody) → base_due window ≡ Ok encoded → (b : Bool) → are_few (sizes_of encoded told.shared) body ≡ b
       → AcceptsBody window budget properties told.shared (Ok encoded) body
       ↔ AcceptsBody window budget properties (if b then with_entries (sizes_of encoded told.shared) told.shared (entries_told body) else told.shared) (Ok encoded)
       (if b then body_by (compacted_steps (sizes_of encoded told.shared) (with_entries (sizes_of encoded told.shared) told.shared (entries_told body))) body else body)
@@ -101,15 +101,15 @@ module _ (valid : ProblemsAreValid) (budget : ℕ) (properties : List PropertyFo
   window_kept : (window : WindowForm) (told : WindowRecord) → AcceptsWindow properties budget window (compacted_window window told) ↔ AcceptsWindow properties budget window told
   window_kept window told = by (base_due window) refl
     where
-      by : (due : Result EncodedForm BaseFault) → base_due window ≡ due
+      by : (due : Result WindowForm BaseFault) → base_due window ≡ due
           → AcceptsBody window budget properties (compacted_over due told).shared (base_due window) (compacted_over due told).body ↔ AcceptsBody window budget properties told.shared (base_due window) told.body
       by (Err fault) is = (λ h. h, λ h. h)
       by (Ok encoded) is =
           let sizes = sizes_of encoded told.shared in
           let parts = by_parts window sizes told (are_few sizes told.body) in
           let kept = body_kept window encoded told told.body is (are_few sizes told.body) refl in
-          let P : Result EncodedForm BaseFault → Type 0 = λ due. AcceptsBody window budget properties told.shared due told.body in
-          let Q : Result EncodedForm BaseFault → Type 0 =
+          let P : Result WindowForm BaseFault → Type 0 = λ due. AcceptsBody window budget properties told.shared due told.body in
+          let Q : Result WindowForm BaseFault → Type 0 =
           λ due. AcceptsBody window budget properties (if are_few sizes told.body then with_entries sizes told.shared (entries_told told.body) else told.shared) due
           (if are_few sizes told.body then body_by (compacted_steps sizes (with_entries sizes told.shared (entries_told told.body))) told.body else told.body) in
           (λ h. subst P (sym is) (kept.1 (subst Q is (parts.0 h))), λ h. parts.1 (subst Q (sym is) (kept.0 (subst P is h))))
@@ -147,10 +147,10 @@ same_windows properties budget (window ∷ windows) (one ∷ ones) (other ∷ ot
 
 pub keeps_acceptance : ProblemsAreValid → CompactKeepsAcceptance
 keeps_acceptance valid = record {
-  definition = λ recording properties report. windows_kept valid report.budget properties (windows_of recording) report.windows;
+  definition = λ recording properties report. windows_kept valid report.budget properties (all_windows recording) report.windows;
   made = λ recording properties report made is.
-      let kept = windows_kept valid report.budget properties (windows_of recording) report.windows in
-      let alike = same_windows properties report.budget (windows_of recording) (compacted_windows (windows_of recording) report.windows) made.windows is.windows in
-      let P : ℕ → Type 0 = λ budget. AllZip (AcceptsWindow properties budget) (windows_of recording) made.windows in
+      let kept = windows_kept valid report.budget properties (all_windows recording) report.windows in
+      let alike = same_windows properties report.budget (all_windows recording) (compacted_windows (all_windows recording) report.windows) made.windows is.windows in
+      let P : ℕ → Type 0 = λ budget. AllZip (AcceptsWindow properties budget) (all_windows recording) made.windows in
       (λ h. kept.0 (alike.0 (subst P is.budget h)), λ h. subst P (sym is.budget) (alike.1 (kept.1 h)));
 }

@@ -5,9 +5,9 @@ use Rattle.gp_clause.specs.declared.edge.Edge.{Edge}
 use Rattle.gp_clause.specs.declared.kind.Kind.{Kind}
 use Rattle.gp_clause.specs.declared.lit.Lit.{Lit}
 use Rattle.gp_clause.specs.Clause.{NamesBelow}
-use Rattle.gp_derivation.specs.Step.{Passes}
+use Rattle.gp_certificate.specs.Step.{Passes}
 use Rattle.gp_base.specs.ListLaws.{slice_get_front}
-use Rattle.gp_derivation.specs.PassingLaws.{passes_alike}
+use Rattle.gp_certificate.specs.PassingLaws.{passes_alike}
 
 -- locals may be left out
 pub passes_bare : (edges : List Edge) (kinds locals : List Kind) (clauses : List (List Lit)) (clause : List Lit) → All (NamesBelow (length kinds)) clauses → NamesBelow (length kinds) clause

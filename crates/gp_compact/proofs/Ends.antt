@@ -4,8 +4,8 @@ use Rattle.std.proofs.lemmas.List.{length-append, length-take, map_push, same_fr
 use Rattle.gp_clause.specs.declared.lit.Lit.{Lit}
 use Rattle.gp_clause.specs.declared.problem.Query.{Query}
 use Rattle.gp_clause.specs.Lit.{opposite}
-use Rattle.gp_derivation.specs.declared.step.Step.{Step}
-use Rattle.gp_derivation.specs.Certificate.{IsLast}
+use Rattle.gp_certificate.specs.declared.step.Step.{Step}
+use Rattle.gp_certificate.specs.Certificate.{IsLast}
 use Rattle.gp_derivation.specs.Numbering.{with_hints}
 use Rattle.gp_compact.specs.declared.moving.Sizes.{Sizes}
 use Rattle.gp_checker.specs.Accepted.{RefutesAtLast}

@@ -11,7 +11,7 @@ use Rattle.std.proofs.lemmas.List.Folds.{list_any_at, list_any_none, position_or
 use Rattle.std.proofs.lemmas.List.Sums.{fails_before_first, passes_at_first, prefix_len-le-length}
 use Rattle.std.proofs.lemmas.Option.{cond_some, none-some}
 use Rattle.gp_clause.specs.Lit.{lit_eq}
-use Rattle.gp_derivation.specs.declared.step.Step.{Step}
+use Rattle.gp_certificate.specs.declared.step.Step.{Step}
 use Rattle.gp_compact.specs.contracts.shared_list.StepKeyPartialEq.TheImpl.{eq-value}
 use Rattle.gp_compact.specs.declared.shared_list.StepKey.{StepKey}
 use Rattle.gp_compact.specs.Keys.{IsKeyOf, TellsFirsts, is_key_of}

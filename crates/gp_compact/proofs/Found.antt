@@ -9,7 +9,7 @@ use Rattle.std.proofs.lemmas.List.Sums.{passes_at_first}
 use Rattle.std.proofs.lemmas.Option.{cond_some, none-some, slice_get-get_or}
 use Rattle.gp_clause.specs.Lit.{lit_eq}
 use Rattle.gp_clause.specs.LitLaws.{lits_decide}
-use Rattle.gp_derivation.specs.declared.step.Step.{Step}
+use Rattle.gp_certificate.specs.declared.step.Step.{Step}
 use Rattle.gp_compact.specs.declared.moving.Sizes.{Sizes}
 use Rattle.gp_compact.specs.Moving.{moved_step, moves, place_of, step_eq}
 use Rattle.gp_compact.proofs.Sized.{is_less}

@@ -9,10 +9,10 @@ use Rattle.std.proofs.lemmas.Option.{none-some, slice_get-map, slice_get_past}
 use Rattle.gp_clause.specs.declared.edge.Edge.{Edge}
 use Rattle.gp_clause.specs.declared.kind.Kind.{Kind}
 use Rattle.gp_clause.specs.declared.lit.Lit.{Lit}
-use Rattle.gp_derivation.specs.declared.step.Step.{Step}
-use Rattle.gp_derivation.specs.Certificate.{StepChecks, StepsCheck, clauses_of}
+use Rattle.gp_certificate.specs.declared.step.Step.{Step}
+use Rattle.gp_certificate.specs.Certificate.{StepChecks, StepsCheck, clauses_of, StepPasses}
 use Rattle.gp_base.specs.ListLaws.{slice_get_back, slice_get_front}
-use Rattle.gp_derivation.specs.Shared.{OwnStepsPass, StepPasses}
+use Rattle.gp_certificate.specs.Shared.{OwnStepsPass}
 use Rattle.gp_compact.specs.declared.moving.Sizes.{Sizes}
 use Rattle.gp_compact.specs.Moving.{are_movable, first_own, front_of, moved_step, moves, place_at, place_of, rests_on_earlier, step_eq, with_certificate, with_moved, with_step, with_steps}
 use Rattle.gp_compact.proofs.Found.{both, placed_there}

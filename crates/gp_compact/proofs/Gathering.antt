@@ -8,12 +8,11 @@ use Rattle.gp_clause.specs.declared.edge.Edge.{Edge}
 use Rattle.gp_clause.specs.declared.kind.Kind.{Kind}
 use Rattle.gp_clause.specs.declared.lit.Lit.{Lit}
 use Rattle.gp_clause.specs.Clause.{NamesBelow}
-use Rattle.gp_derivation.specs.declared.step.Step.{Step}
-use Rattle.gp_derivation.specs.Certificate.{StepChecks, StepsCheck, clauses_of}
+use Rattle.gp_certificate.specs.declared.step.Step.{Step}
+use Rattle.gp_certificate.specs.Certificate.{StepChecks, StepsCheck, clauses_of, StepPasses}
 use Rattle.gp_base.specs.ListLaws.{contains_got}
-use Rattle.gp_derivation.specs.NamedLaws.{named_all}
-use Rattle.gp_derivation.specs.Shared.{StepPasses}
-use Rattle.gp_derivation.specs.Step.{Passes, named}
+use Rattle.gp_certificate.specs.NamedLaws.{named_all}
+use Rattle.gp_certificate.specs.Step.{Passes, named}
 use Rattle.gp_compact.specs.declared.moving.Sizes.{Sizes}
 use Rattle.gp_compact.specs.Moving.{first_own, moved_step, moves, names_shared, place_at, shared_number}
 use Rattle.gp_compact.proofs.Alike.{passes_bare}

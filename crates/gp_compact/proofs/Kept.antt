@@ -7,10 +7,10 @@ use Rattle.gp_clause.specs.declared.kind.Kind.{Kind}
 use Rattle.gp_clause.specs.declared.problem.Query.{Query}
 use Rattle.gp_constraint.specs.Base.{base_of}
 use Rattle.gp_constraint.specs.Query.{query_of}
-use Rattle.gp_derivation.specs.declared.step.Step.{Step}
-use Rattle.gp_derivation.specs.Certificate.{clauses_of}
+use Rattle.gp_certificate.specs.declared.step.Step.{Step}
+use Rattle.gp_certificate.specs.Certificate.{clauses_of}
 use Rattle.gp_derivation.specs.Numbering.{with_hints}
-use Rattle.gp_derivation.specs.Shared.{OwnStepsPass, SharedPasses}
+use Rattle.gp_certificate.specs.Shared.{OwnStepsPass, SharedPasses}
 use Rattle.gp_instance.specs.declared.instance.Instance.{Instance}
 use Rattle.gp_instance.specs.declared.instance.InstancesFault.{InstancesFault}
 use Rattle.gp_instance.specs.declared.instance.InstancesFault.TheVariants as fault

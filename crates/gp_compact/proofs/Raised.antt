@@ -7,10 +7,10 @@ use Rattle.std.proofs.lemmas.List.Elements.{All-nil, All-weaker}
 use Rattle.gp_clause.specs.declared.edge.Edge.{Edge}
 use Rattle.gp_clause.specs.declared.kind.Kind.{Kind}
 use Rattle.gp_clause.specs.declared.lit.Lit.{Lit}
-use Rattle.gp_derivation.specs.declared.step.Step.{Step}
-use Rattle.gp_derivation.specs.Certificate.{clauses_of}
+use Rattle.gp_certificate.specs.declared.step.Step.{Step}
+use Rattle.gp_certificate.specs.Certificate.{clauses_of, StepPasses}
 use Rattle.gp_derivation.specs.Numbering.{with_hints}
-use Rattle.gp_derivation.specs.Shared.{OwnStepsPass, StepPasses}
+use Rattle.gp_certificate.specs.Shared.{OwnStepsPass}
 use Rattle.gp_compact.specs.declared.moving.Sizes.{Sizes}
 use Rattle.gp_compact.specs.Moving.{first_own, raised}
 use Rattle.gp_compact.proofs.Renamed.{NamesSame, passes_renamed, renamed_passes}

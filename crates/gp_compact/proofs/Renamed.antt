@@ -6,11 +6,10 @@ use Rattle.std.proofs.lemmas.Option.{slice_get-get_or, slice_get_within}
 use Rattle.gp_clause.specs.declared.edge.Edge.{Edge}
 use Rattle.gp_clause.specs.declared.kind.Kind.{Kind}
 use Rattle.gp_clause.specs.declared.lit.Lit.{Lit}
-use Rattle.gp_derivation.specs.declared.step.Step.{Step}
-use Rattle.gp_derivation.specs.Certificate.{hinted}
+use Rattle.gp_certificate.specs.declared.step.Step.{Step}
 use Rattle.gp_derivation.specs.Numbering.{with_hints}
-use Rattle.gp_derivation.specs.Shared.{StepPasses, usable}
-use Rattle.gp_derivation.specs.Step.{Passes, named}
+use Rattle.gp_certificate.specs.Certificate.{usable, StepPasses}
+use Rattle.gp_certificate.specs.Step.{Passes, named}
 
 -- a hint names a clause in a first list, and its new number the same in a second
 pub record NamesSame (first second : List (List Lit)) (f : ℕ → ℕ) (hint : ℕ) : Type 0 where
@@ -68,6 +67,6 @@ module _ (edges : List Edge) (kinds : List Kind) (first second : List (List Lit)
   usable_named free (hint ∷ hints) some = refl
 
 -- and in a list without others
-pub hinted_named : (earlier : List (List Lit)) (hints : List ℕ) → 0 < length hints → hinted earlier hints ≡ named earlier hints
+pub hinted_named : (earlier : List (List Lit)) (hints : List ℕ) → 0 < length hints → usable earlier earlier hints ≡ named earlier hints
 hinted_named earlier [] some = absurd (omega arith)
 hinted_named earlier (hint ∷ hints) some = refl

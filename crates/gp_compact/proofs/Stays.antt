@@ -10,12 +10,12 @@ use Rattle.gp_clause.specs.declared.edge.Edge.{Edge}
 use Rattle.gp_clause.specs.declared.kind.Kind.{Kind}
 use Rattle.gp_clause.specs.declared.lit.Lit.{Lit}
 use Rattle.gp_clause.specs.Clause.{NamesBelow}
-use Rattle.gp_derivation.specs.declared.step.Step.{Step}
-use Rattle.gp_derivation.specs.Certificate.{StepChecks, StepsCheck, clauses_of}
+use Rattle.gp_certificate.specs.declared.step.Step.{Step}
+use Rattle.gp_certificate.specs.Certificate.{StepChecks, StepsCheck, clauses_of, StepPasses}
 use Rattle.gp_base.specs.ListLaws.{slice_get_front}
 use Rattle.gp_derivation.specs.Numbering.{with_hints}
-use Rattle.gp_derivation.specs.Shared.{OwnStepsPass, StepPasses}
-use Rattle.gp_derivation.specs.Step.{Passes, named}
+use Rattle.gp_certificate.specs.Shared.{OwnStepsPass}
+use Rattle.gp_certificate.specs.Step.{Passes, named}
 use Rattle.gp_compact.specs.declared.moving.Sizes.{Sizes}
 use Rattle.gp_compact.specs.Moving.{are_movable, first_own, moved_step, moves, new_number, own_number, place_at, place_of, places_of, rests_on_earlier, shared_number, staying}
 use Rattle.gp_compact.proofs.Alike.{passes_local}

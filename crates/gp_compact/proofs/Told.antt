@@ -5,8 +5,8 @@ use Rattle.std.specs.List.{AllZip, list_any}
 use Rattle.std.proofs.lemmas.List.{length-map}
 use Rattle.std.proofs.lemmas.List.Elements.{All-append, All-cons, All-head, All-map, All-nil, All-push, All-tail, All-take, All-weaker}
 use Rattle.gp_constraint.specs.declared.fault.BaseFault.{BaseFault}
-use Rattle.gp_constraint.specs.Encoded.{EncodedForm, base_due}
-use Rattle.gp_derivation.specs.declared.step.Step.{Step}
+use Rattle.gp_constraint.specs.Encoded.{base_due}
+use Rattle.gp_certificate.specs.declared.step.Step.{Step}
 use Rattle.gp_derivation.specs.Numbering.{with_hints}
 use Rattle.gp_report.specs.declared.record.Answer.{Answer}
 use Rattle.gp_report.specs.declared.record.Answer.TheVariants.{Found, Impossible, Undecided}
@@ -22,8 +22,8 @@ use Rattle.gp_report.specs.Report.{IsEntry, IsPropertyBody, IsPropertyRecord, Is
 use Rattle.gp_report.specs.ReportForm.{ReportForm}
 use Rattle.gp_window.specs.RecordingForm.{RecordingForm}
 use Rattle.gp_window.specs.WindowForm.{WindowForm, numbers_from}
+use Rattle.gp_window.specs.Windows.{all_windows}
 use Rattle.gp_compact.specs.declared.moving.Sizes.{Sizes}
-use Rattle.gp_checker.specs.Accepted.{windows_of}
 use Rattle.gp_compact.specs.Compact.{IsSameWindow, answer_by, are_few, body_by, compacted_by, compacted_over, compacted_window, compacted_windows, entries_by, entries_told, entry_by, over_list, own_steps, property_by, sizes_of, with_entries}
 use Rattle.gp_compact.specs.Moving.{are_movable, compacted_steps, first_own, front_of, moved_step, moves, new_number, place_of, places_of, raised, staying, step_eq, with_certificate, with_moved, with_step, with_steps}
 use Rattle.gp_compact.proofs.NewNumbers.{staying_all}
@@ -133,7 +133,7 @@ by_told format sizes told is = by (are_few sizes told.body)
 window_told : (format : ℕ) (window : WindowForm) (told : WindowRecord) → IsWindowRecord format told → IsWindowRecord 2 (compacted_window window told)
 window_told format window told is = by (base_due window)
   where
-    by : (due : Result EncodedForm BaseFault) → IsWindowRecord 2 (compacted_over due told)
+    by : (due : Result WindowForm BaseFault) → IsWindowRecord 2 (compacted_over due told)
     by (Ok encoded) = by_told format (sizes_of encoded told.shared) told is
     by (Err fault) = record { shared = is.shared; first_format = λ wrong. absurd (omega (arith, wrong)); body = is.body }
 
@@ -156,7 +156,7 @@ by_number sizes told = by (are_few sizes told.body)
 window_number : (window : WindowForm) (told : WindowRecord) → (compacted_window window told).number ≡ told.number
 window_number window told = by (base_due window)
   where
-    by : (due : Result EncodedForm BaseFault) → (compacted_over due told).number ≡ told.number
+    by : (due : Result WindowForm BaseFault) → (compacted_over due told).number ≡ told.number
     by (Ok encoded) = by_number (sizes_of encoded told.shared) told
     by (Err fault) = refl
 
@@ -190,16 +190,16 @@ same_told (one ∷ ones) (other ∷ others) same told =
     (same_told ones others same.1 (All-tail (IsWindowRecord 2) one ones told))
 
 -- the report that is made can be told
-pub report_told : (recording : RecordingForm) (report : ReportForm) (made : List WindowRecord) → IsReport report → AllZip IsSameWindow (compacted_windows (windows_of recording) report.windows) made
+pub report_told : (recording : RecordingForm) (report : ReportForm) (made : List WindowRecord) → IsReport report → AllZip IsSameWindow (compacted_windows (all_windows recording) report.windows) made
     → IsReport (record { format = 2; budget = report.budget; windows = made })
 report_told recording report made is same =
-    let all = compacted_windows (windows_of recording) report.windows in
-    let numbers : map number_in made ≡ map number_in report.windows = same_numbers all made same ∙ windows_numbers (windows_of recording) report.windows in
+    let all = compacted_windows (all_windows recording) report.windows in
+    let numbers : map number_in made ≡ map number_in report.windows = same_numbers all made same ∙ windows_numbers (all_windows recording) report.windows in
     let count : length report.windows ≡ length made = sym (length-map report.windows number_in) ∙ sym (ap length numbers) ∙ length-map made number_in in
     record {
       format = inr refl;
       budget_some = is.budget_some;
       budget_few = is.budget_few;
       numbered = numbers ∙ is.numbered ∙ ap (numbers_from 1) count;
-      windows = same_told all made same (windows_told report.format (windows_of recording) report.windows is.windows);
+      windows = same_told all made same (windows_told report.format (all_windows recording) report.windows is.windows);
     }

@@ -4,7 +4,7 @@ use Rattle.std.specs.List.{sum_by}
 use Rattle.std.proofs.lemmas.Bool.{cases_lt}
 use Rattle.std.proofs.lemmas.List.{drop_more, length-append, length-drop}
 use Rattle.std.proofs.lemmas.List.Sums.{fold-append, get_or-le-sum_by, sum_by-append, sum_by-cons}
-use Rattle.gp_derivation.specs.declared.step.Step.{Step}
+use Rattle.gp_certificate.specs.declared.step.Step.{Step}
 use Rattle.gp_report.specs.declared.record.Entry.{Entry}
 use Rattle.gp_report.specs.declared.record.PropertyRecord.{PropertyRecord}
 use Rattle.gp_report.specs.Entries.{entries_among, entries_in}

@@ -8,7 +8,7 @@ use Rattle.std.proofs.lemmas.List.{append_assoc, length-map, take-append-drop, t
 use Rattle.std.proofs.lemmas.List.Elements.{all_zip_more}
 use Rattle.std.proofs.lemmas.Option.{get_or_from_slice_get, none-some, same_Some, slice_get_within, slice_get_past, slice_get_read, slice_get-get_or}
 use Rattle.gp_derivation.specs.declared.record.WorkerRecord.{WorkerRecord}
-use Rattle.gp_derivation.specs.declared.step.Step.{Step}
+use Rattle.gp_certificate.specs.declared.step.Step.{Step}
 use Rattle.gp_report.specs.declared.record.Answer.{Answer}
 use Rattle.gp_report.specs.declared.record.Answer.TheVariants.{Found, Impossible, Undecided}
 use Rattle.gp_report.specs.declared.record.Entry.{Entry}
@@ -22,8 +22,8 @@ use Rattle.gp_report.specs.Entries.{entries_among, entries_in}
 use Rattle.gp_window.specs.RecordingForm.{RecordingForm}
 use Rattle.gp_window.specs.Walk.{WalkForm}
 use Rattle.gp_window.specs.WindowForm.{WindowForm, numbers_from, window_of}
-use Rattle.gp_checker.specs.Accepted.{windows_of}
-use Rattle.gp_checker.specs.WindowLaws.{count_numbers, window_there}
+use Rattle.gp_window.specs.Windows.{all_windows}
+use Rattle.gp_window.specs.WindowsLaws.{count_numbers, window_there}
 use Rattle.gp_compact.specs.Compact.{IsSameWindow, answer_by, body_by, compacted_window, compacted_windows, entries_by, entry_by, property_by, steps_in}
 use Rattle.gp_compact.specs.SameRecords.{IsSameWorker}
 use Rattle.gp_compact.proofs.Walks.{steps_parted}
@@ -69,34 +69,34 @@ same_here walk r number told new recording is same =
 module _ (r : RecordingForm) (records : List WindowRecord) where
   -- the windows before this number were made
   abbrev pub AreMade : ℕ → List WindowRecord → Type 0
-  AreMade number made = AllZip IsSameWindow (take (number - 1) (compacted_windows (windows_of r) records)) made
+  AreMade number made = AllZip IsSameWindow (take (number - 1) (compacted_windows (all_windows r) records)) made
 
   pub made_more : (number : ℕ) (told new : WindowRecord) (made next : List WindowRecord) → 1 ≤ number → number ≤ r.manifest.epochs → slice_get records (number - 1) ≡ Some told
-      → IsSameWindow (compacted_window (window_of r number) told) new → next ≡ made ++ new ∷ [] → AreMade number made → AllZip IsSameWindow (take number (compacted_windows (windows_of r) records)) next
+      → IsSameWindow (compacted_window (window_of r number) told) new → next ≡ made ++ new ∷ [] → AreMade number made → AllZip IsSameWindow (take number (compacted_windows (all_windows r) records)) next
   made_more number told new made next some within there same adds before =
-      let all = compacted_windows (windows_of r) records in
+      let all = compacted_windows (all_windows r) records in
       let window = compacted_window (window_of r number) told in
-      let at : slice_get (compacted_windows (windows_of r) records) (number - 1) ≡ Some (compacted_window (window_of r number) told) =
-      window_at (windows_of r) records (number - 1) (window_of r number) told (window_there r number some within) there in
-      let inside : number - 1 < length (compacted_windows (windows_of r) records) = slice_get_within all (number - 1) window at in
-      let is : compacted_window (window_of r number) told ≡ get_or (compacted_windows (windows_of r) records) (number - 1) (compacted_window (window_of r number) told) = sym (get_or_from_slice_get all (number - 1) window window at) in
+      let at : slice_get (compacted_windows (all_windows r) records) (number - 1) ≡ Some (compacted_window (window_of r number) told) =
+      window_at (all_windows r) records (number - 1) (window_of r number) told (window_there r number some within) there in
+      let inside : number - 1 < length (compacted_windows (all_windows r) records) = slice_get_within all (number - 1) window at in
+      let is : compacted_window (window_of r number) told ≡ get_or (compacted_windows (all_windows r) records) (number - 1) (compacted_window (window_of r number) told) = sym (get_or_from_slice_get all (number - 1) window window at) in
       let place : number - 1 + 1 ≡ number = omega (arith, some) in
-      subst (λ (n : ℕ). AllZip IsSameWindow (take n (compacted_windows (windows_of r) records)) next) place
-      (subst (AllZip IsSameWindow (take (number - 1 + 1) (compacted_windows (windows_of r) records))) (sym adds) (all_zip_more IsSameWindow all made (number - 1) window new inside is before same))
+      subst (λ (n : ℕ). AllZip IsSameWindow (take n (compacted_windows (all_windows r) records)) next) place
+      (subst (AllZip IsSameWindow (take (number - 1 + 1) (compacted_windows (all_windows r) records))) (sym adds) (all_zip_more IsSameWindow all made (number - 1) window new inside is before same))
 
   -- that at which a walk stands was made
   pub made_here : (walk : WalkForm) (number : ℕ) (told : Bor WindowRecord) (new : WindowRecord) (made next : List WindowRecord) → walk.recording ≡ r → number ≡ walk.number
       → (1 ≤ number) × (number ≤ walk.recording.manifest.epochs) → IsItemAt records (number - 1) (Some told) → IsSameWindow (compacted_window (window_of walk.recording walk.number) told.now) new
-      → next ≡ made ++ new ∷ [] → AreMade walk.number made → AllZip IsSameWindow (take number (compacted_windows (windows_of r) records)) next
+      → next ≡ made ++ new ∷ [] → AreMade walk.number made → AllZip IsSameWindow (take number (compacted_windows (all_windows r) records)) next
   made_here walk number told new made next recording is within item same adds before =
       made_more number told.now new made next within.0 (subst (λ (one : RecordingForm). number ≤ one.manifest.epochs) recording within.1) (lent_at records (number - 1) (Some told) item)
       (same_here walk r number told.now new recording is same) adds (subst (λ (n : ℕ). AreMade n made) (sym is) before)
 
   -- no more windows are told
-  pub made_all : (number : ℕ) (made : List WindowRecord) → slice_get records (number - 1) ≡ None → AreMade number made → AllZip IsSameWindow (compacted_windows (windows_of r) records) made
+  pub made_all : (number : ℕ) (made : List WindowRecord) → slice_get records (number - 1) ≡ None → AreMade number made → AllZip IsSameWindow (compacted_windows (all_windows r) records) made
   made_all number made none before =
-      let all = compacted_windows (windows_of r) records in
-      let few : length (compacted_windows (windows_of r) records) ≤ number - 1 = omega (arith, windows_count (windows_of r) records, ended) in
+      let all = compacted_windows (all_windows r) records in
+      let few : length (compacted_windows (all_windows r) records) ≤ number - 1 = omega (arith, windows_count (all_windows r) records, ended) in
       subst (λ (xs : List WindowRecord). AllZip IsSameWindow xs made) (take_all (number - 1) all few) before
     where
       ended : length records ≤ number - 1
@@ -113,15 +113,15 @@ module _ (r : RecordingForm) (records : List WindowRecord) where
   -- at first none were
   pub made_none : (number : ℕ) (made : List WindowRecord) → number ≡ 1 → made ≡ [] → AreMade number made
   made_none number made first none =
-      subst (λ (n : ℕ). AllZip IsSameWindow (take (n - 1) (compacted_windows (windows_of r) records)) made) (sym first) (subst (AllZip IsSameWindow []) (sym none) tt)
+      subst (λ (n : ℕ). AllZip IsSameWindow (take (n - 1) (compacted_windows (all_windows r) records)) made) (sym first) (subst (AllZip IsSameWindow []) (sym none) tt)
 
   -- those over the epochs stay as they are
-  pub made_whole : (number : ℕ) → number ≡ r.manifest.epochs → take number (compacted_windows (windows_of r) records) ++ slice_range records number (length records) ≡ compacted_windows (windows_of r) records
+  pub made_whole : (number : ℕ) → number ≡ r.manifest.epochs → take number (compacted_windows (all_windows r) records) ++ slice_range records number (length records) ≡ compacted_windows (all_windows r) records
   made_whole number last =
-      let all = compacted_windows (windows_of r) records in
-      let size : length (windows_of r) ≡ number = length-map (numbers_from 1 r.manifest.epochs) (window_of r) ∙ count_numbers 1 r.manifest.epochs ∙ sym last in
-      let past : drop number (compacted_windows (windows_of r) records) ≡ drop number records = subst (λ (n : ℕ). drop n (compacted_windows (windows_of r) records) ≡ drop n records) size (windows_past (windows_of r) records) in
-      ap (λ (xs : List WindowRecord). take number (compacted_windows (windows_of r) records) ++ xs) (take_rest records number ∙ sym past) ∙ take-append-drop number all
+      let all = compacted_windows (all_windows r) records in
+      let size : length (all_windows r) ≡ number = length-map (numbers_from 1 r.manifest.epochs) (window_of r) ∙ count_numbers 1 r.manifest.epochs ∙ sym last in
+      let past : drop number (compacted_windows (all_windows r) records) ≡ drop number records = subst (λ (n : ℕ). drop n (compacted_windows (all_windows r) records) ≡ drop n records) size (windows_past (all_windows r) records) in
+      ap (λ (xs : List WindowRecord). take number (compacted_windows (all_windows r) records) ++ xs) (take_rest records number ∙ sym past) ∙ take-append-drop number all
 
 -- one window more is copied
 pub rest_more : (ones records made next : List WindowRecord) (told new : WindowRecord) (i : ℕ) → i < length records → told ≡ get_or records i told → IsSameWindow told new → next ≡ made ++ new ∷ []

@@ -2,8 +2,9 @@
 use Rattle.std.specs.Prelude.{ℕ, ◌≡◌, ◌+◌, ◌^◌, ◌↔◌, Bool, List, [], ◌∷◌, Result, Ok, Err, if◌then◌else◌, fold, length, map, nat_lt, sum_by}
 use Rattle.std.specs.List.{AllZip}
 use Rattle.gp_constraint.specs.declared.fault.BaseFault.{BaseFault}
-use Rattle.gp_constraint.specs.Encoded.{EncodedForm, base_due}
-use Rattle.gp_derivation.specs.declared.step.Step.{Step}
+use Rattle.gp_constraint.specs.Encoded.{base_due}
+use Rattle.gp_certificate.specs.declared.step.Step.{Step}
+use Rattle.gp_constraint.specs.Base.{base_of}
 use Rattle.gp_property.specs.PropertyForm.{PropertyForm}
 use Rattle.gp_report.specs.declared.record.Answer.{Answer}
 use Rattle.gp_report.specs.declared.record.Answer.TheVariants.{Impossible}
@@ -18,8 +19,9 @@ use Rattle.gp_report.specs.Entries.{entries_among, properties_in}
 use Rattle.gp_report.specs.ReportForm.{ReportForm}
 use Rattle.gp_window.specs.RecordingForm.{RecordingForm}
 use Rattle.gp_window.specs.WindowForm.{WindowForm}
+use Rattle.gp_window.specs.Windows.{all_windows}
 use Rattle.gp_compact.specs.declared.moving.Sizes.{Sizes}
-use Rattle.gp_checker.specs.Accepted.{IsAccepted, windows_of}
+use Rattle.gp_checker.specs.Accepted.{IsAccepted}
 use Rattle.gp_compact.specs.Moving.{compacted_steps, first_own, with_certificate}
 use Rattle.gp_compact.specs.SameRecords.{IsSameWorker}
 
@@ -62,11 +64,11 @@ abbrev pub body_by : (List Step → List Step) → WindowBody → WindowBody
 body_by f (TooLarge events clauses) = TooLarge events clauses
 body_by f (Answers properties) = Answers (map (property_by f) properties)
 
--- by what the steps of a window are numbered that has these constraints and shared steps
-abbrev pub sizes_of : EncodedForm → List Step → Sizes
-sizes_of encoded shared = record {
-  clauses = length encoded.problem.clauses;
-  variables = length encoded.problem.kinds;
+-- by what the steps of a window are numbered that has these shared steps
+abbrev pub sizes_of : WindowForm → List Step → Sizes
+sizes_of window shared = record {
+  clauses = length (base_of window).clauses;
+  variables = length (base_of window).kinds;
   shared = length shared;
 }
 
@@ -87,8 +89,8 @@ over_list sizes shared told = record {
 abbrev pub compacted_by : Sizes → WindowRecord → WindowRecord
 compacted_by sizes told = if are_few sizes told.body then over_list sizes (with_entries sizes told.shared (entries_told told.body)) told else told
 
--- a window whose constraints are these: nothing moves where it is too large
-abbrev pub compacted_over : Result EncodedForm BaseFault → WindowRecord → WindowRecord
+-- a window: nothing moves where it is too large
+abbrev pub compacted_over : Result WindowForm BaseFault → WindowRecord → WindowRecord
 compacted_over (Ok encoded) told = compacted_by (sizes_of encoded told.shared) told
 compacted_over (Err fault) told = told
 
@@ -107,7 +109,7 @@ abbrev pub compacted : RecordingForm → ReportForm → ReportForm
 compacted recording report = record {
   format = 2;
   budget = report.budget;
-  windows = compacted_windows (windows_of recording) report.windows;
+  windows = compacted_windows (all_windows recording) report.windows;
 }
 
 -- two windows are told alike, and their workers did the same

@@ -3,7 +3,7 @@ use Rattle.std.specs.Prelude.{ℕ, ◌≡◌, ◌&&◌, Bool, List, nat_eq, posi
 use Rattle.std.specs.Cmp.Lexicographic.{pointwise}
 use Rattle.std.specs.Map.{lookup}
 use Rattle.gp_clause.specs.Lit.{lit_eq}
-use Rattle.gp_derivation.specs.declared.step.Step.{Step}
+use Rattle.gp_certificate.specs.declared.step.Step.{Step}
 use Rattle.gp_compact.specs.declared.shared_list.StepKey.{StepKey}
 use Rattle.gp_compact.specs.Moving.{step_eq}
 

@@ -1,6 +1,6 @@
 -- What becomes of the steps of certificates where a window is copied.
 use Rattle.std.specs.Prelude.{ℕ, ◌+◌, ◌<◌, ◌≤◌, ◌^◌, List, length}
-use Rattle.gp_derivation.specs.declared.step.Step.{Step}
+use Rattle.gp_certificate.specs.declared.step.Step.{Step}
 use Rattle.gp_compact.specs.declared.rewriting.Rewriting.{Rewriting}
 use Rattle.gp_compact.specs.declared.rewriting.Rewriting.TheVariants.{Kept, Over}
 use Rattle.gp_compact.specs.Moving.{compacted_steps}

@@ -1,9 +1,8 @@
-ghost use Rattle.std.specs.Prelude.{◌≡◌, ◌+◌, ◌++◌, ◌<◌, ◌^◌, if◌then◌else◌, true, IfOk, List, None, Ok, Some, length, min};
+ghost use Rattle.std.specs.Prelude.{◌≡◌, ◌+◌, ◌++◌, if◌then◌else◌, true, IfOk, List, None, Some, length, min};
 ghost use Rattle.std.specs.List.{AllZip};
-ghost use Rattle.gp_constraint.specs.Encoded.{base_due};
 ghost use Rattle.gp_report.specs.declared.record.WindowRecord.{WindowRecord};
 ghost use Rattle.gp_window.specs.WindowForm.{window_of};
-ghost use Rattle.gp_checker.specs.Accepted.{windows_of};
+ghost use Rattle.gp_window.specs.Windows.{all_windows};
 ghost use Rattle.gp_compact.specs.Compact.{CompactKeepsAcceptance, IsCompacted, IsSameWindow, are_few, compacted_by, compacted_windows, compacted_window, entries_told, own_steps, sizes_of, steps_in};
 
 use crate::copying::{copy_steps, copy_workers};
@@ -11,8 +10,8 @@ use crate::moving::Sizes;
 use crate::rewriting::{Rewriting, rewrite_body};
 use crate::sharing::share;
 use gp_base::Row;
+use gp_certificate::Step;
 use gp_constraint::{BaseFault, Encoded, base, problems_are_valid};
-use gp_derivation::Step;
 use gp_report::{Answer, Entry, Report, WindowBody, WindowRecord};
 use gp_window::{Recording, Window, WindowWalk};
 use std::alloc::{AllocError, Global};
@@ -41,7 +40,7 @@ fn compact_windows(
     recording: &Recording,
     records: &[WindowRecord],
 ) -> Result<Row<WindowRecord>, AllocError>
-    ensures { IfOk result (AllZip IsSameWindow (compacted_windows (windows_of recording.now) records.now)) }
+    ensures { IfOk result (AllZip IsSameWindow (compacted_windows (all_windows recording.now) records.now)) }
 {
     let mut made = Vec::new(alloc);
     let mut walk = WindowWalk::new(alloc, recording)?;
@@ -82,18 +81,18 @@ fn compact_cut(
     ensures { IfOk result (IsSameWindow (compacted_window (window_of walk.now.recording walk.now.number) told.now)) }
 {
     let window = walk.window(alloc)?;
-    compact_window(alloc, &window, told)
+    compact_window(alloc, window, told)
 }
 
 fn compact_window(
     alloc: Global,
-    window: &Window,
+    window: Window,
     told: &WindowRecord,
 ) -> Result<WindowRecord, AllocError>
-    ensures { IfOk result (IsSameWindow (compacted_window window.now told.now)) }
+    ensures { IfOk result (IsSameWindow (compacted_window window told.now)) }
 {
     match base(alloc, window) {
-        Ok(encoded) => compact_encoded(alloc, window, &encoded, told),
+        Ok(encoded) => compact_encoded(alloc, &encoded, told),
         Err(BaseFault::TooLarge { .. }) => copy_window(alloc, told),
         Err(BaseFault::Memory) => Err(AllocError),
     }
@@ -102,14 +101,11 @@ fn compact_window(
 // The record of a window that has these constraints.
 fn compact_encoded(
     alloc: Global,
-    window: &Window,
     encoded: &Encoded,
     told: &WindowRecord,
 ) -> Result<WindowRecord, AllocError>
-    requires { base_due window.now ≡ Ok encoded.now }
     ensures { IfOk result (IsSameWindow (compacted_by (sizes_of encoded.now told.now.shared) told.now)) }
 {
-    problems_are_valid();
     match sizes_of(encoded, told) {
         Some(sizes) => compact_by(alloc, sizes, told),
         None => copy_window(alloc, told),
@@ -118,8 +114,6 @@ fn compact_encoded(
 
 // By what the steps of a window are numbered, where they are few.
 fn sizes_of(encoded: &Encoded, told: &WindowRecord) -> Option<Sizes>
-    requires clauses { length encoded.now.problem.clauses < 2 ^ 30 }
-    requires kinds { length encoded.now.problem.kinds < 2 ^ 30 }
     ensures { result ≡ (if are_few (sizes_of encoded.now told.now.shared) told.now.body then Some (sizes_of encoded.now told.now.shared) else None) }
 {
     let problem = encoded.problem();

@@ -3,7 +3,8 @@ ghost use Rattle.std.specs.List.{AllZip};
 ghost use Rattle.gp_compact.specs.SameRecords.{IsSameEntry, IsSameOrigin, IsSameWorker};
 
 use gp_base::Row;
-use gp_derivation::{LogEntry, Offered, Origin, Step, WorkerRecord};
+use gp_certificate::Step;
+use gp_derivation::{LogEntry, Offered, Origin, WorkerRecord};
 use gp_window::EventId;
 use std::alloc::{AllocError, Global};
 

@@ -3,8 +3,8 @@ ghost use Rattle.std.specs.List.{list_all};
 ghost use Rattle.gp_compact.specs.Moving.{PlacesFit, are_movable, first_own, moved_step, moves, names_shared, place_at, rests_on_earlier, shared_number};
 
 use gp_base::Row;
+use gp_certificate::Step;
 use gp_clause::Lit;
-use gp_derivation::Step;
 use std::alloc::{AllocError, Global};
 
 // By what the steps of a window are numbered before any of them moves: how many base clauses, base variables and shared

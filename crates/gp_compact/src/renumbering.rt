@@ -7,7 +7,7 @@ use crate::moving::{Sizes, are_movable, moved_step, moves, place_at};
 use crate::shared_list::SharedList;
 use crate::sharing::front_of;
 use gp_base::Row;
-use gp_derivation::Step;
+use gp_certificate::Step;
 use std::alloc::{AllocError, Global};
 
 // The steps of a certificate over the whole new shared list.

@@ -8,7 +8,7 @@ use crate::moving::Sizes;
 use crate::renumbering::compact_steps;
 use crate::shared_list::SharedList;
 use gp_base::Row;
-use gp_derivation::{Certificate, Step};
+use gp_certificate::{Certificate, Step};
 use gp_report::{Answer, Entry, PropertyBody, PropertyRecord, WindowBody};
 use gp_window::Schedule;
 use std::alloc::{AllocError, Global};

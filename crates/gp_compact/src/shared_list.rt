@@ -1,10 +1,10 @@
 ghost use Rattle.std.specs.Prelude.{◌≡◌, [], ◌∷◌, ◌++◌, ◌<◌, ◌^◌, IfOk, List, OnErr, OnOk, length, position, Some};
-ghost use Rattle.gp_derivation.specs.declared.step.Step.{Step};
+ghost use Rattle.gp_certificate.specs.declared.step.Step.{Step};
 ghost use Rattle.gp_compact.specs.Keys.{IsKeyOf, TellsFirsts};
 ghost use Rattle.gp_compact.specs.Moving.{step_eq, with_step};
 
+use gp_certificate::Step;
 use gp_clause::Lit;
-use gp_derivation::Step;
 use std::alloc::{AllocError, Global};
 use std::collections::HashMap;
 use std::marker::Model;
@@ -25,7 +25,7 @@ pub(crate) struct SharedList {
 
 impl Model for SharedList {
     ghost use Rattle.std.specs.Prelude.{List};
-    ghost use Rattle.gp_derivation.specs.declared.step.Step.{Step};
+    ghost use Rattle.gp_certificate.specs.declared.step.Step.{Step};
     ghost use Rattle.gp_compact.specs.Keys.{TellsFirsts};
 
     ghost Value = { List Step };

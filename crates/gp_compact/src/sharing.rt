@@ -5,7 +5,7 @@ ghost use Rattle.gp_compact.specs.Moving.{PlacesFit, first_own, front_of, place_
 use crate::copying::copy_step;
 use crate::moving::{Sizes, are_movable, moved_step, moves};
 use crate::shared_list::SharedList;
-use gp_derivation::Step;
+use gp_certificate::Step;
 use gp_report::{Answer, Entry, WindowBody};
 use std::alloc::{AllocError, Global};
 

@@ -9,11 +9,10 @@ use Rattle.gp_text.specs.declared.line.Line.{Line}
 use Rattle.gp_text.specs.Numbers.{OneSpelling, small_number_of}
 use Rattle.gp_window.specs.declared.schedule.Schedule.{Schedule}
 use Rattle.gp_window.specs.EventIds.{EventIdsReadExactly, event_id_of, event_id_text}
-use Rattle.gp_derivation.specs.declared.certificate.Certificate.{Certificate}
+use Rattle.gp_certificate.specs.declared.certificate.Certificate.{Certificate}
 use Rattle.gp_report.specs.declared.record.Answer.{Answer}
 use Rattle.gp_report.specs.declared.record.Answer.TheVariants.{Found, Impossible, Undecided}
 use Rattle.gp_report.specs.declared.record.Entry.{Entry}
-use Rattle.gp_report.specs.declared.record.TheConstants.{MOST_EVENTS}
 use Rattle.gp_report.specs.Printed.{answer_lines, entries_lines, in_lines, instance_words, step_lines}
 use Rattle.gp_report.specs.Reading.{answer_at, begins_with, is_undecided_with, number_and_words, one_number, read_answer, read_entries, read_entry, read_found, read_impossible, read_instance, read_list, read_steps, read_undecided, read_words, three_numbers, told_by}
 use Rattle.gp_report.specs.Typed.{IsTypedId}
@@ -94,7 +93,7 @@ answer_again spelled exactly end lines (Found schedule) rest is words = found_ag
 answer_again spelled exactly end lines (Impossible certificate) rest is words = impossible_again spelled end lines certificate rest is words
 answer_again spelled exactly end lines (Undecided worker from to) rest is words = undecided_again spelled end lines worker from to rest is words
 
-few_test : (n : ℕ) → 1 ≤ n → n ≤ MOST_EVENTS → (nat_le 1 n && nat_le n MOST_EVENTS) ≡ true
+few_test : (n : ℕ) → 1 ≤ n → n ≤ 6 → (nat_le 1 n && nat_le n 6) ≡ true
 few_test n some few = grind (arith, nat_tests)
 
 instance_again : OneSpelling → EventIdsReadExactly → (due : ℕ) (line : Line) (entry : Entry) → due < 2 ^ 32 → EntryIs entry → line.words ≡ instance_words due entry → read_instance due line ≡ Ok entry.events

@@ -13,7 +13,6 @@ use Rattle.gp_report.specs.declared.fault.ReportRule.TheVariants.{Form, Order}
 use Rattle.gp_report.specs.declared.record.Answer.{Answer}
 use Rattle.gp_report.specs.declared.record.Answer.TheVariants.{Found, Impossible, Undecided}
 use Rattle.gp_report.specs.declared.record.Entry.{Entry}
-use Rattle.gp_report.specs.declared.record.TheConstants.{MOST_EVENTS, MOST_WORKERS}
 use Rattle.gp_report.specs.Printed.{answer_lines, entries_lines, instance_words}
 use Rattle.gp_report.specs.Reading.{Reads, ◌>>=◌, answer_at, begins_with, is_undecided_with, kept_if, next_line, number_and_words, one_number, read_answer, read_entries, read_entry, read_found, read_impossible, read_instance, read_list, read_steps, read_undecided, read_words, three_numbers, told_by, with_front}
 use Rattle.gp_report.specs.Typed.{IsTypedId}
@@ -27,12 +26,12 @@ use Rattle.gp_report.proofs.WordsRead.{id_words, small_words}
 abbrev pub AnswerIs : Answer → Type 0
 AnswerIs (Found schedule) = (length schedule.events < 2 ^ 64) × AllByRecursion IsTypedId schedule.events
 AnswerIs (Impossible certificate) = (length certificate.steps < 2 ^ 64) × AllByRecursion StepIs certificate.steps
-AnswerIs (Undecided worker from to) = (1 ≤ worker) × (worker ≤ MOST_WORKERS) × (from < 2 ^ 32) × (to < 2 ^ 32)
+AnswerIs (Undecided worker from to) = (1 ≤ worker) × (worker ≤ 16) × (from < 2 ^ 32) × (to < 2 ^ 32)
 
 -- an entry that can be told and read again
 pub record EntryIs (entry : Entry) : Type 0 where
   pub some : 1 ≤ length entry.events
-  pub few : length entry.events ≤ MOST_EVENTS
+  pub few : length entry.events ≤ 6
   pub events : AllByRecursion IsTypedId entry.events
   pub answer : AnswerIs entry.answer
 
@@ -119,19 +118,19 @@ number_and_words_was spelled (number ∷ words) told e =
 record InstanceWas (due : ℕ) (line : Line) (events : List EventId) : Type 0 where
   words : line.words ≡ codes "instance" ∷ decimal due ∷ map event_id_text events
   some : 1 ≤ length events
-  few : length events ≤ MOST_EVENTS
+  few : length events ≤ 6
   typed : AllByRecursion IsTypedId events
 
-some_and_few : (n : ℕ) → (nat_le 1 n && nat_le n MOST_EVENTS) ≡ true → (1 ≤ n) × (n ≤ MOST_EVENTS)
+some_and_few : (n : ℕ) → (nat_le 1 n && nat_le n 6) ≡ true → (1 ≤ n) × (n ≤ 6)
 some_and_few n test = (grind (arith, nat_tests), grind (arith, nat_tests))
 
 instance_was : OneSpelling → EventIdsReadExactly → (due : ℕ) (line : Line) (events : List EventId) → read_instance due line ≡ Ok events → InstanceWas due line events
 unfolding read_instance
 instance_was spelled exactly due line events e =
-    let a = bind_ok (told_by (codes "instance") number_and_words line) (λ told. read_words event_id_of line.number told.1 >>= λ events. kept_if (nat_le 1 (length events) && nat_le (length events) MOST_EVENTS) Form line.number events >>= λ few. kept_if (told.0 == due) Order line.number few) events e in
-    let b = bind_ok (read_words event_id_of line.number a.0.1) (λ events. kept_if (nat_le 1 (length events) && nat_le (length events) MOST_EVENTS) Form line.number events >>= λ few. kept_if (a.0.0 == due) Order line.number few) events a.2 in
-    let c = bind_ok (kept_if (nat_le 1 (length b.0) && nat_le (length b.0) MOST_EVENTS) Form line.number b.0) (λ few. kept_if (a.0.0 == due) Order line.number few) events b.2 in
-    let few = kept_ok (nat_le 1 (length b.0) && nat_le (length b.0) MOST_EVENTS) Form line.number b.0 c.0 c.1 in
+    let a = bind_ok (told_by (codes "instance") number_and_words line) (λ told. read_words event_id_of line.number told.1 >>= λ events. kept_if (nat_le 1 (length events) && nat_le (length events) 6) Form line.number events >>= λ few. kept_if (told.0 == due) Order line.number few) events e in
+    let b = bind_ok (read_words event_id_of line.number a.0.1) (λ events. kept_if (nat_le 1 (length events) && nat_le (length events) 6) Form line.number events >>= λ few. kept_if (a.0.0 == due) Order line.number few) events a.2 in
+    let c = bind_ok (kept_if (nat_le 1 (length b.0) && nat_le (length b.0) 6) Form line.number b.0) (λ few. kept_if (a.0.0 == due) Order line.number few) events b.2 in
+    let few = kept_ok (nat_le 1 (length b.0) && nat_le (length b.0) 6) Form line.number b.0 c.0 c.1 in
     let next = kept_ok (a.0.0 == due) Order line.number c.0 events c.2 in
     let told = told_was (codes "instance") number_and_words line a.0 a.1 in
     let behind = number_and_words_was spelled told.behind a.0 told.tells in

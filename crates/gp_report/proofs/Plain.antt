@@ -4,7 +4,7 @@ use Rattle.std.specs.List.{AllByRecursion, flat_map}
 use Rattle.std.proofs.lemmas.List.{length-map}
 use Rattle.std.proofs.lemmas.List.Elements.{recursion_from_All}
 use Rattle.gp_clause.specs.declared.lit.Lit.{Lit}
-use Rattle.gp_derivation.specs.declared.step.Step.{Step}
+use Rattle.gp_certificate.specs.declared.step.Step.{Step}
 use Rattle.gp_text.specs.Spelling.{IsPlainLine, PlainWords, ReadsAgain}
 use Rattle.gp_window.specs.EventIds.{event_id_text}
 use Rattle.gp_report.specs.declared.record.Answer.{Answer}

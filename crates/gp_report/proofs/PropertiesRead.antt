@@ -11,7 +11,6 @@ use Rattle.gp_window.specs.EventIds.{EventIdsReadExactly}
 use Rattle.gp_report.specs.declared.record.PropertyBody.{PropertyBody}
 use Rattle.gp_report.specs.declared.record.PropertyBody.TheVariants.{TooMany, Entries}
 use Rattle.gp_report.specs.declared.record.PropertyRecord.{PropertyRecord}
-use Rattle.gp_report.specs.declared.record.TheConstants.{MOST_ENTRIES}
 use Rattle.gp_report.specs.Entries.{entries_in}
 use Rattle.gp_report.specs.Printed.{count_word, entries_lines, property_lines}
 use Rattle.gp_report.specs.Reading.{◌>>=◌, begins_with, entry_count, is_at, name_and_count, next_line, read_body, read_entries, read_properties, read_property, some_entries, told_by, with_front}
@@ -24,7 +23,7 @@ use Rattle.gp_report.proofs.WordsRead.{number_words, some_if}
 
 abbrev pub BodyIs : PropertyBody → Type 0
 BodyIs TooMany = Unit {0}
-BodyIs (Entries entries) = (length entries ≤ MOST_ENTRIES) × AllByRecursion EntryIs entries
+BodyIs (Entries entries) = (length entries ≤ 10000) × AllByRecursion EntryIs entries
 
 -- a property that can be told and read again
 pub record PropertyIs (property : PropertyRecord) : Type 0 where
@@ -37,11 +36,11 @@ record BodyWas (word : List ℕ) (lines : List Line) (body : PropertyBody) (left
   takes : Takes lines (entries_lines 0 (entries_in body)) left
   is : BodyIs body
 
-some_entries_was : (number : Option ℕ) (count : Option ℕ) → some_entries number ≡ Some count → (n : ℕ) × (number ≡ Some n) × (count ≡ Some n) × (n ≤ MOST_ENTRIES)
+some_entries_was : (number : Option ℕ) (count : Option ℕ) → some_entries number ≡ Some count → (n : ℕ) × (number ≡ Some n) × (count ≡ Some n) × (n ≤ 10000)
 some_entries_was None count e = absurd (cc)
 some_entries_was (Some n) count e =
-    let is = some_if (nat_le n MOST_ENTRIES) (Some n) count e in
-    (n, refl, sym is.1, leb-true n MOST_ENTRIES is.0)
+    let is = some_if (nat_le n 10000) (Some n) count e in
+    (n, refl, sym is.1, leb-true n 10000 is.0)
 
 body_was : OneSpelling → EventIdsReadExactly → (end : ℕ) (count : Option ℕ) (word : List ℕ) (lines : List Line) (y : PropertyBody × List Line) → entry_count word ≡ Some count → read_body end count lines ≡ Ok y
     → BodyWas word lines y.0 y.1
@@ -156,7 +155,7 @@ body_again spelled exactly end lines (Entries entries) rest is words =
         let word : decimal (length entries) ≡ codes "toomany" = same_bytes (decimal (length entries)) (codes "toomany") same in
         let none : number_of (codes "toomany") ≡ Some (length entries) = ap number_of (sym word) ∙ number in
         absurd (cc)
-    counted false same = rw (number, le-leb (length entries) MOST_ENTRIES is.0) refl
+    counted false same = rw (number, le-leb (length entries) 10000 is.0) refl
 
 -- a property that is written is read
 property_again : OneSpelling → EventIdsReadExactly → (end : ℕ) (lines : List Line) (property : PropertyRecord) (rest : List (List (List ℕ))) → PropertyIs property → words_in lines ≡ property_lines property ++ rest

@@ -7,7 +7,6 @@ use Rattle.gp_text.specs.declared.line.Line.{Line}
 use Rattle.gp_text.specs.Numbers.{OneSpelling}
 use Rattle.gp_window.specs.EventIds.{EventIdsReadExactly}
 use Rattle.gp_report.specs.declared.fault.ReportRule.TheVariants.{End, Form}
-use Rattle.gp_report.specs.declared.record.TheConstants.{MOST_BUDGET}
 use Rattle.gp_report.specs.declared.record.WindowRecord.{WindowRecord}
 use Rattle.gp_report.specs.Entries.{count_of, entries_of, is_found, is_impossible, is_undecided}
 use Rattle.gp_report.specs.Printed.{report_lines, summary_words, window_lines}
@@ -25,7 +24,7 @@ pub record ReportIs (report : ReportForm) : Type 0 where
   pub format_low : 1 ≤ report.format
   pub format_high : report.format ≤ 2
   pub budget_some : 1 ≤ report.budget
-  pub budget_few : report.budget ≤ MOST_BUDGET
+  pub budget_few : report.budget ≤ 1000000
   pub windows : WindowsAre report.format 1 report.windows
   pub counted : AreCounted (entries_of report.windows)
 
@@ -131,13 +130,13 @@ no_lines (line ∷ lines) e = absurd (cc)
 pub report_was : OneSpelling → EventIdsReadExactly → (end : ℕ) (lines : List Line) (report : ReportForm) → report_from end lines ≡ Ok report → (words_in lines ≡ report_lines report) × ReportIs report
 unfolding report_from
 report_was spelled exactly end lines report e =
-    let a = bind_ok (read_between end (codes "gpredict") 1 2 lines) (λ format. read_between end (codes "budget") 1 MOST_BUDGET format.1 >>= λ budget. read_windows end format.0 1 (length budget.1) budget.1 >>= λ windows. read_summary end windows.0 windows.1 >>= λ summary. at_end summary.1 >>= λ last. Ok (record { format = format.0; budget = budget.0; windows = windows.0 })) report e in
-    let b = bind_ok (read_between end (codes "budget") 1 MOST_BUDGET a.0.1) (λ budget. read_windows end a.0.0 1 (length budget.1) budget.1 >>= λ windows. read_summary end windows.0 windows.1 >>= λ summary. at_end summary.1 >>= λ last. Ok (record { format = a.0.0; budget = budget.0; windows = windows.0 })) report a.2 in
+    let a = bind_ok (read_between end (codes "gpredict") 1 2 lines) (λ format. read_between end (codes "budget") 1 1000000 format.1 >>= λ budget. read_windows end format.0 1 (length budget.1) budget.1 >>= λ windows. read_summary end windows.0 windows.1 >>= λ summary. at_end summary.1 >>= λ last. Ok (record { format = format.0; budget = budget.0; windows = windows.0 })) report e in
+    let b = bind_ok (read_between end (codes "budget") 1 1000000 a.0.1) (λ budget. read_windows end a.0.0 1 (length budget.1) budget.1 >>= λ windows. read_summary end windows.0 windows.1 >>= λ summary. at_end summary.1 >>= λ last. Ok (record { format = a.0.0; budget = budget.0; windows = windows.0 })) report a.2 in
     let c = bind_ok (read_windows end a.0.0 1 (length b.0.1) b.0.1) (λ windows. read_summary end windows.0 windows.1 >>= λ summary. at_end summary.1 >>= λ last. Ok (record { format = a.0.0; budget = b.0.0; windows = windows.0 })) report b.2 in
     let d = bind_ok (read_summary end c.0.0 c.0.1) (λ summary. at_end summary.1 >>= λ last. Ok (record { format = a.0.0; budget = b.0.0; windows = c.0.0 })) report c.2 in
     let f = bind_ok (at_end d.0.1) (λ last. Ok (record { format = a.0.0; budget = b.0.0; windows = c.0.0 })) report d.2 in
     let format = between_was spelled end (codes "gpredict") 1 2 lines a.0 a.1 in
-    let budget = between_was spelled end (codes "budget") 1 MOST_BUDGET a.0.1 b.0 b.1 in
+    let budget = between_was spelled end (codes "budget") 1 1000000 a.0.1 b.0 b.1 in
     let windows = windows_was spelled exactly end a.0.0 1 (length b.0.1) b.0.1 c.0 c.1 in
     let summary = summary_was spelled end c.0.0 c.0.1 d.0 d.1 in
     let none : d.0.1 ≡ [] = end_was d.0.1 f.0 f.1 in
@@ -164,8 +163,8 @@ report_again spelled exactly end lines report is words =
     let windows_lines = flat_map (window_lines report.format) report.windows ++ summary_words entries ∷ [] in
     let format : Again (read_between end (codes "gpredict") 1 2 lines) report.format ((codes "budget" ∷ decimal report.budget ∷ []) ∷ windows_lines) =
     between_again spelled end (codes "gpredict") 1 2 lines report.format ((codes "budget" ∷ decimal report.budget ∷ []) ∷ windows_lines) is.format_low is.format_high (omega arith) words in
-    let budget : Again (read_between end (codes "budget") 1 MOST_BUDGET format.left) report.budget windows_lines =
-    between_again spelled end (codes "budget") 1 MOST_BUDGET format.left report.budget windows_lines is.budget_some is.budget_few (omega arith) format.words in
+    let budget : Again (read_between end (codes "budget") 1 1000000 format.left) report.budget windows_lines =
+    between_again spelled end (codes "budget") 1 1000000 format.left report.budget windows_lines is.budget_some is.budget_few (omega arith) format.words in
     let follows : Follows (summary_words entries ∷ []) = record { no_property = refl; not_large = refl } in
     let windows : Again (read_windows end report.format 1 (length budget.left) budget.left) report.windows (summary_words entries ∷ []) =
     windows_again spelled exactly end report.format 1 (length budget.left) budget.left report.windows (summary_words entries ∷ []) (omega arith) refl follows is.windows budget.words in
@@ -175,7 +174,7 @@ report_again spelled exactly end lines report is words =
 
 -- a report of parts that were read one after another
 pub report_made : (end : ℕ) (lines first second third fourth : List Line) (format budget : ℕ) (windows : List WindowRecord)
-    → read_between end (codes "gpredict") 1 2 lines ≡ Ok (format, first) → read_between end (codes "budget") 1 MOST_BUDGET first ≡ Ok (budget, second)
+    → read_between end (codes "gpredict") 1 2 lines ≡ Ok (format, first) → read_between end (codes "budget") 1 1000000 first ≡ Ok (budget, second)
     → read_windows end format 1 (length second) second ≡ Ok (windows, third) → read_summary end windows third ≡ Ok (tt, fourth) → at_end fourth ≡ Ok tt
     → report_from end lines ≡ Ok (record { format = format; budget = budget; windows = windows })
 unfolding report_from

@@ -6,7 +6,7 @@ use Rattle.std.specs.List.{IsAllAdjacentAnswer}
 use Rattle.std.proofs.lemmas.Bool.{and_from, and_parts, cases_Bool, lt-ltb, ltb-true}
 use Rattle.gp_clause.specs.declared.lit.Lit.{Lit}
 use Rattle.gp_clause.specs.Clause.{IsRising}
-use Rattle.gp_clause.specs.OccurrenceLaws.{rising_rest}
+use Rattle.gp_base.specs.CountLaws.{rising_rest}
 use Rattle.gp_report.specs.Reading.{rises}
 
 -- by its test a list rises
@@ -32,7 +32,7 @@ test_from_rising [] rising = refl
 test_from_rising (lit ∷ []) rising = refl
 test_from_rising (lit ∷ next ∷ lits) rising =
     let first : lit.variable < next.variable = rising 0 lit (omega arith) in
-    and_from _ _ (lt-ltb lit.variable next.variable first) (test_from_rising (next ∷ lits) (rising_rest lit (next ∷ lits) rising))
+    and_from _ _ (lt-ltb lit.variable next.variable first) (test_from_rising (next ∷ lits) (rising_rest (λ (l : Lit). l.variable) lit (next ∷ lits) rising))
 
 -- what a test of neighbours answers is what the test tells
 pub rises_answered : (lits : List Lit) (answer : Bool) → IsAllAdjacentAnswer {X = Lit} (λ a b rises. MatchBool rises (a.variable < b.variable) (b.variable ≤ a.variable)) lits answer → answer ≡ rises lits

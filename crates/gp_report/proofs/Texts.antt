@@ -1,40 +1,14 @@
 -- The words of a line, and the lines of a text, one after another.
-use Rattle.std.proofs.Common.{◌≡◌, refl, ℕ, ◌+◌, ◌<◌, get_or, length, drop, map, add-one, drop-cons, List, [], ◌∷◌, ◌++◌, ap, ◌∙◌, sym, append_assoc, append-nil}
+use Rattle.std.proofs.Common.{◌≡◌, refl, ℕ, ◌+◌, ◌<◌, get_or, length, drop, map, add-one, drop-cons, List, [], ◌∷◌, ◌++◌, ap, ◌∙◌, sym, append_assoc}
 use Rattle.std.specs.List.{flat_map}
-use Rattle.gp_text.specs.Spelling.{joined, spelling}
+use Rattle.gp_text.specs.Spelling.{after_words, joined, spelling}
+use Rattle.gp_text.specs.SpellingLaws.{joined_after, spelling_append}
 use Rattle.gp_report.specs.declared.record.Entry.{Entry}
-use Rattle.gp_report.specs.Printed.{after_words, answer_lines, entries_lines, instance_words}
-
--- words with one space between them, and the space before each but the first
-joined_after : (word : List ℕ) (words : List (List ℕ)) → joined (word ∷ words) ≡ word ++ after_words words
-joined_after word [] = sym (append-nil word)
-joined_after word (next ∷ words) = ap (λ rest. word ++ (32 ∷ rest)) (joined_after next words)
-
-spelling_append : (xs ys : List (List (List ℕ))) → spelling (xs ++ ys) ≡ spelling xs ++ spelling ys
-spelling_append [] ys = refl
-spelling_append (x ∷ xs) ys = ap (λ rest. joined x ++ (10 ∷ rest)) (spelling_append xs ys) ∙ sym (append_assoc (joined x) (10 ∷ spelling xs) (spelling ys))
+use Rattle.gp_report.specs.Printed.{answer_lines, entries_lines, instance_words}
 
 -- lines, and then more lines
 pub lines_put : (old : List ℕ) (xs ys : List (List (List ℕ))) → (old ++ spelling xs) ++ spelling ys ≡ old ++ spelling (xs ++ ys)
 lines_put old xs ys = append_assoc old (spelling xs) (spelling ys) ∙ ap (λ rest. old ++ rest) (sym (spelling_append xs ys))
-
--- one line, written word by word
-pub line_put : (old first : List ℕ) (words : List (List ℕ)) → ((old ++ first) ++ after_words words) ++ 10 ∷ [] ≡ old ++ spelling ((first ∷ words) ∷ [])
-line_put old first words =
-    append_assoc (old ++ first) (after_words words) (10 ∷ [])
-    ∙ append_assoc old first (after_words words ++ 10 ∷ [])
-    ∙ ap (λ rest. old ++ rest) (sym (append_assoc first (after_words words) (10 ∷ [])) ∙ ap (λ line. line ++ 10 ∷ []) (sym (joined_after first words)))
-
--- a word and then further words
-word_put : (old word : List ℕ) (words : List (List ℕ)) → (old ++ after_words (word ∷ [])) ++ after_words words ≡ old ++ after_words (word ∷ words)
-word_put old word words =
-    append_assoc old (32 ∷ (word ++ [])) (after_words words)
-    ∙ ap (λ rest. old ++ (32 ∷ rest)) (append_assoc word [] (after_words words))
-
--- a line of a word more
-pub line_put_with : (old first word : List ℕ) (words : List (List ℕ)) → (((old ++ first) ++ after_words (word ∷ [])) ++ after_words words) ++ 10 ∷ [] ≡ old ++ spelling ((first ∷ word ∷ words) ∷ [])
-line_put_with old first word words =
-    ap (λ text. text ++ 10 ∷ []) (word_put (old ++ first) word words) ∙ line_put old first (word ∷ words)
 
 -- what stands at a place, and what stands after it
 pub cut : {A : Type 0} (xs : List A) (x : A) (i : ℕ) → i < length xs → x ≡ get_or xs i x → drop i xs ≡ x ∷ drop (i + 1) xs

@@ -1,7 +1,7 @@
 -- The lines of words that tell a report.
-use Rattle.std.specs.Prelude.{ℕ, zero, suc, ◌+◌, ◌==◌, List, [], ◌∷◌, ◌++◌, if◌then◌else◌, length, map, take, drop, codes, decimal, flat_map}
+use Rattle.std.specs.Prelude.{ℕ, zero, suc, ◌+◌, ◌==◌, List, [], ◌∷◌, ◌++◌, length, map, take, drop, codes, decimal, flat_map, if◌then◌else◌}
 use Rattle.gp_clause.specs.declared.lit.Lit.{Lit}
-use Rattle.gp_derivation.specs.declared.step.Step.{Step}
+use Rattle.gp_certificate.specs.declared.step.Step.{Step}
 use Rattle.gp_window.specs.EventIds.{event_id_text}
 use Rattle.gp_report.specs.declared.record.Answer.{Answer}
 use Rattle.gp_report.specs.declared.record.Answer.TheVariants.{Found, Impossible, Undecided}
@@ -87,8 +87,3 @@ abbrev pub report_lines : ReportForm → List (List (List ℕ))
 report_lines report =
     (codes "gpredict" ∷ decimal report.format ∷ []) ∷ (codes "budget" ∷ decimal report.budget ∷ [])
     ∷ (flat_map (window_lines report.format) report.windows ++ summary_words (entries_of report.windows) ∷ [])
-
--- words that follow the first one of a line, a space before each
-abbrev pub after_words : List (List ℕ) → List ℕ
-after_words [] = []
-after_words (word ∷ words) = 32 ∷ (word ++ after_words words)

@@ -2,7 +2,7 @@
 use Rattle.std.specs.Prelude.{◌≡◌, ◌≢◌, ◌+◌, ◌-◌, ◌^◌, ℕ, zero, suc, ◌==◌, ◌&&◌, Bool, true, false, nat_le, nat_lt, min, List, [], ◌∷◌, ◌++◌, length, Option, Some, None, Result, Ok, Err, if◌then◌else◌, codes}
 use Rattle.std.specs.Str.{bytes_eq}
 use Rattle.gp_clause.specs.declared.lit.Lit.{Lit}
-use Rattle.gp_derivation.specs.declared.step.Step.{Step}
+use Rattle.gp_certificate.specs.declared.step.Step.{Step}
 use Rattle.gp_text.specs.declared.line.Line.{Line}
 use Rattle.gp_text.specs.declared.lines.TextFault.{TextFault}
 use Rattle.gp_text.specs.Lines.{end_line_of, lines_of}
@@ -21,7 +21,6 @@ use Rattle.gp_report.specs.declared.record.Entry.{Entry}
 use Rattle.gp_report.specs.declared.record.PropertyBody.{PropertyBody}
 use Rattle.gp_report.specs.declared.record.PropertyBody.TheVariants.{TooMany, Entries}
 use Rattle.gp_report.specs.declared.record.PropertyRecord.{PropertyRecord}
-use Rattle.gp_report.specs.declared.record.TheConstants.{MOST_BUDGET, MOST_ENTRIES, MOST_EVENTS, MOST_WORKERS}
 use Rattle.gp_report.specs.declared.record.WindowBody.{WindowBody}
 use Rattle.gp_report.specs.declared.record.WindowBody.TheVariants.{TooLarge, Answers}
 use Rattle.gp_report.specs.declared.record.WindowRecord.{WindowRecord}
@@ -186,7 +185,7 @@ read_impossible end line lines = do
 
 -- whether an answer can say that it is undecided with these numbers: a worker, and two that are below 2^32
 abbrev pub is_undecided_with : ℕ → ℕ → ℕ → Bool
-is_undecided_with worker from to = nat_le 1 worker && nat_le worker MOST_WORKERS && nat_lt from (2 ^ 32) && nat_lt to (2 ^ 32)
+is_undecided_with worker from to = nat_le 1 worker && nat_le worker 16 && nat_lt from (2 ^ 32) && nat_lt to (2 ^ 32)
 
 -- `undecided W FROM TO`
 unfoldable pub read_undecided : Line → Result Answer ReportFault
@@ -217,7 +216,7 @@ unfoldable pub read_instance : ℕ → Line → Result (List EventId) ReportFaul
 read_instance due line = do
   told ← told_by (codes "instance") number_and_words line
   events ← read_words event_id_of line.number told.1
-  few ← kept_if (nat_le 1 (length events) && nat_le (length events) MOST_EVENTS) Form line.number events
+  few ← kept_if (nat_le 1 (length events) && nat_le (length events) 6) Form line.number events
   kept_if (told.0 == due) Order line.number few
 
 -- the entry of this number: its instance and its answer
@@ -236,7 +235,7 @@ read_entries end due (suc more) lines = read_entry end due lines >>= λ entry. w
 -- a number of entries that is not too great
 abbrev pub some_entries : Option ℕ → Option (Option ℕ)
 some_entries None = None
-some_entries (Some count) = if nat_le count MOST_ENTRIES then Some (Some count) else None
+some_entries (Some count) = if nat_le count 10000 then Some (Some count) else None
 
 -- how many entries a property has: none is told where they are too many
 abbrev pub entry_count : List ℕ → Option (Option ℕ)
@@ -345,7 +344,7 @@ at_end (line ∷ lines) = broken After line.number
 unfoldable pub report_from : ℕ → List Line → Result ReportForm ReportFault
 report_from end lines = do
   format ← read_between end (codes "gpredict") 1 2 lines
-  budget ← read_between end (codes "budget") 1 MOST_BUDGET format.1
+  budget ← read_between end (codes "budget") 1 1000000 format.1
   windows ← read_windows end format.0 1 (length budget.1) budget.1
   summary ← read_summary end windows.0 windows.1
   last ← at_end summary.1

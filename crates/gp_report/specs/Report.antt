@@ -1,7 +1,7 @@
 -- Which reports a text can tell.
 use Rattle.std.specs.Prelude.{ℕ, ◌≡◌, ◌⊎◌, ◌≤◌, ◌-◌, ◌^◌, List, [], length, map, All}
 use Rattle.gp_clause.specs.Clause.{NamesBelow}
-use Rattle.gp_derivation.specs.declared.step.Step.{Step}
+use Rattle.gp_certificate.specs.declared.step.Step.{Step}
 use Rattle.gp_window.specs.WindowForm.{numbers_from}
 use Rattle.gp_report.specs.declared.record.Answer.{Answer}
 use Rattle.gp_report.specs.declared.record.Answer.TheVariants.{Found, Impossible, Undecided}
@@ -9,7 +9,6 @@ use Rattle.gp_report.specs.declared.record.Entry.{Entry}
 use Rattle.gp_report.specs.declared.record.PropertyBody.{PropertyBody}
 use Rattle.gp_report.specs.declared.record.PropertyBody.TheVariants.{TooMany, Entries}
 use Rattle.gp_report.specs.declared.record.PropertyRecord.{PropertyRecord}
-use Rattle.gp_report.specs.declared.record.TheConstants.{MOST_BUDGET, MOST_ENTRIES, MOST_EVENTS, MOST_WORKERS}
 use Rattle.gp_report.specs.declared.record.WindowBody.{WindowBody}
 use Rattle.gp_report.specs.declared.record.WindowBody.TheVariants.{TooLarge, Answers}
 use Rattle.gp_report.specs.declared.record.WindowRecord.{WindowRecord}
@@ -23,18 +22,18 @@ IsToldStep step = NamesBelow (2 ^ 31 - 1) step.clause
 abbrev pub IsToldAnswer : Answer → Type 0
 IsToldAnswer (Found schedule) = Unit {0}
 IsToldAnswer (Impossible certificate) = All IsToldStep certificate.steps
-IsToldAnswer (Undecided worker from to) = (1 ≤ worker) × (worker ≤ MOST_WORKERS)
+IsToldAnswer (Undecided worker from to) = (1 ≤ worker) × (worker ≤ 16)
 
 -- an entry has 1 to 6 events, and an answer that can be told
 pub record IsEntry (entry : Entry) : Type 0 where
   pub some : 1 ≤ length entry.events
-  pub few : length entry.events ≤ MOST_EVENTS
+  pub few : length entry.events ≤ 6
   pub answer : IsToldAnswer entry.answer
 
 -- at most 10,000 entries
 abbrev pub IsPropertyBody : PropertyBody → Type 0
 IsPropertyBody TooMany = Unit {0}
-IsPropertyBody (Entries entries) = (length entries ≤ MOST_ENTRIES) × All IsEntry entries
+IsPropertyBody (Entries entries) = (length entries ≤ 10000) × All IsEntry entries
 
 -- what is told of a property
 abbrev pub IsPropertyRecord : PropertyRecord → Type 0
@@ -55,6 +54,6 @@ pub record IsWindowRecord (format : ℕ) (window : WindowRecord) : Type 0 where
 pub record IsReport (report : ReportForm) : Type 0 where
   pub format : (report.format ≡ 1) ⊎ (report.format ≡ 2)
   pub budget_some : 1 ≤ report.budget
-  pub budget_few : report.budget ≤ MOST_BUDGET
+  pub budget_few : report.budget ≤ 1000000
   pub numbered : map (λ (window : WindowRecord). window.number) report.windows ≡ numbers_from 1 (length report.windows)
   pub windows : All (IsWindowRecord report.format) report.windows

@@ -1,7 +1,7 @@
 -- Which texts tell which report, and that exactly these are read as it.
 use Rattle.std.specs.Prelude.{◌≡◌, ◌↔◌, ℕ, List, [], map, All, Ok}
 use Rattle.gp_clause.specs.Clause.{IsRising}
-use Rattle.gp_derivation.specs.declared.step.Step.{Step}
+use Rattle.gp_certificate.specs.declared.step.Step.{Step}
 use Rattle.gp_text.specs.declared.line.Line.{Line}
 use Rattle.gp_text.specs.Lines.{lines_of}
 use Rattle.gp_text.specs.Spelling.{spelling}

@@ -1,6 +1,6 @@
 -- What the types of a report's parts say of its values: names are names, and numbers and lengths fit.
 use Rattle.std.specs.Prelude.{◌≡◌, ◌<◌, ◌^◌, true, List, length, All}
-use Rattle.gp_derivation.specs.declared.step.Step.{Step}
+use Rattle.gp_certificate.specs.declared.step.Step.{Step}
 use Rattle.gp_text.specs.Name.{is_name}
 use Rattle.gp_window.specs.declared.schedule.EventId.{EventId}
 use Rattle.gp_report.specs.declared.record.Answer.{Answer}

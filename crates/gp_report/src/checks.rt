@@ -6,7 +6,7 @@ use crate::record::{
     Answer, Entry, MOST_BUDGET, MOST_ENTRIES, MOST_EVENTS, MOST_WORKERS, PropertyBody,
     PropertyRecord, WindowBody, WindowRecord,
 };
-use gp_derivation::Step;
+use gp_certificate::Step;
 
 // The variables that can be told: their numbers from 1 go up to 2^31 - 1.
 pub(crate) const VARIABLES: u32 = 2_147_483_647;

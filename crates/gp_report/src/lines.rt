@@ -1,6 +1,6 @@
 ghost use Rattle.std.specs.Prelude.{◌≡◌, [], ◌∷◌, ◌++◌, OnOk, map};
-ghost use Rattle.gp_text.specs.Spelling.{joined, spelling};
-ghost use Rattle.gp_report.specs.Printed.{after_words, in_lines};
+ghost use Rattle.gp_text.specs.Spelling.{after_words, joined, spelling};
+ghost use Rattle.gp_report.specs.Printed.{in_lines};
 
 use crate::spelled::Spelled;
 use std::alloc::AllocError;

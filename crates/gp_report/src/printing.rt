@@ -1,16 +1,16 @@
 ghost use Rattle.std.specs.Prelude.{◌≡◌, [], ◌∷◌, ◌++◌, IfOk, OnOk, codes, decimal, flat_map, length, map};
-ghost use Rattle.gp_text.specs.Spelling.{spelling};
+ghost use Rattle.gp_text.specs.Spelling.{after_words, spelling};
 ghost use Rattle.gp_window.specs.EventIds.{event_id_text};
 ghost use Rattle.gp_report.specs.Entries.{entries_of};
-ghost use Rattle.gp_report.specs.Printed.{after_words, answer_lines, count_word, entries_lines, in_lines, instance_words, lit_word, property_lines, report_lines, shared_lines, step_lines, summary_words, window_body_lines, window_lines};
+ghost use Rattle.gp_report.specs.Printed.{answer_lines, count_word, entries_lines, in_lines, instance_words, lit_word, property_lines, report_lines, shared_lines, step_lines, summary_words, window_body_lines, window_lines};
 
 use crate::lines::{put_line, put_list, put_word, put_words};
 use crate::record::{Answer, Entry, PropertyBody, PropertyRecord, WindowBody, WindowRecord};
 use crate::report::Report;
 use crate::tally::tally_of;
 use gp_base::Row;
+use gp_certificate::Step;
 use gp_clause::Lit;
-use gp_derivation::Step;
 use gp_window::EventId;
 use std::alloc::{AllocError, Global};
 

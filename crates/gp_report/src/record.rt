@@ -2,7 +2,8 @@ ghost use Rattle.std.specs.Prelude.{◌≡◌};
 ghost use Rattle.gp_report.specs.Entries.{entries_in, properties_in};
 
 use gp_base::Row;
-use gp_derivation::{Certificate, Step, WorkerRecord};
+use gp_certificate::{Certificate, Step};
+use gp_derivation::WorkerRecord;
 use gp_text::Name;
 use gp_window::{EventId, Schedule};
 

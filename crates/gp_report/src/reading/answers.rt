@@ -8,7 +8,7 @@ use crate::reading::numbers::{told_number, told_three_numbers};
 use crate::reading::steps::read_steps;
 use crate::record::{Answer, Entry, MOST_EVENTS, MOST_WORKERS};
 use gp_base::Row;
-use gp_derivation::Certificate;
+use gp_certificate::Certificate;
 use gp_text::{Words, read_u32};
 use gp_window::{EventId, Schedule};
 use std::alloc::Global;

@@ -6,8 +6,8 @@ use crate::reading::cursor::ReportLines;
 use crate::reading::lists::read_list;
 use crate::reading::numbers::told_two_numbers;
 use gp_base::Row;
+use gp_certificate::Step;
 use gp_clause::{Clause, Lit};
-use gp_derivation::Step;
 use std::alloc::Global;
 
 // Reads so many steps.

@@ -8,7 +8,7 @@ use crate::reading::numbers::{told_number, told_two_numbers};
 use crate::reading::steps::read_steps;
 use crate::record::{MOST_ENTRIES, PropertyBody, PropertyRecord, WindowBody, WindowRecord};
 use gp_base::Row;
-use gp_derivation::Step;
+use gp_certificate::Step;
 use gp_text::{Name, Words, one_spelling, read_u64};
 use gp_window::event_ids_read_exactly;
 use std::alloc::Global;

@@ -4,39 +4,38 @@ use Rattle.gp_clause.specs.declared.problem.Problem.{Problem}
 use Rattle.gp_clause.specs.declared.problem.Query.{Query}
 use Rattle.gp_clause.specs.Problem.{IsValidQuery}
 use Rattle.gp_constraint.specs.Base.{base_of}
-use Rattle.gp_constraint.specs.Encoded.{EncodedForm}
 use Rattle.gp_constraint.specs.Points.{points_of}
 use Rattle.gp_constraint.specs.Query.{query_of}
-use Rattle.gp_derivation.specs.Shared.{SharedPasses}
+use Rattle.gp_certificate.specs.Shared.{SharedPasses}
 use Rattle.gp_checker.specs.declared.failure.Failure.{Failure}
 use Rattle.gp_checker.proofs.Finds.{FindsCertificate, certificate_at}
 use Rattle.gp_instance.specs.ListedLaws.{is_listed}
 use Rattle.gp_checker.proofs.certificate.check_certificate.Goals as goal
 
 pub check_steps-requires-clause-judge : goal.check_steps-requires-clause-judge
-check_steps-requires-clause-judge c = c.problem-problem.ensures.problem ∙ ap (λ (e : EncodedForm). e.problem) c.requires.basis.same ∙ sym c.requires.judge
+check_steps-requires-clause-judge c = c.problem-problem.ensures.problem ∙ sym c.requires.judge
 
 pub check_steps-requires-clause-shares : goal.check_steps-requires-clause-shares
 check_steps-requires-clause-shares c =
-    let same : c.problem-problem.result.now ≡ base_of c.args.basis.now.window.now = c.problem-problem.ensures.problem ∙ ap (λ (e : EncodedForm). e.problem) c.requires.basis.same in
-    subst (λ (p : Problem). SharedPasses p c.args.basis.now.shared.now) (sym same) c.requires.basis.shares
+    let same : c.problem-problem.result.now ≡ base_of c.args.basis.now.encoded.now = c.problem-problem.ensures.problem in
+    subst (λ (p : Problem). SharedPasses p c.args.basis.now.shared.now) (sym same) c.requires.shares
 
 pub check_steps-requires-clause-asked : goal.check_steps-requires-clause-asked
 check_steps-requires-clause-asked c =
-    let window = c.args.basis.now.window.now in
+    let window = c.args.basis.now.encoded.now in
     let property = c.args.property.now in
     let ids = c.args.instance.now.events in
-    let same : c.problem-problem.result.now ≡ base_of window = c.problem-problem.ensures.problem ∙ ap (λ (e : EncodedForm). e.problem) c.requires.basis.same in
+    let same : c.problem-problem.result.now ≡ base_of window = c.problem-problem.ensures.problem in
     let listed = is_listed c.laws.ensures.atoms window property c.name.ensures.property ids c.requires.instance in
-    let few : length (points_of window) ≤ 2048 = subst (λ (e : EncodedForm). e.problem.points ≤ 2048) c.requires.basis.same c.problem-problem.ensures.few in
+    let few : length (points_of window) ≤ 2048 = c.problem-problem.ensures.encodable.points in
     subst (λ (p : Problem). IsValidQuery p c.in_ok-asked.asked) (sym same)
     (subst (λ (q : Query). IsValidQuery (base_of window) q) (sym c.in_ok-asked.ensures) (c.laws.ensures.valid.query window property ids few listed.few c.requires.instance))
 
 pub returns-clause-found : goal.returns-clause-found
 returns-clause-found c =
-    let window = c.args.basis.now.window.now in
+    let window = c.args.basis.now.encoded.now in
     let asked = query_of window c.args.property.now c.args.instance.now.events in
-    let same : c.problem-problem.result.now ≡ base_of window = c.problem-problem.ensures.problem ∙ ap (λ (e : EncodedForm). e.problem) c.requires.basis.same in
+    let same : c.problem-problem.result.now ≡ base_of window = c.problem-problem.ensures.problem in
     let shared = c.args.basis.now.shared.now in
     let certificate = c.args.certificate.now in
     IfOk-weaker c.check_steps.result (λ (found : Option Failure). FindsCertificate shared certificate found c.problem-problem.result.now c.in_ok-asked.asked)

@@ -1,4 +1,4 @@
-use Rattle.gp_derivation.specs.SharedLaws.{shared_within}
+use Rattle.gp_certificate.specs.SharedLaws.{shared_within}
 use Rattle.gp_checker.proofs.certificate.check_steps.Goals as goal
 
 pub first_to_fail-requires-clause-shared : goal.first_to_fail-requires-clause-shared

@@ -3,7 +3,6 @@ use Rattle.std.proofs.Common.{sym, subst, ◌-◌, Option, Some}
 use Rattle.std.specs.Option.{IsSomeAnd}
 use Rattle.std.proofs.lemmas.Option.{MatchOption-at_none, MatchOption-at_some}
 use Rattle.gp_report.specs.declared.record.WindowRecord.{WindowRecord}
-use Rattle.gp_window.specs.WindowForm.{WindowForm, window_of}
 use Rattle.gp_checker.specs.declared.failure.Failure.{Failure}
 use Rattle.gp_checker.specs.declared.failure.Reason.TheVariants.{WindowCount}
 use Rattle.gp_checker.specs.Accepted.{AcceptsWindow}
@@ -17,32 +16,30 @@ use Rattle.gp_checker.proofs.checking.check_at.Goals as goal
 
 pub returns-in-Some-2 : goal.returns-in-Some-2
 returns-in-Some-2 c =
-    let walk = c.args.walk.now in
     let report = c.args.report.now in
     let properties = c.args.properties.now in
-    let window : WindowForm = window_of walk.recording walk.number in
+    let window = c.args.window in
     let told = c.in-Some.told.now in
     let number = c.number-number.result in
     let failure = c.in-Some-2.failure in
     let here : Failure = record failure { window = number } in
-    let there = record_there report c.windows.result.now told number walk.number c.windows.ensures.value c.number-number.ensures.number
+    let there = record_there report c.windows.result.now told number window.number c.windows.ensures.value c.number-number.ensures.value
     (lent_at c.windows.result.now (number - 1) (Some c.in-Some.told) c.in-Some.ensures.lookup) in
     let fails : FailsWindow properties c.budget.result failure window told =
     MatchOption-at_some (AcceptsWindow properties c.budget.result window told) (λ (one : Failure). FailsWindow properties c.budget.result one window told) failure c.in-Some-2.is c.in_ok-failure.ensures in (
-      c.number-number.ensures.number,
+      c.number-number.ensures.value,
       subst (λ (o : Option WindowRecord). FailsHere (FailsWindow properties report.budget here) (IsOfWindow WindowCount here) (Some window) o) (sym there)
           (window_moved number failure properties report.budget window told (subst (λ b. FailsWindow properties b failure window told) c.budget.ensures.value fails)),
     )
 
 pub returns : goal.returns
 returns c =
-    let walk = c.args.walk.now in
     let report = c.args.report.now in
     let properties = c.args.properties.now in
-    let window : WindowForm = window_of walk.recording walk.number in
+    let window = c.args.window in
     let told = c.in-Some.told.now in
     let number = c.number-number.result in
-    let there = record_there report c.windows.result.now told number walk.number c.windows.ensures.value c.number-number.ensures.number
+    let there = record_there report c.windows.result.now told number window.number c.windows.ensures.value c.number-number.ensures.value
     (lent_at c.windows.result.now (number - 1) (Some c.in-Some.told) c.in-Some.ensures.lookup) in
     let accepts : AcceptsWindow properties c.budget.result window told =
     MatchOption-at_none (AcceptsWindow properties c.budget.result window told) (λ (one : Failure). FailsWindow properties c.budget.result one window told) c.in_default-2.is c.in_ok-failure.ensures in

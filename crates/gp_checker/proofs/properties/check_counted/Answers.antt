@@ -13,10 +13,10 @@ use Rattle.gp_checker.proofs.properties.check_counted.Goals as goal
 pub returns-clause-found : goal.returns-clause-found
 returns-clause-found c =
     let basis = c.args.basis.now in
-    let Accepts = AcceptsEntry basis.window.now basis.budget basis.shared.now c.args.property.now in
+    let Accepts = AcceptsEntry basis.encoded.now basis.budget basis.shared.now c.args.property.now in
     let count : length c.args.entries.now ≡ length c.args.instances.now = omega arith in
     IfOk-weaker c.check_entries.result
     (λ (found : Option Failure). MatchOption found (AllZip Accepts c.args.instances.now c.args.entries.now)
-    (λ (failure : Failure). FailsFirst Accepts (FailsEntry basis.window.now basis.budget basis.shared.now c.args.property.now failure) ⊥ c.args.instances.now c.args.entries.now failure.instance))
-    (λ (found : Option Failure). FindsListed basis.window.now basis.budget basis.shared.now c.args.property.now (Entries c.args.entries.now) found (Ok c.args.instances.now))
-    (entries_found basis.window.now basis.budget basis.shared.now c.args.property.now c.args.instances.now c.args.entries.now count) c.check_entries.ensures.found
+    (λ (failure : Failure). FailsFirst Accepts (FailsEntry basis.encoded.now basis.budget basis.shared.now c.args.property.now failure) ⊥ c.args.instances.now c.args.entries.now failure.instance))
+    (λ (found : Option Failure). FindsListed basis.encoded.now basis.budget basis.shared.now c.args.property.now (Entries c.args.entries.now) found (Ok c.args.instances.now))
+    (entries_found basis.encoded.now basis.budget basis.shared.now c.args.property.now c.args.instances.now c.args.entries.now count) c.check_entries.ensures.found

@@ -17,7 +17,7 @@ pub returns-clause-found : goal.returns-clause-found
 returns-clause-found c =
     let basis = c.args.basis.now in
     let property = c.args.property.now in
-    IfOk-weaker c.check_body.result (λ (found : Option Failure). FindsListed basis.window.now basis.budget basis.shared.now property c.args.told.now.body found (due_instances basis.window.now property c.args.number))
-    (λ (found : Option Failure). MatchOption found (AcceptsProperty basis.window.now basis.budget basis.shared.now (c.args.number, property) c.args.told.now)
-    (λ (failure : Failure). FailsProperty basis.window.now basis.budget basis.shared.now failure (c.args.number, property) c.args.told.now))
-    (property_found basis.window.now basis.budget c.args.number basis.shared.now property c.args.told.now (c.is_same_name.ensures.0 c.if-not-is_same_name.false ∙ c.name.ensures.value)) c.check_body.ensures.found
+    IfOk-weaker c.check_body.result (λ (found : Option Failure). FindsListed basis.encoded.now basis.budget basis.shared.now property c.args.told.now.body found (due_instances basis.encoded.now property c.args.number))
+    (λ (found : Option Failure). MatchOption found (AcceptsProperty basis.encoded.now basis.budget basis.shared.now (c.args.number, property) c.args.told.now)
+    (λ (failure : Failure). FailsProperty basis.encoded.now basis.budget basis.shared.now failure (c.args.number, property) c.args.told.now))
+    (property_found basis.encoded.now basis.budget c.args.number basis.shared.now property c.args.told.now (c.is_same_name.ensures.0 c.if-not-is_same_name.false ∙ c.name.ensures.value)) c.check_body.ensures.found

@@ -5,7 +5,7 @@ use Rattle.std.proofs.lemmas.Result.{IfOk-weaker}
 use Rattle.gp_report.specs.declared.record.WindowRecord.{WindowRecord}
 use Rattle.gp_window.specs.RecordingForm.{RecordingForm}
 use Rattle.gp_window.specs.Walk.{GoesOn}
-use Rattle.gp_checker.specs.Accepted.{windows_of}
+use Rattle.gp_window.specs.Windows.{all_windows}
 use Rattle.gp_compact.specs.Compact.{IsSameWindow, compacted_windows}
 use Rattle.gp_compact.proofs.Windows.{AreMade, lent_at, made_all, made_here, made_none, made_whole}
 use Rattle.gp_compact.proofs.compacting.compact_windows.Goals as goal
@@ -23,7 +23,7 @@ loop-told-preserved c =
     c.in-Some.ensures.lookup c.in_ok-compact_cut.ensures c.in_ok-push.ensures.items c.loop-told.invariant.1 in
     let goes : GoesOn walk (Some c.in-Some-2.next) = subst (GoesOn walk) c.in-Some-2.is c.in_ok-next.ensures in
     let place : number ≡ c.in-Some-2.next.number - 1 = omega (arith, c.number-number.ensures.number, goes.1) in
-    (goes.0 ∙ c.loop-told.invariant.0, subst (λ (n : ℕ). AllZip IsSameWindow (take n (compacted_windows (windows_of r) records)) c.push.new.self.items) place after)
+    (goes.0 ∙ c.loop-told.invariant.0, subst (λ (n : ℕ). AllZip IsSameWindow (take n (compacted_windows (all_windows r) records)) c.push.new.self.items) place after)
 
 pub returns-in_default : goal.returns-in_default
 returns-in_default c =
@@ -33,7 +33,7 @@ returns-in_default c =
     let none : slice_get records (number - 1) ≡ None =
     lent_at records (number - 1) c.get.result c.get.ensures.lookup ∙ ap (λ (lent : Option (Bor WindowRecord)). option_map (λ (told : Bor WindowRecord). told.now) lent) c.in_default.is in
     let before : AreMade r records number c.loop-told.made.items = subst (λ (n : ℕ). AreMade r records n c.loop-told.made.items) (sym c.number-number.ensures.number) c.loop-told.invariant.1 in
-    subst (AllZip IsSameWindow (compacted_windows (windows_of r) records)) (sym c.from_vec.ensures) (made_all r records number c.loop-told.made.items none before)
+    subst (AllZip IsSameWindow (compacted_windows (all_windows r) records)) (sym c.from_vec.ensures) (made_all r records number c.loop-told.made.items none before)
 
 pub returns-in_default-2 : goal.returns-in_default-2
 returns-in_default-2 c =
@@ -47,6 +47,6 @@ returns-in_default-2 c =
     let last : number ≡ r.manifest.epochs = c.number-number.ensures.number ∙ stood ∙ ap (λ (one : RecordingForm). one.manifest.epochs) c.loop-told.invariant.0 in
     IfOk-weaker c.with_rest.result
     (λ (whole : List WindowRecord). (ones : List WindowRecord) → AllZip IsSameWindow ones c.push.new.self.items → AllZip IsSameWindow (ones ++ slice_range c.args.records.now c.number-number.result (length c.args.records.now)) whole)
-    (AllZip IsSameWindow (compacted_windows (windows_of c.args.recording.now) c.args.records.now))
-    (λ whole joined. subst (λ (xs : List WindowRecord). AllZip IsSameWindow xs whole) (made_whole r records number last) (joined (take number (compacted_windows (windows_of r) records)) after))
+    (AllZip IsSameWindow (compacted_windows (all_windows c.args.recording.now) c.args.records.now))
+    (λ whole joined. subst (λ (xs : List WindowRecord). AllZip IsSameWindow xs whole) (made_whole r records number last) (joined (take number (compacted_windows (all_windows r) records)) after))
     c.with_rest.ensures

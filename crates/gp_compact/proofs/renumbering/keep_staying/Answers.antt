@@ -1,7 +1,7 @@
 use Rattle.std.proofs.Common.{◌≡◌, ◌-◌, ◌∙◌, ap, ℕ, List, Option, length, map, arith}
 use Rattle.std.specs.Prelude.{slice_index_or}
 use Rattle.std.proofs.lemmas.Result.{IfOk-weaker}
-use Rattle.gp_derivation.specs.declared.step.Step.{Step}
+use Rattle.gp_certificate.specs.declared.step.Step.{Step}
 use Rattle.gp_derivation.specs.Numbering.{with_hints}
 use Rattle.gp_compact.specs.Moving.{by_numbers, new_number, own_number, places_of, staying}
 use Rattle.gp_compact.proofs.NewNumbers.{AreListed, places_size, told_by_list}

@@ -1,5 +1,5 @@
 use Rattle.std.proofs.Common.{◌≡◌, ◌++◌, ◌∙◌, ap, List, ℕ, OnOk, map, subst}
-use Rattle.gp_report.specs.Printed.{after_words}
+use Rattle.gp_text.specs.Spelling.{after_words}
 use Rattle.gp_report.proofs.Texts.{first_put}
 use Rattle.gp_report.proofs.lines.put_joined.Goals as goal
 

@@ -1,5 +1,5 @@
 use Rattle.std.proofs.Common.{map}
-use Rattle.gp_report.proofs.Texts.{line_put}
+use Rattle.gp_text.specs.SpellingLaws.{line_put}
 use Rattle.gp_report.proofs.lines.put_line.Goals as goal
 
 pub returns : goal.returns

@@ -1,5 +1,5 @@
 use Rattle.std.proofs.Common.{◌≡◌, ◌++◌, drop, map}
-use Rattle.gp_report.specs.Printed.{after_words}
+use Rattle.gp_text.specs.Spelling.{after_words}
 use Rattle.gp_report.proofs.lines.put_words.Given as goal
 
 abbrev pub invariant-loop-word : goal.invariant-loop-word

@@ -1,7 +1,7 @@
 use Rattle.std.proofs.Common.{codes, map}
 use Rattle.std.specs.Fmt.{decimal}
 use Rattle.gp_window.specs.EventIds.{event_id_text}
-use Rattle.gp_report.proofs.Texts.{line_put_with}
+use Rattle.gp_text.specs.SpellingLaws.{line_put_with}
 use Rattle.gp_report.proofs.printing.put_instance.Goals as goal
 
 pub returns : goal.returns

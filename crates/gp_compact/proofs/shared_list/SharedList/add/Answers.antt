@@ -1,6 +1,6 @@
 use Rattle.std.proofs.Common.{◌≡◌, refl, ap, sym, ◌∙◌, true, false, List, Some, length, ℕ, arith}
 use Rattle.std.specs.List.{list_any, position}
-use Rattle.gp_derivation.specs.declared.step.Step.{Step}
+use Rattle.gp_certificate.specs.declared.step.Step.{Step}
 use Rattle.gp_compact.specs.Moving.{step_eq}
 use Rattle.gp_compact.proofs.Firstly.{found_any, found_new, missed_any}
 use Rattle.gp_compact.proofs.Found.{same_step}

@@ -1,6 +1,6 @@
 use Rattle.std.proofs.Common.{ap, ◌∙◌, List}
 use Rattle.std.specs.List.{position}
-use Rattle.gp_derivation.specs.declared.step.Step.{Step}
+use Rattle.gp_certificate.specs.declared.step.Step.{Step}
 use Rattle.gp_compact.specs.Moving.{step_eq}
 use Rattle.gp_compact.proofs.Firstly.{looked_up}
 use Rattle.gp_compact.proofs.shared_list.SharedList.first_place.Goals as goal

@@ -1,7 +1,7 @@
 use Rattle.std.proofs.Common.{◌≡◌, ap, sym, ◌∙◌, subst, ℕ, List, [], ◌∷◌, ◌++◌, length, arith}
 use Rattle.std.specs.List.{position}
 use Rattle.std.specs.Map.{lookup}
-use Rattle.gp_derivation.specs.declared.step.Step.{Step}
+use Rattle.gp_certificate.specs.declared.step.Step.{Step}
 use Rattle.gp_compact.specs.declared.shared_list.StepKey.{StepKey}
 use Rattle.gp_compact.specs.Keys.{TellsFirsts, is_key_of}
 use Rattle.gp_compact.specs.Moving.{step_eq}

@@ -4,7 +4,7 @@ use Rattle.std.specs.List.{AllZip}
 use Rattle.gp_constraint.specs.declared.fault.BaseFault.{BaseFault}
 use Rattle.gp_constraint.specs.declared.fault.BaseFault.TheVariants.{TooLarge}
 use Rattle.gp_constraint.specs.declared.fault.BaseFault.TheVariants as no_window
-use Rattle.gp_constraint.specs.Encoded.{EncodedForm, base_due}
+use Rattle.gp_constraint.specs.Encoded.{base_due}
 use Rattle.gp_instance.specs.declared.instance.Instance.{Instance}
 use Rattle.gp_instance.specs.declared.instance.InstancesFault.{InstancesFault}
 use Rattle.gp_instance.specs.declared.instance.InstancesFault.TheVariants.{Memory, TooMany}
@@ -84,7 +84,7 @@ properties_agree window known more number ticket later (property ∷ properties)
   properties_agree window known more (number + 1) _ _ properties one other a.2 b.2,
 )
 
-windows_agree : (window : WindowForm) (properties : List PropertyForm) (count other_count : ℕ) (known more : Evidence) (due : Result EncodedForm BaseFault) (one other : WindowBody)
+windows_agree : (window : WindowForm) (properties : List PropertyForm) (count other_count : ℕ) (known more : Evidence) (due : Result WindowForm BaseFault) (one other : WindowBody)
     → AnswersBody window properties count known due one → AnswersBody window properties other_count more due other → WindowsAgree one other
 windows_agree window properties count other_count known more (Err (TooLarge events clauses)) (told.TooLarge e k) (told.TooLarge f l) a b = (a.0 ∙ sym b.0, a.1 ∙ sym b.1)
 windows_agree window properties count other_count known more (Ok encoded) (told.Answers one) (told.Answers other) a b =

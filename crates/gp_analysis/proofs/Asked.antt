@@ -7,8 +7,8 @@ use Rattle.gp_clause.specs.declared.problem.Problem.{Problem}
 use Rattle.gp_clause.specs.declared.problem.Query.{Query}
 use Rattle.gp_clause.specs.Problem.{IsValidQuery}
 use Rattle.gp_constraint.specs.Base.{base_of}
-use Rattle.gp_constraint.specs.Encoded.{EncodedForm}
-use Rattle.gp_constraint.specs.EncodedLaws.{IsEncoded, few_clauses, query_valid}
+use Rattle.gp_constraint.specs.Encoded.{IsEncodable}
+use Rattle.gp_constraint.specs.EncodedLaws.{few_clauses, query_valid}
 use Rattle.gp_constraint.specs.Query.{query_of}
 use Rattle.gp_instance.specs.declared.instance.Instance.{Instance}
 use Rattle.gp_instance.specs.declared.instance.InstancesFault.{InstancesFault}
@@ -37,33 +37,33 @@ query_count window number (property ∷ properties) =
     let both = length-append (queries_of window property (found_of (due_instances window property number))) (queries_from window (number + 1) properties) in
     omega (arith, own, rest, both)
 
-each_valid : Laws → (window : WindowForm) (encoded : EncodedForm) → IsEncoded window encoded → (property : PropertyForm) (found : List Instance)
+each_valid : Laws → (window : WindowForm) → IsEncodable window → (property : PropertyForm) (found : List Instance)
     → AllByRecursion (λ (instance : Instance). IsListed window property instance.events) found → All (IsValidQuery (base_of window)) (queries_of window property (Some found))
-each_valid laws window encoded is property [] listed = All-nil (IsValidQuery (base_of window))
-each_valid laws window encoded is property (instance ∷ found) listed =
+each_valid laws window is property [] listed = All-nil (IsValidQuery (base_of window))
+each_valid laws window is property (instance ∷ found) listed =
     All-cons (IsValidQuery (base_of window)) (query_of window property instance.events) (queries_of window property (Some found))
-    (query_valid laws.valid window encoded is property instance.events listed.0.few listed.0.instance) (each_valid laws window encoded is property found listed.1)
+    (query_valid laws.valid window is property instance.events listed.0.few listed.0.instance) (each_valid laws window is property found listed.1)
 
-own_valid : Laws → (window : WindowForm) (encoded : EncodedForm) → IsEncoded window encoded → (property : PropertyForm) (due : Result (List Instance) InstancesFault)
+own_valid : Laws → (window : WindowForm) → IsEncodable window → (property : PropertyForm) (due : Result (List Instance) InstancesFault)
     → AreListed window property due → All (IsValidQuery (base_of window)) (queries_of window property (found_of due))
-own_valid laws window encoded is property (Ok found) listed = each_valid laws window encoded is property found listed.1
-own_valid laws window encoded is property (Err TooMany) listed = All-nil (IsValidQuery (base_of window))
-own_valid laws window encoded is property (Err Memory) listed = absurd listed
+own_valid laws window is property (Ok found) listed = each_valid laws window is property found listed.1
+own_valid laws window is property (Err TooMany) listed = All-nil (IsValidQuery (base_of window))
+own_valid laws window is property (Err Memory) listed = absurd listed
 
 -- all queries are valid
-pub queries_valid : Laws → (window : WindowForm) (encoded : EncodedForm) → IsEncoded window encoded → (number : ℕ) (properties : List PropertyForm) → AllByRecursion IsProperty properties
+pub queries_valid : Laws → (window : WindowForm) → IsEncodable window → (number : ℕ) (properties : List PropertyForm) → AllByRecursion IsProperty properties
     → All (IsValidQuery (base_of window)) (queries_from window number properties)
-queries_valid laws window encoded is number [] each = All-nil (IsValidQuery (base_of window))
-queries_valid laws window encoded is number (property ∷ properties) each =
+queries_valid laws window is number [] each = All-nil (IsValidQuery (base_of window))
+queries_valid laws window is number (property ∷ properties) each =
     All-append (IsValidQuery (base_of window)) (queries_of window property (found_of (due_instances window property number))) (queries_from window (number + 1) properties)
-    (own_valid laws window encoded is property (due_instances window property number) (are_listed laws.atoms window property number each.0))
-    (queries_valid laws window encoded is (number + 1) properties each.1)
+    (own_valid laws window is property (due_instances window property number) (are_listed laws.atoms window property number each.0))
+    (queries_valid laws window is (number + 1) properties each.1)
 
 -- and within the limit they can be worked
-pub can_be_worked : (window : WindowForm) (encoded : EncodedForm) → IsEncoded window encoded → (properties : List PropertyForm) (budget : ℕ) → 1 ≤ budget
+pub can_be_worked : (window : WindowForm) → IsEncodable window → (properties : List PropertyForm) (budget : ℕ) → 1 ≤ budget
     → properties_count window 0 properties * budget ≤ 1000000 → CanBeWorked (base_of window) (queries_from window 0 properties) budget
-can_be_worked window encoded is properties budget least limit = record {
-  few_clauses = few_clauses window encoded is;
+can_be_worked window is properties budget least limit = record {
+  few_clauses = few_clauses window is;
   least = least;
   few = subst (λ n. n * budget ≤ 1000000) (sym (query_count window 0 properties)) limit;
 }

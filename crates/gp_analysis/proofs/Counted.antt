@@ -8,13 +8,13 @@ use Rattle.gp_property.specs.PropertyForm.{PropertyForm}
 use Rattle.gp_window.specs.RecordingForm.{RecordingForm}
 use Rattle.gp_window.specs.WindowForm.{WindowForm, numbers_from, window_of}
 use Rattle.gp_constraint.specs.declared.fault.BaseFault.{BaseFault}
-use Rattle.gp_constraint.specs.Encoded.{EncodedForm, base_due}
+use Rattle.gp_constraint.specs.Encoded.{base_due}
 use Rattle.gp_analysis.specs.declared.counting.Counted.{Counted}
 use Rattle.gp_analysis.specs.declared.counting.Counted.TheVariants.{Listed, Asked}
 use Rattle.std.proofs.lemmas.Bool.{le-ltb, ltb-false}
 use Rattle.std.proofs.Math.Nat.{mul-le-mul_right}
 use Rattle.gp_analysis.specs.declared.runs.Run.{Run}
-use Rattle.gp_analysis.specs.Runs.{PartAll, numbers_of, run_count, windows_of}
+use Rattle.gp_analysis.specs.Runs.{numbers_of, PartAll, run_count, run_windows}
 use Rattle.gp_analysis.specs.Tickets.{asked_in, asked_of, asked_total, properties_count, too_much, total_of, window_count}
 
 module _ (count : Run → ℕ) where
@@ -35,10 +35,10 @@ sum_map : {X Y : Type 0} (f : Y → ℕ) (g : X → Y) (xs : List X) → sum_by 
 sum_map f g [] = refl
 sum_map f g (x ∷ xs) = sum_by-cons f (g x) (map g xs) ∙ ap (λ n. f (g x) + n) (sum_map f g xs) ∙ sym (sum_by-cons (λ y. f (g y)) x xs)
 
-sum_runs : (r : RecordingForm) (f : WindowForm → ℕ) (runs : List Run) → sum_by (λ (run : Run). sum_by f (windows_of r run)) runs ≡ sum_by (λ (k : ℕ). f (window_of r k)) (flat_map numbers_of runs)
+sum_runs : (r : RecordingForm) (f : WindowForm → ℕ) (runs : List Run) → sum_by (λ (run : Run). sum_by f (run_windows r run)) runs ≡ sum_by (λ (k : ℕ). f (window_of r k)) (flat_map numbers_of runs)
 sum_runs r f [] = refl
 sum_runs r f (run ∷ runs) =
-    sum_by-cons (λ (one : Run). sum_by f (windows_of r one)) run runs ∙ ap (λ n. sum_by f (windows_of r run) + n) (sum_runs r f runs)
+    sum_by-cons (λ (one : Run). sum_by f (run_windows r one)) run runs ∙ ap (λ n. sum_by f (run_windows r run) + n) (sum_runs r f runs)
     ∙ ap (λ n. n + sum_by (λ (k : ℕ). f (window_of r k)) (flat_map numbers_of runs)) (sum_map f (window_of r) (numbers_of run))
     ∙ sym (sum_by-append (λ (k : ℕ). f (window_of r k)) (numbers_of run) (flat_map numbers_of runs))
 
@@ -47,7 +47,7 @@ pub all_counted : (how : Counted) (r : RecordingForm) (ps : List PropertyForm) (
 all_counted how r ps runs counts parted is =
     ap sum is ∙ sum-map (run_count how r ps) runs ∙ sum_runs r (window_count how ps) runs ∙ ap (sum_by (λ (k : ℕ). window_count how ps (window_of r k))) parted.all
 
-asked_few : (due : Result EncodedForm BaseFault) (count : ℕ) → asked_of due count ≤ count
+asked_few : (due : Result WindowForm BaseFault) (count : ℕ) → asked_of due count ≤ count
 asked_few (Ok encoded) count = omega arith
 asked_few (Err fault) count = omega arith
 

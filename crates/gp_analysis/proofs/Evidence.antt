@@ -4,12 +4,12 @@ use Rattle.std.specs.List.{AllByRecursion}
 use Rattle.gp_clause.specs.declared.problem.Query.{Query}
 use Rattle.gp_clause.specs.Problem.{IsValidQuery}
 use Rattle.gp_constraint.specs.Base.{base_of}
-use Rattle.gp_constraint.specs.Encoded.{EncodedForm, base_due}
-use Rattle.gp_constraint.specs.EncodedLaws.{IsEncoded, is_encoded, is_valid, query_valid}
+use Rattle.gp_constraint.specs.Encoded.{IsEncodable}
+use Rattle.gp_constraint.specs.EncodedLaws.{is_valid, query_valid}
 use Rattle.gp_constraint.specs.Query.{query_of}
-use Rattle.gp_derivation.specs.declared.certificate.Certificate.{Certificate}
+use Rattle.gp_certificate.specs.declared.certificate.Certificate.{Certificate}
 use Rattle.gp_derivation.specs.declared.record.WorkerRecord.{WorkerRecord}
-use Rattle.gp_derivation.specs.Certificate.{Refutes}
+use Rattle.gp_certificate.specs.Certificate.{Refutes}
 use Rattle.gp_instance.specs.declared.instance.Instance.{Instance}
 use Rattle.gp_instance.specs.declared.instance.InstancesFault.{InstancesFault}
 use Rattle.gp_instance.specs.declared.instance.InstancesFault.TheVariants.{Memory, TooMany}
@@ -39,11 +39,7 @@ unshared budget workers = record { budget = budget; shared = []; workers = worke
 pub record IsAnswerable (window : WindowForm) : Type 0 where
   pub laws : Laws
   pub formed : IsWindow window
-  pub encoded : EncodedForm
-  pub is : IsEncoded window encoded
-
-pub answerable : (window : WindowForm) (encoded : EncodedForm) → Laws → IsWindow window → base_due window ≡ Ok encoded → IsAnswerable window
-answerable window encoded laws formed due = record { laws = laws; formed = formed; encoded = encoded; is = is_encoded window encoded due }
+  pub encodable : IsEncodable window
 
 -- a refuted query is that of an instance that is not possible
 refuted_is : (window : WindowForm) → IsAnswerable window → (property : PropertyForm) (ids : List EventId) (certificate : Certificate)
@@ -51,7 +47,7 @@ refuted_is : (window : WindowForm) → IsAnswerable window → (property : Prope
 refuted_is window can property ids certificate valid refutes = record {
   impossible = can.laws.complete.impossible window property ids can.formed
       (λ truth place valuation holds assumed.
-      can.laws.refuted.no_valuation (base_of window) (query_of window property ids) certificate (is_valid can.laws.valid window can.encoded can.is) valid refutes truth place valuation holds assumed);
+      can.laws.refuted.no_valuation (base_of window) (query_of window property ids) certificate (is_valid can.laws.valid window can.encodable) valid refutes truth place valuation holds assumed);
   refutes = (can.laws.alone.refutes (base_of window) (query_of window property ids) certificate).1 refutes;
 }
 
@@ -89,7 +85,7 @@ each_answered window can budget ticket workers property [] more answers (entry �
 each_answered window can budget ticket workers property (instance ∷ found) more [] entries left listed each tells = absurd each
 each_answered window can budget ticket workers property (instance ∷ found) more (answer ∷ answers) [] left listed each tells = absurd tells
 each_answered window can budget ticket workers property (instance ∷ found) more (answer ∷ answers) (entry ∷ entries) left listed each tells =
-    let valid = query_valid can.laws.valid window can.encoded can.is property instance.events listed.0.few listed.0.instance in
+    let valid = query_valid can.laws.valid window can.encodable property instance.events listed.0.few listed.0.instance in
     let rest = each_answered window can budget (ticket + 1) workers property found more answers entries left listed.1 each.1 tells.2 in
     ((tells.0, one_answered window can budget ticket workers property instance.events answer entry.answer valid each.0 tells.1, rest.0), λ next is. rest.1 next (omega (arith, is)))
 

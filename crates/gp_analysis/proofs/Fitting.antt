@@ -12,8 +12,8 @@ use Rattle.gp_constraint.specs.Base.{base_of}
 use Rattle.gp_constraint.specs.EncodedLaws.{is_valid, query_valid}
 use Rattle.gp_constraint.specs.Query.{query_of}
 use Rattle.gp_derivation.specs.declared.record.WorkerRecord.{WorkerRecord}
-use Rattle.gp_derivation.specs.declared.step.Step.{Step}
-use Rattle.gp_derivation.specs.Certificate.{StepsCheck}
+use Rattle.gp_certificate.specs.declared.step.Step.{Step}
+use Rattle.gp_certificate.specs.Certificate.{StepsCheck}
 use Rattle.gp_instance.specs.declared.instance.Instance.{Instance}
 use Rattle.gp_instance.specs.declared.instance.InstancesFault.{InstancesFault}
 use Rattle.gp_instance.specs.declared.instance.InstancesFault.TheVariants.{Memory, TooMany}
@@ -57,7 +57,7 @@ told_answer window can budget ticket workers few property ids (Found schedule) v
 told_answer window can budget ticket workers few property ids (Impossible certificate) valid is =
     let refutes = (can.laws.alone.refutes (base_of window) (query_of window property ids) certificate).0 is.refutes in
     told_steps (base_of window).edges ((base_of window).kinds ++ (query_of window property ids).locals) (base_of window).clauses certificate.steps
-    (few_variables window (query_of window property ids) (is_valid can.laws.valid window can.encoded can.is) valid) refutes.checks
+    (few_variables window (query_of window property ids) (is_valid can.laws.valid window can.encodable) valid) refutes.checks
 told_answer window can budget ticket workers few property ids (Undecided worker from to) valid is =
     let below : worker - 1 < length workers = within _ workers (worker - 1) is.own in
     (is.counts, omega (arith, below, few))
@@ -75,7 +75,7 @@ told_entries window can budget ticket workers few property (instance ∷ found) 
 told_entries window can budget ticket workers few property (instance ∷ found) (entry ∷ entries) listed each =
     let rest = told_entries window can budget (ticket + 1) workers few property found entries listed.1 each.2 in
     let size : length entry.events ≡ length instance.events = ap (λ (ids : List EventId). length ids) each.0 in
-    let valid = query_valid can.laws.valid window can.encoded can.is property instance.events listed.0.few listed.0.instance in
+    let valid = query_valid can.laws.valid window can.encodable property instance.events listed.0.few listed.0.instance in
     record {
       size = ap suc rest.size;
       each = All-cons IsEntry entry entries (record {

@@ -6,8 +6,6 @@ mod Told
 mod OnWay
 mod Windows
 mod Parted
-mod Walked
 mod Counted
 mod Drawing
 mod Agreement
-mod Acceptance

@@ -1,11 +1,11 @@
 -- How far the properties of a window are answered.
-use Rattle.std.proofs.Common.{◌≡◌, refl, sym, ap, ◌∙◌, subst, ℕ, ◌+◌, ◌-◌, ◌<◌, ◌≤◌, List, [], ◌∷◌, ◌++◌, length, get_or, take, drop, append_assoc, append-nil, Option, Ok, All, arith}
+use Rattle.std.proofs.Common.{◌≡◌, refl, sym, ap, ◌∙◌, subst, ℕ, ◌+◌, ◌-◌, ◌<◌, ◌≤◌, List, [], ◌∷◌, ◌++◌, length, get_or, take, drop, append_assoc, append-nil, Option, All, arith}
 use Rattle.std.proofs.lemmas.List.{take_all}
 use Rattle.std.proofs.lemmas.List.Elements.{All-nil, recursion_from_All}
 use Rattle.gp_constraint.specs.Base.{base_of}
-use Rattle.gp_constraint.specs.Encoded.{EncodedForm, base_due}
+use Rattle.gp_constraint.specs.EncodedLaws.{is_due}
 use Rattle.gp_derivation.specs.declared.record.WorkerRecord.{WorkerRecord}
-use Rattle.gp_derivation.specs.declared.step.Step.{Step}
+use Rattle.gp_certificate.specs.declared.step.Step.{Step}
 use Rattle.gp_instance.specs.declared.instance.Instance.{Instance}
 use Rattle.gp_instance.specs.Instances.{due_instances}
 use Rattle.gp_instance.specs.ListedLaws.{are_listed}
@@ -18,7 +18,7 @@ use Rattle.gp_report.specs.Report.{IsToldStep, IsWindowRecord}
 use Rattle.gp_window.specs.WindowForm.{WindowForm}
 use Rattle.gp_workers.specs.declared.work.WindowWork.{WindowWork}
 use Rattle.gp_workers.specs.declared.work.WorkAnswer.{WorkAnswer}
-use Rattle.gp_workers.specs.Records.{EachOnce}
+use Rattle.gp_workers.specs.Record.{EachOnce}
 use Rattle.gp_workers.specs.Work.{AnswerEach, IsWork}
 use Rattle.gp_analysis.specs.Answered.{AnswersBody, AnswersProperties, AnswersWindow, AreWorkers}
 use Rattle.gp_analysis.specs.Queries.{found_from, found_of, queries_from}
@@ -92,11 +92,11 @@ pub record IsDone (window : WindowForm) (properties : List PropertyForm) (count 
   pub answered : AnswersWindow properties count budget window told
   pub fits : IsWindowRecord 1 told
 
-pub all_done : (window : WindowForm) → IsAnswerable window → (encoded : EncodedForm) → base_due window ≡ Ok encoded → (properties : List PropertyForm) → All IsProperty properties → (count budget number place : ℕ) → count ≤ 16 → (work : WindowWork)
+pub all_done : (window : WindowForm) → IsAnswerable window → (properties : List PropertyForm) → All IsProperty properties → (count budget number place : ℕ) → count ≤ 16 → (work : WindowWork)
     (found : List (Option (List Instance))) (left : List WorkAnswer) (records : List PropertyRecord) (shared : List Step) (workers : List WorkerRecord) → IsWork (base_of window) (queries_from window 0 properties) count budget work
     → IsOnWay window properties [] budget place work.records found left records → shared ≡ [] → workers ≡ work.records
     → IsDone window properties count budget (record { number = number; shared = shared; body = told.Answers records; records = workers })
-all_done window can encoded due properties are count budget number place most work found left records shared workers is way none same =
+all_done window can properties are count budget number place most work found left records shared workers is way none same =
     subst (λ (steps : List Step). IsDone window properties count budget (record { number = number; shared = steps; body = told.Answers records; records = workers })) (sym none)
     (subst (λ (others : List WorkerRecord). IsDone window properties count budget (record { number = number; shared = []; body = told.Answers records; records = others })) (sym same) done)
   where
@@ -112,7 +112,7 @@ all_done window can encoded due properties are count budget number place most wo
 
     done : IsDone window properties count budget (record { number = number; shared = []; body = told.Answers records; records = work.records })
     done = record {
-      answered = subst (λ due. AnswersBody window properties count (unshared budget work.records) due (told.Answers records)) (sym due) (answers, own);
+      answered = subst (λ due. AnswersBody window properties count (unshared budget work.records) due (told.Answers records)) (sym (is_due window can.encodable)) (answers, own);
       fits = record {
         shared = All-nil IsToldStep;
         first_format = λ one. refl;

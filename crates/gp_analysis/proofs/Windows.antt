@@ -10,11 +10,12 @@ use Rattle.gp_report.specs.Report.{IsReport, IsWindowRecord}
 use Rattle.gp_report.specs.ReportForm.{ReportForm}
 use Rattle.gp_window.specs.RecordingForm.{RecordingForm}
 use Rattle.gp_window.specs.WindowForm.{WindowForm, numbers_from, window_of}
+use Rattle.gp_window.specs.Windows.{all_windows}
 use Rattle.gp_analysis.specs.declared.runs.Run.{Run}
 use Rattle.gp_analysis.specs.Answered.{AnswersWindow, IsAnswered}
-use Rattle.gp_analysis.specs.Runs.{IsRun, windows_of}
+use Rattle.gp_analysis.specs.Runs.{IsRun, run_windows}
 use Rattle.gp_analysis.specs.Tickets.{asked_in, asked_total, window_asked}
-use Rattle.gp_analysis.specs.Told.{CanBeAnalysed, TellEach, TellsWindow, all_windows}
+use Rattle.gp_analysis.specs.Told.{CanBeAnalysed, TellEach, TellsWindow}
 
 one_of_sum : (f : ℕ → ℕ) (first count k : ℕ) → first ≤ k → k < first + count → f k ≤ sum_by f (numbers_from first count)
 one_of_sum f first zero k least most = absurd (omega arith)
@@ -48,11 +49,11 @@ pub record AreTold (ps : List PropertyForm) (count budget : ℕ) (all left : Lis
   pub tell : (more : List WindowRecord) → TellEach ps count budget left more → TellEach ps count budget all (told ++ more)
 
 -- at first none is
-pub none_told : (r : RecordingForm) (ps : List PropertyForm) (count budget : ℕ) (run : Run) (left : List WindowForm) (told : List WindowRecord) → CanBeAnalysed r ps count budget → IsRun r.manifest.epochs run → left ≡ windows_of r run → told ≡ []
-    → AreTold ps count budget (windows_of r run) left told
+pub none_told : (r : RecordingForm) (ps : List PropertyForm) (count budget : ℕ) (run : Run) (left : List WindowForm) (told : List WindowRecord) → CanBeAnalysed r ps count budget → IsRun r.manifest.epochs run → left ≡ run_windows r run → told ≡ []
+    → AreTold ps count budget (run_windows r run) left told
 none_told r ps count budget run left told can is all none =
-    subst (λ (ws : List WindowForm). AreTold ps count budget (windows_of r run) ws told) (sym all)
-    (subst (AreTold ps count budget (windows_of r run) (windows_of r run)) (sym none)
+    subst (λ (ws : List WindowForm). AreTold ps count budget (run_windows r run) ws told) (sym all)
+    (subst (AreTold ps count budget (run_windows r run) (run_windows r run)) (sym none)
     (record { within = within_from r ps budget run.first run.count is.first is.last can.limit; tell = λ more tell. tell }))
 
 -- then one more is

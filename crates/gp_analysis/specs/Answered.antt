@@ -5,12 +5,12 @@ use Rattle.gp_clause.specs.declared.problem.Problem.{Problem}
 use Rattle.gp_constraint.specs.declared.fault.BaseFault.{BaseFault}
 use Rattle.gp_constraint.specs.declared.fault.BaseFault.TheVariants.{TooLarge}
 use Rattle.gp_constraint.specs.Base.{base_of}
-use Rattle.gp_constraint.specs.Encoded.{EncodedForm, base_due}
+use Rattle.gp_constraint.specs.Encoded.{base_due}
 use Rattle.gp_constraint.specs.Query.{query_of}
-use Rattle.gp_derivation.specs.declared.certificate.Certificate.{Certificate}
+use Rattle.gp_certificate.specs.declared.certificate.Certificate.{Certificate}
 use Rattle.gp_derivation.specs.declared.record.WorkerRecord.{WorkerRecord}
-use Rattle.gp_derivation.specs.declared.step.Step.{Step}
-use Rattle.gp_derivation.specs.Shared.{RefutesOver}
+use Rattle.gp_certificate.specs.declared.step.Step.{Step}
+use Rattle.gp_certificate.specs.Shared.{RefutesOver}
 use Rattle.gp_instance.specs.declared.instance.Instance.{Instance}
 use Rattle.gp_instance.specs.declared.instance.InstancesFault.{InstancesFault}
 use Rattle.gp_instance.specs.declared.instance.InstancesFault.TheVariants.{TooMany}
@@ -32,7 +32,7 @@ use Rattle.gp_window.specs.declared.schedule.EventId.{EventId}
 use Rattle.gp_window.specs.RecordingForm.{RecordingForm}
 use Rattle.gp_window.specs.WindowForm.{WindowForm, numbers_from, window_of}
 use Rattle.gp_witness.specs.Possible.{IsPossible}
-use Rattle.gp_workers.specs.Records.{EachOnce, IsWorkerRecord}
+use Rattle.gp_workers.specs.Record.{EachOnce, IsWorkerRecord}
 use Rattle.gp_workers.specs.Work.{IsSpentBy}
 use Rattle.gp_analysis.specs.Tickets.{found_count, properties_count}
 
@@ -90,7 +90,7 @@ pub record AreWorkers (problem : Problem) (count tickets : ℕ) (workers : List 
 
 -- what is told of a window by the constraints that it has: one that is too large is told with its two numbers, and has no
 -- workers
-abbrev pub AnswersBody : WindowForm → List PropertyForm → ℕ → Evidence → Result EncodedForm BaseFault → WindowBody → Type 0
+abbrev pub AnswersBody : WindowForm → List PropertyForm → ℕ → Evidence → Result WindowForm BaseFault → WindowBody → Type 0
 AnswersBody window properties count evidence (Err (TooLarge events clauses)) (told.TooLarge more_events more_clauses) =
     (more_events ≡ events) × (more_clauses ≡ clauses) × (evidence.workers ≡ [])
 AnswersBody window properties count evidence (Ok encoded) (told.Answers records) =

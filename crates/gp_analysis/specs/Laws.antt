@@ -1,7 +1,7 @@
 -- The laws of lower layers on which an answer rests.
 use Rattle.gp_constraint.specs.Laws.{ProblemsAreValid}
-use Rattle.gp_derivation.specs.Certificate.{RefutedMeans}
-use Rattle.gp_derivation.specs.Shared.{SharesNothing}
+use Rattle.gp_certificate.specs.Certificate.{RefutedMeans}
+use Rattle.gp_certificate.specs.Shared.{SharesNothing}
 use Rattle.gp_property.specs.Laws.{AtomsKept}
 use Rattle.gp_witness.specs.Complete.{SchedulesAreComplete}
 

@@ -1,6 +1,5 @@
 pub mod Tickets
 pub mod Runs
-pub mod Walks
 pub mod Answered
 pub mod Queries
 pub mod Telling
@@ -8,4 +7,3 @@ pub mod Told
 pub mod Drawn
 pub mod Laws
 pub mod Agreement
-pub mod Acceptance

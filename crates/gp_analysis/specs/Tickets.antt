@@ -1,7 +1,7 @@
 -- How many instances there are, and how many of them are asked.
 use Rattle.std.specs.Prelude.{ℕ, ◌+◌, ◌*◌, List, [], ◌∷◌, Option, None, Some, Result, Ok, Err, if◌then◌else◌, length, nat_lt, sum_by}
 use Rattle.gp_constraint.specs.declared.fault.BaseFault.{BaseFault}
-use Rattle.gp_constraint.specs.Encoded.{EncodedForm, base_due}
+use Rattle.gp_constraint.specs.Encoded.{base_due}
 use Rattle.gp_instance.specs.declared.instance.Instance.{Instance}
 use Rattle.gp_instance.specs.declared.instance.InstancesFault.{InstancesFault}
 use Rattle.gp_instance.specs.Instances.{due_instances}
@@ -23,7 +23,7 @@ properties_count window number (property ∷ properties) =
     found_count (due_instances window property number) + properties_count window (number + 1) properties
 
 -- how many of so many instances are asked in a window that has these constraints: none where it is too large
-abbrev pub asked_of : Result EncodedForm BaseFault → ℕ → ℕ
+abbrev pub asked_of : Result WindowForm BaseFault → ℕ → ℕ
 asked_of (Ok encoded) count = count
 asked_of (Err fault) count = 0
 

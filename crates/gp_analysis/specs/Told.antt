@@ -1,11 +1,11 @@
 -- What is told of the windows of a recording.
-use Rattle.std.specs.Prelude.{ℕ, ◌≡◌, ◌*◌, ◌≤◌, List, length, map}
+use Rattle.std.specs.Prelude.{ℕ, ◌≡◌, ◌*◌, ◌≤◌, List, length}
 use Rattle.std.specs.List.{AllZip}
 use Rattle.gp_property.specs.PropertyForm.{PropertyForm}
 use Rattle.gp_report.specs.declared.record.WindowRecord.{WindowRecord}
 use Rattle.gp_report.specs.Report.{IsWindowRecord}
 use Rattle.gp_window.specs.RecordingForm.{RecordingForm}
-use Rattle.gp_window.specs.WindowForm.{WindowForm, numbers_from, window_of}
+use Rattle.gp_window.specs.WindowForm.{WindowForm}
 use Rattle.gp_analysis.specs.Answered.{AnswersWindow}
 use Rattle.gp_analysis.specs.Tickets.{asked_total}
 
@@ -25,7 +25,3 @@ pub record TellsWindow (properties : List PropertyForm) (count budget : ℕ) (wi
 -- records tell windows, one by one and in order
 abbrev pub TellEach : List PropertyForm → ℕ → ℕ → List WindowForm → List WindowRecord → Type 0
 TellEach properties count budget windows told = AllZip (TellsWindow properties count budget) windows told
-
--- all windows of a recording
-abbrev pub all_windows : RecordingForm → List WindowForm
-all_windows recording = map (window_of recording) (numbers_from 1 recording.manifest.epochs)

@@ -1,19 +1,19 @@
 ghost use Rattle.std.specs.Prelude.{◌≡◌, ◌*◌, ◌≤◌, IfOk, length};
 ghost use Rattle.gp_analysis.specs.Answered.{IsAnswered};
-ghost use Rattle.gp_analysis.specs.Runs.{IsRun, windows_of};
+ghost use Rattle.gp_analysis.specs.Runs.{IsRun, run_windows};
 ghost use Rattle.gp_analysis.specs.Tickets.{asked_total};
-ghost use Rattle.gp_analysis.specs.Told.{CanBeAnalysed, TellEach, all_windows};
+ghost use Rattle.gp_analysis.specs.Told.{CanBeAnalysed, TellEach};
+ghost use Rattle.gp_window.specs.Windows.{all_windows};
 
-use crate::run_walk::RunWalk;
 use crate::runs::Run;
 use crate::side_by_side::told_side_by_side;
-use crate::task::{Order, Task};
+use crate::task::{Instructions, Order};
 use crate::window::window_record;
 use gp_base::Row;
 use gp_outside::Gate;
 use gp_property::Property;
 use gp_report::{Report, WindowRecord};
-use gp_window::Recording;
+use gp_window::{Recording, Windows};
 use std::alloc::{AllocError, Global};
 use std::sync::Wait;
 use std::thread::Threads;
@@ -42,7 +42,7 @@ pub fn analyse<R: Threads + Wait + Sync, G: Gate + Sync>(
     ensures answered { IfOk result (IsAnswered recording.now properties.now workers budget) }
     ensures format { IfOk result (λ report. report.format ≡ 1) }
 {
-    let task = Task {
+    let task = Instructions {
         properties,
         workers,
         budget,
@@ -57,7 +57,7 @@ fn told_windows<R: Threads + Wait + Sync, G: Gate + Sync>(
     rt: &R,
     alloc: Global,
     recording: &Recording,
-    task: &Task<'_, G>,
+    task: &Instructions<'_, G>,
 ) -> Result<Vec<WindowRecord>, AllocError>
     requires { CanBeAnalysed recording.now task.now.properties.now task.now.workers task.now.budget }
     ensures { IfOk result (λ told.
@@ -80,17 +80,17 @@ fn told_run<R: Threads + Wait + Sync, G: Gate + Sync>(
     alloc: Global,
     recording: &Recording,
     run: Run,
-    task: &Task<'_, G>,
+    task: &Instructions<'_, G>,
 ) -> Result<Vec<WindowRecord>, AllocError>
     requires can { CanBeAnalysed recording.now task.now.properties.now task.now.workers task.now.budget }
     requires run { IsRun recording.now.manifest.epochs run }
     ensures { IfOk result (λ told.
-        TellEach task.now.properties.now task.now.workers task.now.budget (windows_of recording.now run) told.items) }
+        TellEach task.now.properties.now task.now.workers task.now.budget (run_windows recording.now run) told.items) }
 {
     let mut told = Vec::new(alloc);
-    let mut walk = RunWalk::new(alloc, recording, run)?;
-    while let Some(window) = walk.next(alloc)? {
-        told.push(window_record(rt, alloc, &window, task, Order::SideBySide)?)?;
+    let mut windows = Windows::from(alloc, recording, run.first, run.count)?;
+    while let Some(window) = windows.next(alloc)? {
+        told.push(window_record(rt, alloc, window, task, Order::SideBySide)?)?;
     }
     Ok(told)
 }

@@ -3,12 +3,11 @@ ghost use Rattle.gp_instance.specs.Instances.{due_instances};
 ghost use Rattle.gp_analysis.specs.Runs.{IsRun, PartAll, run_count};
 ghost use Rattle.gp_analysis.specs.Tickets.{found_count, properties_count, too_much, total_of, window_asked, window_count};
 
-use crate::run_walk::RunWalk;
 use crate::runs::{Run, runs_of};
 use gp_constraint::{BaseFault, base};
 use gp_instance::{InstancesFault, instances};
 use gp_property::Property;
-use gp_window::{Recording, Window};
+use gp_window::{Recording, Window, Windows};
 use rayon::prelude::*;
 use std::alloc::{AllocError, Global};
 use std::thread::Threads;
@@ -128,9 +127,9 @@ fn run_count(
     ensures { IfOk result (λ count. count ≡ run_count counted recording.now properties.now run) }
 {
     let mut count = 0;
-    let mut walk = RunWalk::new(alloc, recording, run)?;
-    while let Some(window) = walk.next(alloc)? {
-        count = added(count, window_count(alloc, &window, properties, counted)?)?;
+    let mut windows = Windows::from(alloc, recording, run.first, run.count)?;
+    while let Some(window) = windows.next(alloc)? {
+        count = added(count, window_count(alloc, window, properties, counted)?)?;
     }
     Ok(count)
 }
@@ -138,26 +137,26 @@ fn run_count(
 // How many instances there are in a window.
 fn window_count(
     alloc: Global,
-    window: &Window,
+    window: Window,
     properties: &[Property],
     counted: Counted,
 ) -> Result<u64, AllocError>
     requires { length properties.now ≤ 64 }
-    ensures { IfOk result (λ count. count ≡ window_count counted properties.now window.now) }
+    ensures { IfOk result (λ count. count ≡ window_count counted properties.now window) }
 {
     match counted {
-        Counted::Listed => properties_count(alloc, window, properties),
+        Counted::Listed => properties_count(alloc, &window, properties),
         Counted::Asked => window_asked(alloc, window, properties),
     }
 }
 
 // How many instances are asked in a window.
-fn window_asked(alloc: Global, window: &Window, properties: &[Property]) -> Result<u64, AllocError>
+fn window_asked(alloc: Global, window: Window, properties: &[Property]) -> Result<u64, AllocError>
     requires { length properties.now ≤ 64 }
-    ensures { IfOk result (λ asked. asked ≡ window_asked properties.now window.now) }
+    ensures { IfOk result (λ asked. asked ≡ window_asked properties.now window) }
 {
     match base(alloc, window) {
-        Ok(_encoded) => properties_count(alloc, window, properties),
+        Ok(encoded) => properties_count(alloc, encoded.window(), properties),
         Err(BaseFault::TooLarge { .. }) => Ok(0),
         Err(BaseFault::Memory) => Err(AllocError),
     }

@@ -1,6 +1,5 @@
 ghost use Rattle.std.specs.Prelude.{◌≡◌, true, IfOk};
 ghost use Rattle.gp_constraint.specs.Base.{base_of};
-ghost use Rattle.gp_constraint.specs.Encoded.{encoded_of};
 ghost use Rattle.gp_constraint.specs.Query.{query_of};
 ghost use Rattle.gp_instance.specs.Instance.{is_instance};
 ghost use Rattle.gp_analysis.specs.Telling.{CanTell, CanTellEach, IsSound, TellsAnswer, TellsEach, TellsFound};
@@ -11,7 +10,6 @@ use gp_constraint::Encoded;
 use gp_instance::Instance;
 use gp_property::Property;
 use gp_report::{Answer, Entry, PropertyBody, PropertyRecord};
-use gp_window::Window;
 use gp_witness::schedule_of;
 use gp_workers::WorkAnswer;
 use std::alloc::{AllocError, Global};
@@ -19,39 +17,34 @@ use std::alloc::{AllocError, Global};
 // What is told of a property by the first of the answers, which are those to its instances.
 pub(crate) fn property_record(
     alloc: Global,
-    window: &Window,
     encoded: &Encoded,
     property: &Property,
     found: &Option<Row<Instance>>,
     answers: &mut Untold,
 ) -> Result<PropertyRecord, AllocError>
-    requires encoded { encoded.now ≡ encoded_of window.now }
-    requires answers { CanTell window.now property.now found.now answers.old }
+    requires { CanTell encoded.now property.now found.now answers.old }
     ensures name { IfOk result (λ told. told.name ≡ property.now.name) }
-    ensures body { IfOk result (λ told. TellsFound window.now property.now found.now answers.old told.body answers.new) }
+    ensures body { IfOk result (λ told. TellsFound encoded.now property.now found.now answers.old told.body answers.new) }
 {
     let name = *property.name();
-    let body = property_body(alloc, window, encoded, property, found, answers)?;
+    let body = property_body(alloc, encoded, property, found, answers)?;
     Ok(PropertyRecord { name, body })
 }
 
 fn property_body(
     alloc: Global,
-    window: &Window,
     encoded: &Encoded,
     property: &Property,
     found: &Option<Row<Instance>>,
     answers: &mut Untold,
 ) -> Result<PropertyBody, AllocError>
-    requires encoded { encoded.now ≡ encoded_of window.now }
-    requires answers { CanTell window.now property.now found.now answers.old }
-    ensures { IfOk result (λ body. TellsFound window.now property.now found.now answers.old body answers.new) }
+    requires { CanTell encoded.now property.now found.now answers.old }
+    ensures { IfOk result (λ body. TellsFound encoded.now property.now found.now answers.old body answers.new) }
 {
     match found {
         None => Ok(PropertyBody::TooMany),
         Some(found) => Ok(PropertyBody::Entries(entries_of(
             alloc,
-            window,
             encoded,
             property,
             found.as_slice(),
@@ -63,39 +56,35 @@ fn property_body(
 // An entry for each of these instances, in order.
 fn entries_of(
     alloc: Global,
-    window: &Window,
     encoded: &Encoded,
     property: &Property,
     found: &[Instance],
     answers: &mut Untold,
 ) -> Result<Row<Entry>, AllocError>
-    requires encoded { encoded.now ≡ encoded_of window.now }
-    requires answers { CanTellEach window.now property.now found.now answers.old }
-    ensures { IfOk result (λ entries. TellsEach window.now property.now found.now answers.old entries answers.new) }
+    requires { CanTellEach encoded.now property.now found.now answers.old }
+    ensures { IfOk result (λ entries. TellsEach encoded.now property.now found.now answers.old entries answers.new) }
 {
     let mut entries = Row::new(alloc);
     for instance in found {
         let answer = answers.take_first();
-        entries.push(entry_of(alloc, window, encoded, property, instance, answer)?)?;
+        entries.push(entry_of(alloc, encoded, property, instance, answer)?)?;
     }
     Ok(entries)
 }
 
 fn entry_of(
     alloc: Global,
-    window: &Window,
     encoded: &Encoded,
     property: &Property,
     instance: &Instance,
     answer: WorkAnswer,
 ) -> Result<Entry, AllocError>
-    requires encoded { encoded.now ≡ encoded_of window.now }
-    requires instance { is_instance window.now property.now instance.now.events ≡ true }
-    requires answer { IsSound (base_of window.now) (query_of window.now property.now instance.now.events) answer }
+    requires instance { is_instance encoded.now property.now instance.now.events ≡ true }
+    requires answer { IsSound (base_of encoded.now) (query_of encoded.now property.now instance.now.events) answer }
     ensures events { IfOk result (λ entry. entry.events ≡ instance.now.events) }
-    ensures answer { IfOk result (λ entry. TellsAnswer window.now property.now instance.now.events answer entry.answer) }
+    ensures answer { IfOk result (λ entry. TellsAnswer encoded.now property.now instance.now.events answer entry.answer) }
 {
-    let answer = answer_of(alloc, window, encoded, property, instance, answer)?;
+    let answer = answer_of(alloc, encoded, property, instance, answer)?;
     let events = Row::from_vec(Vec::from_slice(alloc, instance.events.as_slice())?);
     Ok(Entry { events, answer })
 }
@@ -103,20 +92,18 @@ fn entry_of(
 // A valuation is told as the schedule that it gives; a certificate and a spent budget are told as they are.
 fn answer_of(
     alloc: Global,
-    window: &Window,
     encoded: &Encoded,
     property: &Property,
     instance: &Instance,
     answer: WorkAnswer,
 ) -> Result<Answer, AllocError>
-    requires encoded { encoded.now ≡ encoded_of window.now }
-    requires instance { is_instance window.now property.now instance.now.events ≡ true }
-    requires answer { IsSound (base_of window.now) (query_of window.now property.now instance.now.events) answer }
-    ensures { IfOk result (TellsAnswer window.now property.now instance.now.events answer) }
+    requires instance { is_instance encoded.now property.now instance.now.events ≡ true }
+    requires answer { IsSound (base_of encoded.now) (query_of encoded.now property.now instance.now.events) answer }
+    ensures { IfOk result (TellsAnswer encoded.now property.now instance.now.events answer) }
 {
     match answer {
         WorkAnswer::Model(valuation) => Ok(Answer::Found(schedule_of(
-            alloc, window, encoded, property, instance, &valuation,
+            alloc, encoded, property, instance, &valuation,
         )?)),
         WorkAnswer::Refuted(certificate) => Ok(Answer::Impossible(certificate)),
         WorkAnswer::Spent { worker, from, to } => Ok(Answer::Undecided { worker, from, to }),

@@ -11,7 +11,6 @@ mod drawn;
 mod entries;
 mod laws;
 mod listing;
-mod run_walk;
 mod runs;
 mod side_by_side;
 mod task;
@@ -21,4 +20,4 @@ mod window_walk;
 
 pub use analysing::analyse;
 pub use counting::too_much;
-pub use laws::{answered_is_accepted, reports_agree};
+pub use laws::reports_agree;

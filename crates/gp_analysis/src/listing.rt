@@ -1,5 +1,4 @@
 ghost use Rattle.std.specs.Prelude.{◌≡◌, ◌≤◌, ◌++◌, All, IfOk, OnOk, length, map};
-ghost use Rattle.gp_constraint.specs.Encoded.{encoded_of};
 ghost use Rattle.gp_constraint.specs.Query.{query_of};
 ghost use Rattle.gp_instance.specs.Instances.{due_instances};
 ghost use Rattle.gp_property.specs.Property.{IsProperty};
@@ -16,34 +15,33 @@ use std::alloc::{AllocError, Global};
 // What is asked of a window: the instances of each property, nothing where there are too many; and the query of each
 // instance, in order. The number of a query is its ticket.
 #[derive(Drop)]
-pub(crate) struct Listing {
+pub(crate) struct AskedWindow {
     pub(crate) found: Vec<Option<Row<Instance>>>,
     pub(crate) queries: Vec<Query>,
 }
 
-// What is asked of a window, whose problem is encoded.
+// What is asked of a window that is encoded.
 pub(crate) fn listing_of(
     alloc: Global,
-    window: &Window,
     encoded: &Encoded,
     properties: &[Property],
-) -> Result<Listing, AllocError>
-    requires few { length properties.now ≤ 64 }
-    requires encoded { encoded.now ≡ encoded_of window.now }
+) -> Result<AskedWindow, AllocError>
+    requires { length properties.now ≤ 64 }
     ensures properties { OnOk result (All IsProperty properties.now) }
-    ensures found { IfOk result (λ listing. listing.found.items ≡ found_from window.now 0 properties.now) }
-    ensures queries { IfOk result (λ listing. listing.queries.items ≡ queries_from window.now 0 properties.now) }
+    ensures found { IfOk result (λ listing. listing.found.items ≡ found_from encoded.now 0 properties.now) }
+    ensures queries { IfOk result (λ listing. listing.queries.items ≡ queries_from encoded.now 0 properties.now) }
 {
+    let window = encoded.window();
     let mut found = Vec::new(alloc);
     let mut queries = Vec::new(alloc);
     for (number, property) in properties.iter().enumerate() {
         // the type says that it is a property of the language
         let _ = property.name();
         let own = found_of(alloc, window, property, number as u32)?;
-        add_queries(alloc, &mut queries, window, encoded, property, &own)?;
+        add_queries(alloc, &mut queries, encoded, property, &own)?;
         found.push(own)?;
     }
-    Ok(Listing { found, queries })
+    Ok(AskedWindow { found, queries })
 }
 
 // The instances of a property in a window, nothing where there are too many.
@@ -66,33 +64,29 @@ fn found_of(
 fn add_queries(
     alloc: Global,
     queries: &mut Vec<Query>,
-    window: &Window,
     encoded: &Encoded,
     property: &Property,
     found: &Option<Row<Instance>>,
 ) -> Result<(), AllocError>
-    requires { encoded.now ≡ encoded_of window.now }
-    ensures { OnOk result (queries.new.items ≡ queries.old.items ++ queries_of window.now property.now found.now) }
+    ensures { OnOk result (queries.new.items ≡ queries.old.items ++ queries_of encoded.now property.now found.now) }
 {
     match found {
         None => Ok(()),
-        Some(found) => add_all(alloc, queries, window, encoded, property, found.as_slice()),
+        Some(found) => add_all(alloc, queries, encoded, property, found.as_slice()),
     }
 }
 
 fn add_all(
     alloc: Global,
     queries: &mut Vec<Query>,
-    window: &Window,
     encoded: &Encoded,
     property: &Property,
     found: &[Instance],
 ) -> Result<(), AllocError>
-    requires { encoded.now ≡ encoded_of window.now }
-    ensures { OnOk result (queries.new.items ≡ queries.old.items ++ map (λ instance. query_of window.now property.now instance.events) found.now) }
+    ensures { OnOk result (queries.new.items ≡ queries.old.items ++ map (λ instance. query_of encoded.now property.now instance.events) found.now) }
 {
     for instance in found {
-        queries.push(query(alloc, encoded, window, property, instance)?)?;
+        queries.push(query(alloc, encoded, property, instance)?)?;
     }
     Ok(())
 }

@@ -1,14 +1,15 @@
 ghost use Rattle.std.specs.Prelude.{◌≡◌, ◌≤◌, All, IfOk, length};
-ghost use Rattle.gp_workers.specs.Drawers.{IsUnused};
-ghost use Rattle.gp_analysis.specs.Drawn.{IsDrawn};
-ghost use Rattle.gp_analysis.specs.Told.{CanBeAnalysed, TellEach, all_windows};
+ghost use Rattle.gp_tickets.specs.Tickets.{IsUnused};
+ghost use Rattle.gp_analysis.specs.Drawn.{TellsDrawn};
+ghost use Rattle.gp_analysis.specs.Told.{CanBeAnalysed, TellEach};
+ghost use Rattle.gp_window.specs.Windows.{all_windows};
 
-use crate::drawn::{Drawn, gather, tell_drawn};
-use crate::task::Task;
+use crate::drawn::{gather, tell_drawn};
+use crate::task::Instructions;
 use gp_outside::Gate;
 use gp_report::WindowRecord;
+use gp_tickets::{Drawer, Drawn, Tickets};
 use gp_window::Recording;
-use gp_workers::{Drawer, Tickets};
 use std::alloc::{AllocError, Global};
 use std::sync::Wait;
 use std::thread;
@@ -19,7 +20,7 @@ pub(crate) fn told_side_by_side<R: Threads + Wait + Sync, G: Gate + Sync>(
     rt: &R,
     alloc: Global,
     recording: &Recording,
-    task: &Task<'_, G>,
+    task: &Instructions<'_, G>,
 ) -> Result<Vec<WindowRecord>, AllocError>
     requires can { CanBeAnalysed recording.now task.now.properties.now task.now.workers task.now.budget }
     requires enough { task.now.workers ≤ recording.now.manifest.epochs }
@@ -29,7 +30,8 @@ pub(crate) fn told_side_by_side<R: Threads + Wait + Sync, G: Gate + Sync>(
     let epochs = recording.manifest().epochs();
     let (tickets, drawers) = Tickets::new(alloc, u64::from(epochs), task.workers)?;
     let parts = told_by_each(rt, alloc, recording, task, &tickets, drawers)?;
-    Ok(gather(&tickets, parts)?.in_order())
+    let told = gather(&tickets, parts)?.in_order(alloc)?;
+    Ok(told)
 }
 
 // What is told of the windows that each of these drawers draws. One alone draws in the calling thread.
@@ -37,22 +39,22 @@ fn told_by_each<R: Threads + Wait + Sync, G: Gate + Sync>(
     rt: &R,
     alloc: Global,
     recording: &Recording,
-    task: &Task<'_, G>,
+    task: &Instructions<'_, G>,
     tickets: &Tickets,
     drawers: Vec<Drawer>,
-) -> Result<Vec<Result<Drawn, AllocError>>, AllocError>
+) -> Result<Vec<Result<Drawn<WindowRecord>, AllocError>>, AllocError>
     requires can { CanBeAnalysed recording.now task.now.properties.now task.now.workers task.now.budget }
     requires count { tickets.now.count ≡ recording.now.manifest.epochs }
     requires drawers { All (IsUnused tickets.now) drawers.items }
     ensures len { IfOk result (λ parts. length parts.items ≡ length drawers.items) }
-    ensures drawn { IfOk result (λ parts. All (λ part. IfOk part (IsDrawn tickets.now recording.now task.now.properties.now task.now.workers task.now.budget 1)) parts.items) }
+    ensures drawn { IfOk result (λ parts. All (λ part. IfOk part (TellsDrawn tickets.now recording.now task.now.properties.now task.now.workers task.now.budget 1)) parts.items) }
 {
     thread::map_vec(
         rt,
         drawers,
-        &|drawer: Drawer| -> Result<Drawn, AllocError>
+        &|drawer: Drawer| -> Result<Drawn<WindowRecord>, AllocError>
             requires { CanBeAnalysed recording.now task.now.properties.now task.now.workers task.now.budget × (tickets.now.count ≡ recording.now.manifest.epochs) × IsUnused tickets.now drawer }
-            ensures { IfOk result (IsDrawn tickets.entry.now recording.entry.now task.entry.now.properties.now task.entry.now.workers task.entry.now.budget 1) }
+            ensures { IfOk result (TellsDrawn tickets.entry.now recording.entry.now task.entry.now.properties.now task.entry.now.workers task.entry.now.budget 1) }
         { tell_drawn(rt, alloc, recording, task, tickets, drawer) },
     )
 }

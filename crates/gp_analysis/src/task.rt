@@ -3,7 +3,7 @@ use gp_property::Property;
 // What is asked of each window: its instances of these properties are answered by so many workers, each of which has this
 // budget for an instance, and passes the gate before each of its own.
 #[derive(Drop)]
-pub(crate) struct Task<'a, G> {
+pub(crate) struct Instructions<'a, G> {
     pub(crate) properties: &'a [Property],
     pub(crate) workers: u32,
     pub(crate) budget: u64,

@@ -1,7 +1,6 @@
-ghost use Rattle.std.specs.Prelude.{◌≡◌, ◌*◌, ◌≤◌, All, IfOk, Ok, length};
+ghost use Rattle.std.specs.Prelude.{◌≡◌, ◌*◌, ◌≤◌, All, IfOk, length};
 ghost use Rattle.gp_clause.specs.Problem.{IsValidProblem, IsValidQuery};
-ghost use Rattle.gp_constraint.specs.Encoded.{base_due};
-ghost use Rattle.gp_constraint.specs.Laws.{IsSolvable};
+ghost use Rattle.gp_clause.specs.Edge.{IsSolvable};
 ghost use Rattle.gp_property.specs.Property.{IsProperty};
 ghost use Rattle.gp_report.specs.Report.{IsWindowRecord};
 ghost use Rattle.gp_workers.specs.Work.{CanBeWorked, IsWork};
@@ -11,13 +10,13 @@ ghost use Rattle.gp_analysis.specs.Queries.{found_from, queries_from};
 ghost use Rattle.gp_analysis.specs.Tickets.{properties_count, window_asked};
 
 use crate::entries::property_record;
-use crate::listing::{Listing, listing_of};
-use crate::task::{Order, Task};
+use crate::listing::{AskedWindow, listing_of};
+use crate::task::{Instructions, Order};
 use crate::untold::Untold;
 use gp_base::Row;
+use gp_certificate::{refuted_means, shares_nothing};
 use gp_clause::{Problem, Query};
 use gp_constraint::{BaseFault, Encoded, base, problems_are_valid};
-use gp_derivation::{refuted_means, shares_nothing};
 use gp_outside::Gate;
 use gp_property::atoms_kept;
 use gp_report::{WindowBody, WindowRecord};
@@ -32,22 +31,23 @@ use std::thread::Threads;
 pub(crate) fn window_record<R: Threads + Wait + Sync, G: Gate + Sync>(
     rt: &R,
     alloc: Global,
-    window: &Window,
-    task: &Task<'_, G>,
+    window: Window,
+    task: &Instructions<'_, G>,
     order: Order,
 ) -> Result<WindowRecord, AllocError>
     requires few { length task.now.properties.now ≤ 64 }
     requires workers { (1 ≤ task.now.workers) × (task.now.workers ≤ 16) }
     requires budget { 1 ≤ task.now.budget }
-    requires limit { window_asked task.now.properties.now window.now * task.now.budget ≤ 1000000 }
-    ensures number { IfOk result (λ told. told.number ≡ window.now.number) }
-    ensures answered { IfOk result (AnswersWindow task.now.properties.now task.now.workers task.now.budget window.now) }
+    requires limit { window_asked task.now.properties.now window * task.now.budget ≤ 1000000 }
+    ensures number { IfOk result (λ told. told.number ≡ window.number) }
+    ensures answered { IfOk result (AnswersWindow task.now.properties.now task.now.workers task.now.budget window) }
     ensures fits { IfOk result (IsWindowRecord 1) }
 {
+    let number = window.number();
     match base(alloc, window) {
-        Ok(encoded) => answered_record(rt, alloc, window, &encoded, task, order),
+        Ok(encoded) => answered_record(rt, alloc, &encoded, task, order),
         Err(BaseFault::TooLarge { events, clauses }) => Ok(WindowRecord {
-            number: window.number(),
+            number,
             shared: Row::new(alloc),
             body: WindowBody::TooLarge { events, clauses },
             records: Row::new(alloc),
@@ -60,46 +60,43 @@ pub(crate) fn window_record<R: Threads + Wait + Sync, G: Gate + Sync>(
 fn answered_record<R: Threads + Wait + Sync, G: Gate + Sync>(
     rt: &R,
     alloc: Global,
-    window: &Window,
     encoded: &Encoded,
-    task: &Task<'_, G>,
+    task: &Instructions<'_, G>,
     order: Order,
 ) -> Result<WindowRecord, AllocError>
     requires few { length task.now.properties.now ≤ 64 }
     requires workers { (1 ≤ task.now.workers) × (task.now.workers ≤ 16) }
     requires budget { 1 ≤ task.now.budget }
-    requires limit { properties_count window.now 0 task.now.properties.now * task.now.budget ≤ 1000000 }
-    requires due { base_due window.now ≡ Ok encoded.now }
-    ensures number { IfOk result (λ told. told.number ≡ window.now.number) }
-    ensures answered { IfOk result (AnswersWindow task.now.properties.now task.now.workers task.now.budget window.now) }
+    requires limit { properties_count encoded.now 0 task.now.properties.now * task.now.budget ≤ 1000000 }
+    ensures number { IfOk result (λ told. told.number ≡ encoded.now.number) }
+    ensures answered { IfOk result (AnswersWindow task.now.properties.now task.now.workers task.now.budget encoded.now) }
     ensures fits { IfOk result (IsWindowRecord 1) }
 {
-    let listing = listing_of(alloc, window, encoded, task.properties)?;
-    worked_record(rt, alloc, window, encoded, &listing, task, order)
+    let listing = listing_of(alloc, encoded, task.properties)?;
+    worked_record(rt, alloc, encoded, &listing, task, order)
 }
 
 // The workers answer the queries; then each answer is told, property by property.
 fn worked_record<R: Threads + Wait + Sync, G: Gate + Sync>(
     rt: &R,
     alloc: Global,
-    window: &Window,
     encoded: &Encoded,
-    listing: &Listing,
-    task: &Task<'_, G>,
+    listing: &AskedWindow,
+    task: &Instructions<'_, G>,
     order: Order,
 ) -> Result<WindowRecord, AllocError>
     requires workers { (1 ≤ task.now.workers) × (task.now.workers ≤ 16) }
     requires budget { 1 ≤ task.now.budget }
-    requires limit { properties_count window.now 0 task.now.properties.now * task.now.budget ≤ 1000000 }
-    requires due { base_due window.now ≡ Ok encoded.now }
+    requires limit { properties_count encoded.now 0 task.now.properties.now * task.now.budget ≤ 1000000 }
     requires properties { All IsProperty task.now.properties.now }
-    requires found { listing.now.found.items ≡ found_from window.now 0 task.now.properties.now }
-    requires queries { listing.now.queries.items ≡ queries_from window.now 0 task.now.properties.now }
-    ensures number { IfOk result (λ told. told.number ≡ window.now.number) }
-    ensures answered { IfOk result (AnswersWindow task.now.properties.now task.now.workers task.now.budget window.now) }
+    requires found { listing.now.found.items ≡ found_from encoded.now 0 task.now.properties.now }
+    requires queries { listing.now.queries.items ≡ queries_from encoded.now 0 task.now.properties.now }
+    ensures number { IfOk result (λ told. told.number ≡ encoded.now.number) }
+    ensures answered { IfOk result (AnswersWindow task.now.properties.now task.now.workers task.now.budget encoded.now) }
     ensures fits { IfOk result (IsWindowRecord 1) }
 {
     laws();
+    let window = encoded.window();
     let number = window.number();
     let queries = listing.queries.as_slice();
     let WindowWork {
@@ -114,7 +111,7 @@ fn worked_record<R: Threads + Wait + Sync, G: Gate + Sync>(
         let [found, more @ ..] = left else {
             unreachable!()
         };
-        told.push(property_record(alloc, window, encoded, property, found, &mut untold)?)?;
+        told.push(property_record(alloc, encoded, property, found, &mut untold)?)?;
         left = more;
     }
     Ok(WindowRecord {
@@ -131,7 +128,7 @@ fn work<R: Threads + Wait + Sync, G: Gate + Sync>(
     alloc: Global,
     problem: &Problem,
     queries: &[Query],
-    task: &Task<'_, G>,
+    task: &Instructions<'_, G>,
     order: Order,
 ) -> Result<WindowWork, AllocError>
     requires workers { (1 ≤ task.now.workers) × (task.now.workers ≤ 16) }

@@ -1,8 +1,9 @@
 -- What is told of all windows is a report, which answers the recording.
 use Rattle.std.proofs.Common.{sym, subst}
-use Rattle.gp_analysis.specs.Told.{TellEach, all_windows}
+use Rattle.gp_analysis.specs.Told.{TellEach}
 use Rattle.gp_analysis.proofs.Windows.{is_report, report_answers}
 use Rattle.gp_analysis.proofs.analysing.analyse.Goals as goal
+use Rattle.gp_window.specs.Windows.{all_windows}
 
 pub new-requires : goal.new-requires
 new-requires g c =

@@ -2,12 +2,28 @@
 use Rattle.std.proofs.Common.{◌≡◌, ◌∙◌, sym, ap, subst, ℕ, ◌+◌, Some, Result, IfOk, length, arith}
 use Rattle.std.specs.declared.alloc.AllocError.{AllocError}
 use Rattle.std.proofs.lemmas.List.Elements.{All-pop}
-use Rattle.gp_workers.specs.declared.ticket_rule.Hand.{Hand}
-use Rattle.gp_workers.specs.Drawers.{IsSingle, hand_of}
-use Rattle.gp_analysis.specs.declared.drawn.Drawn.{Drawn}
-use Rattle.gp_analysis.specs.Drawn.{IsDrawn}
+use Rattle.gp_report.specs.declared.record.WindowRecord.{WindowRecord}
+use Rattle.gp_tickets.specs.declared.drawn.Drawn.{Drawn}
+use Rattle.gp_tickets.specs.Drawn.{HasDrawn, drawers_of}
+use Rattle.gp_analysis.specs.Drawn.{TellsDrawn}
 use Rattle.gp_analysis.proofs.Drawing.{both_drawn}
 use Rattle.gp_analysis.proofs.drawn.gather.Goals as goal
+
+pub loop-part-init : goal.loop-part-init
+loop-part-init c =
+    let tickets = c.args.tickets.now in
+    let first = c.in_ok-all.all in
+    let Left : Result (Drawn WindowRecord) AllocError → Type 0 = λ part. IfOk part (HasDrawn tickets) in
+    let popped = All-pop Left c.args.parts.items c.pop.new.self.items (Some c.in-Some.first) c.in-Some.ensures.items c.requires.drawn in
+    record {
+      left = popped.0;
+      own = subst Left c.in_ok-all.was popped.1;
+      tells = λ recording properties count budget all.
+          let Own : Result (Drawn WindowRecord) AllocError → Type 0 = λ part. IfOk part (TellsDrawn tickets recording properties count budget 1) in
+          let more = All-pop Own c.args.parts.items c.pop.new.self.items (Some c.in-Some.first) c.in-Some.ensures.items all in
+          let own : TellsDrawn tickets recording properties count budget 1 first = subst Own c.in_ok-all.was more.1 in
+          (omega (arith, own.stands_for, c.in-Some.ensures.cases), subst (λ (n : ℕ). TellsDrawn tickets recording properties count budget n first) (sym own.stands_for) own, more.0);
+    }
 
 pub loop-part-preserved : goal.loop-part-preserved
 loop-part-preserved c =
@@ -15,26 +31,23 @@ loop-part-preserved c =
     let old = c.loop-part.all in
     let new = c.take.new.self in
     let other = c.in_ok-part.field-0 in
-    let Single : Result Drawn AllocError → Type 0 = λ part. IfOk part (λ drawn. IsSingle tickets 1 drawn.drawer) in
-    let popped = All-pop Single c.loop-part.parts.items c.pop-in-loop-part.new.self.items (Some c.in-Some-pop.part) c.in-Some-pop.ensures.items c.loop-part.invariant.single in
-    let single : IsSingle tickets 1 other.drawer = subst Single c.in_ok-part.was popped.1 in
-    let hands = c.in_ok-take.ensures.both in
-    let drawers : (hand_of new.drawer).drawers ≡ (hand_of old.drawer).drawers + 1 = ap (λ (h : Hand). h.drawers) hands ∙ ap (λ (n : ℕ). (hand_of old.drawer).drawers + n) single.one in
-    let nones : (hand_of new.drawer).nones ≡ (hand_of old.drawer).nones + 1 = ap (λ (h : Hand). h.nones) hands ∙ ap (λ (n : ℕ). (hand_of old.drawer).nones + n) single.told in
+    let Left : Result (Drawn WindowRecord) AllocError → Type 0 = λ part. IfOk part (HasDrawn tickets) in
+    let popped = All-pop Left c.loop-part.parts.items c.pop-in-loop-part.new.self.items (Some c.in-Some-pop.part) c.in-Some-pop.ensures.items c.loop-part.invariant.left in
     record {
-      single = popped.0;
-      own = c.in_ok-take.ensures.drawer;
-      told = (omega (arith, drawers), omega (arith, drawers, nones, c.loop-part.invariant.told.1));
-      counted = omega (arith, drawers, c.loop-part.invariant.counted, c.in-Some-pop.ensures.cases);
-      drawn = λ recording properties count budget all.
-          let Own : Result Drawn AllocError → Type 0 = λ part. IfOk part (IsDrawn tickets recording properties count budget 1) in
-          let before = c.loop-part.invariant.drawn recording properties count budget all in
-          let more = All-pop Own c.loop-part.parts.items c.pop-in-loop-part.new.self.items (Some c.in-Some-pop.part) c.in-Some-pop.ensures.items before.1 in
-          let both = both_drawn tickets recording properties count budget (hand_of old.drawer).drawers old other new before.0 (subst Own c.in_ok-part.was more.1) c.in_ok-take.ensures.told c.in_ok-take.ensures.drawer hands in
-          (subst (λ (n : ℕ). IsDrawn tickets recording properties count budget n new) (sym drawers) both, more.0);
+      left = popped.0;
+      own = c.in_ok-take.ensures.drawn;
+      tells = λ recording properties count budget all.
+          let Own : Result (Drawn WindowRecord) AllocError → Type 0 = λ part. IfOk part (TellsDrawn tickets recording properties count budget 1) in
+          let before = c.loop-part.invariant.tells recording properties count budget all in
+          let more = All-pop Own c.loop-part.parts.items c.pop-in-loop-part.new.self.items (Some c.in-Some-pop.part) c.in-Some-pop.ensures.items before.2 in
+          let one : TellsDrawn tickets recording properties count budget 1 other = subst Own c.in_ok-part.was more.1 in
+          let drawers : drawers_of new ≡ drawers_of old + 1 = c.in_ok-take.ensures.drawers ∙ ap (λ (n : ℕ). drawers_of old + n) one.stands_for in
+          let both = both_drawn tickets recording properties count budget (drawers_of old) old other new before.1 one c.in_ok-take.ensures.made c.in_ok-take.ensures.drawn c.in_ok-take.ensures.drawers in
+          (omega (arith, drawers, before.0, c.in-Some-pop.ensures.cases), subst (λ (n : ℕ). TellsDrawn tickets recording properties count budget n new) (sym drawers) both, more.0);
     }
 
 pub returns : goal.returns
 returns c recording properties count budget all =
-    let drawers : (hand_of c.loop-part.all.drawer).drawers ≡ length c.args.parts.items = omega (arith, c.loop-part.invariant.counted, c.in_default-pop.ensures.cases.0) in
-    subst (λ (n : ℕ). IsDrawn c.args.tickets.now recording properties count budget n c.loop-part.all) drawers (c.loop-part.invariant.drawn recording properties count budget all).0
+    let done = c.loop-part.invariant.tells recording properties count budget all in
+    let drawers : drawers_of c.loop-part.all ≡ length c.args.parts.items = omega (arith, done.0, c.in_default-pop.ensures.cases.0) in
+    subst (λ (n : ℕ). TellsDrawn c.args.tickets.now recording properties count budget n c.loop-part.all) drawers done.1

@@ -1,9 +1,8 @@
 use Rattle.std.proofs.Common.{◌≡◌, ◌+◌, ℕ, List, All, IfOk, length}
 use Rattle.gp_property.specs.PropertyForm.{PropertyForm}
+use Rattle.gp_tickets.specs.Drawn.{HasDrawn, drawers_of}
 use Rattle.gp_window.specs.RecordingForm.{RecordingForm}
-use Rattle.gp_workers.specs.Drawers.{IsDrawerOf, IsSingle, hand_of}
-use Rattle.gp_workers.specs.Tickets.{WasTold}
-use Rattle.gp_analysis.specs.Drawn.{IsDrawn}
+use Rattle.gp_analysis.specs.Drawn.{TellsDrawn}
 use Rattle.gp_analysis.proofs.drawn.gather.Given as goal
 
 abbrev pub decreases-loop-part : goal.decreases-loop-part
@@ -11,10 +10,9 @@ decreases-loop-part l = length l.parts.items
 
 abbrev pub invariant-loop-part : goal.invariant-loop-part
 invariant-loop-part l = record {
-  single : All (λ part. IfOk part (λ drawn. IsSingle l.tickets 1 drawn.drawer)) l.parts.items;
-  own : IsDrawerOf l.tickets l.all.drawer;
-  told : WasTold (hand_of l.all.drawer);
-  counted : (hand_of l.all.drawer).drawers + length l.parts.items ≡ length l.fn.parts.items;
-  drawn : (recording : RecordingForm) (properties : List PropertyForm) (count budget : ℕ) → All (λ part. IfOk part (IsDrawn l.tickets recording properties count budget 1)) l.fn.parts.items
-      → IsDrawn l.tickets recording properties count budget (hand_of l.all.drawer).drawers l.all × All (λ part. IfOk part (IsDrawn l.tickets recording properties count budget 1)) l.parts.items;
+  left : All (λ part. IfOk part (HasDrawn l.tickets)) l.parts.items;
+  own : HasDrawn l.tickets l.all;
+  tells : (recording : RecordingForm) (properties : List PropertyForm) (count budget : ℕ) → All (λ part. IfOk part (TellsDrawn l.tickets recording properties count budget 1)) l.fn.parts.items
+      → (drawers_of l.all + length l.parts.items ≡ length l.fn.parts.items) × TellsDrawn l.tickets recording properties count budget (drawers_of l.all) l.all
+      × All (λ part. IfOk part (TellsDrawn l.tickets recording properties count budget 1)) l.parts.items;
 }

@@ -1,32 +1,39 @@
 -- One window more is drawn and told.
-use Rattle.std.proofs.Common.{◌≡◌, ◌∙◌, ap, ◌+◌}
-use Rattle.gp_workers.specs.declared.ticket_rule.Hand.{Hand}
-use Rattle.gp_workers.specs.Drawers.{hand_of}
-use Rattle.gp_workers.specs.Tickets.{drew}
+use Rattle.std.proofs.Common.{◌≡◌, ◌∙◌, ap, ◌+◌, length, arith}
+use Rattle.std.proofs.lemmas.List.{length_push}
+use Rattle.gp_tickets.specs.declared.hand.Hand.{Hand}
+use Rattle.gp_tickets.specs.Hand.{drew}
+use Rattle.gp_tickets.specs.Tickets.{hand_of}
+use Rattle.gp_tickets.specs.TicketLaws.{fewer_drawn, still_single}
 use Rattle.gp_window.specs.WindowForm.{window_of}
-use Rattle.gp_analysis.proofs.Drawing.{fewer_left, next_drawn}
+use Rattle.gp_analysis.proofs.Drawing.{next_drawn}
 use Rattle.gp_analysis.proofs.drawn.told_as_drawn.Goals as goal
 
-pub loop-ticket-preserved : goal.loop-ticket-preserved
-loop-ticket-preserved g c =
+pub loop-number-preserved : goal.loop-number-preserved
+loop-number-preserved g c =
     let task = c.args.task.now in
-    let old = c.loop-ticket.drawer in
-    let ticket = c.in-Some.ticket in
-    let single = c.loop-ticket.invariant.single in
-    let hands : hand_of c.draw.new.drawer ≡ drew (hand_of old) ticket = (c.in-Some.ensures.first single.told).1 in
+    let tickets = c.args.tickets.now in
+    let old = c.loop-number.drawer in
+    let number = c.in-Some.number in
+    let single = c.loop-number.invariant.single in
+    let hands : hand_of c.draw.new.drawer ≡ drew (hand_of old) number = (c.in-Some.ensures.first single.told).1 in
     let at = c.in_ok-walk-2.ensures in
     let next =
-    next_drawn c.args.recording.now task.properties.now task.workers task.budget ticket (hand_of old).drawn (hand_of c.draw.new.drawer).drawn c.loop-ticket.told.items c.push.new.self.items
-    (window_of c.in_ok-walk-2.walk.recording c.in_ok-walk-2.walk.number) c.in_ok-told_here.field-0 (λ i. window_of (at.0 i) (at.1 i)) c.in_ok-told_here.ensures c.loop-ticket.invariant.numbers c.loop-ticket.invariant.tells
+    next_drawn c.args.recording.now task.properties.now task.workers task.budget number (hand_of old).drawn (hand_of c.draw.new.drawer).drawn c.loop-number.made.items c.push.new.self.items
+    (window_of c.in_ok-walk-2.walk.recording c.in_ok-walk-2.walk.number) c.in_ok-value.value (λ i. window_of (at.0 i) (at.1 i)) c.in_ok-value.ensures c.loop-number.invariant.numbers c.loop-number.invariant.tells
     (ap (λ (h : Hand). h.drawn) hands) c.in_ok-push.ensures.items in
     record {
       same = at.0;
-      single = record { own = c.in-Some.ensures.drawer; one = ap (λ (h : Hand). h.drawers) hands ∙ single.one; told = ap (λ (h : Hand). h.nones) hands ∙ single.told };
+      single = still_single tickets old c.draw.new.drawer number single c.in-Some.ensures.drawer hands;
       numbers = next.0;
       tells = next.1;
     }
 
-pub loop-ticket-smaller : goal.loop-ticket-smaller
-loop-ticket-smaller g c =
-    fewer_left c.args.tickets.now.count c.in-Some.ticket (hand_of c.loop-ticket.drawer) (hand_of c.draw.new.drawer) (c.in-Some.ensures.first c.loop-ticket.invariant.single.told).1 c.draw.new.drawer.sound.few
-    c.in-Some.ensures.drawer.same_count
+pub loop-number-smaller : goal.loop-number-smaller
+loop-number-smaller g c =
+    let tickets = c.args.tickets.now in
+    let old = c.loop-number.drawer in
+    let hands : hand_of c.draw.new.drawer ≡ drew (hand_of old) c.in-Some.number = (c.in-Some.ensures.first c.loop-number.invariant.single.told).1 in
+    let more : length (hand_of c.draw.new.drawer).drawn ≡ length (hand_of old).drawn + 1 = ap (λ (h : Hand). length h.drawn) hands ∙ length_push (hand_of old).drawn c.in-Some.number in
+    let fewer = fewer_drawn tickets old c.draw.new.drawer c.in-Some.number c.in-Some.ensures.drawer hands in
+    omega (arith, more, fewer)

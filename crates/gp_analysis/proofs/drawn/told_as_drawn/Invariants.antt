@@ -1,15 +1,16 @@
-use Rattle.std.proofs.Common.{◌≡◌, ◌-◌, All, length, map}
-use Rattle.gp_workers.specs.Drawers.{IsSingle, hand_of}
-use Rattle.gp_analysis.specs.Drawn.{TellsOwn, ticket_of}
+use Rattle.std.proofs.Common.{◌≡◌, ◌-◌, All, length}
+use Rattle.gp_tickets.specs.Drawn.{numbers_of}
+use Rattle.gp_tickets.specs.Tickets.{IsSingle, hand_of}
+use Rattle.gp_analysis.specs.Drawn.{TellsOwn}
 use Rattle.gp_analysis.proofs.drawn.told_as_drawn.Given as goal
 
-abbrev pub decreases-loop-ticket : goal.decreases-loop-ticket
-decreases-loop-ticket g l = l.tickets.count - length (hand_of l.drawer).drawn
+abbrev pub decreases-loop-number : goal.decreases-loop-number
+decreases-loop-number g l = l.tickets.count - length (hand_of l.drawer).drawn
 
-abbrev pub invariant-loop-ticket : goal.invariant-loop-ticket
-invariant-loop-ticket g l = record {
+abbrev pub invariant-loop-number : goal.invariant-loop-number
+invariant-loop-number g l = record {
   same : l.walk.recording ≡ l.recording;
   single : IsSingle l.tickets 0 l.drawer;
-  numbers : map ticket_of l.told.items ≡ (hand_of l.drawer).drawn;
-  tells : All (TellsOwn l.recording l.task.properties.now l.task.workers l.task.budget) l.told.items;
+  numbers : numbers_of l.made.items ≡ (hand_of l.drawer).drawn;
+  tells : All (TellsOwn l.recording l.task.properties.now l.task.workers l.task.budget) l.made.items;
 }

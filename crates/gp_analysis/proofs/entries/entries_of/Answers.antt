@@ -6,6 +6,6 @@ use Rattle.gp_analysis.proofs.entries.entries_of.Goals as goal
 
 pub returns : goal.returns
 returns c =
-    all_told c.args.window.now c.args.property.now c.args.found.now c.args.answers.now c.loop-instance.entries c.loop-instance.answers
-    (subst (λ rest. IsUnderWay c.args.window.now c.args.property.now c.args.found.now rest c.args.answers.now c.loop-instance.entries c.loop-instance.answers)
+    all_told c.args.encoded.now c.args.property.now c.args.found.now c.args.answers.now c.loop-instance.entries c.loop-instance.answers
+    (subst (λ rest. IsUnderWay c.args.encoded.now c.args.property.now c.args.found.now rest c.args.answers.now c.loop-instance.entries c.loop-instance.answers)
     (drop_all c.loop-instance.instance-index c.args.found.now c.loop-instance-test.false) c.loop-instance.invariant)

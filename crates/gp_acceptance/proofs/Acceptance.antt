@@ -7,11 +7,11 @@ use Rattle.gp_clause.specs.declared.problem.Query.{Query}
 use Rattle.gp_constraint.specs.declared.fault.BaseFault.{BaseFault}
 use Rattle.gp_constraint.specs.declared.fault.BaseFault.TheVariants as no_window
 use Rattle.gp_constraint.specs.Base.{base_of}
-use Rattle.gp_constraint.specs.Encoded.{EncodedForm, base_due}
+use Rattle.gp_constraint.specs.Encoded.{base_due}
 use Rattle.gp_constraint.specs.Query.{query_of}
 use Rattle.gp_derivation.specs.declared.record.WorkerRecord.{WorkerRecord}
-use Rattle.gp_derivation.specs.declared.step.Step.{Step}
-use Rattle.gp_derivation.specs.Shared.{SharedPasses}
+use Rattle.gp_certificate.specs.declared.step.Step.{Step}
+use Rattle.gp_certificate.specs.Shared.{SharedPasses}
 use Rattle.gp_derivation.specs.Spent.{HasTurnSpentOn}
 use Rattle.gp_instance.specs.declared.instance.Instance.{Instance}
 use Rattle.gp_instance.specs.declared.instance.InstancesFault.{InstancesFault}
@@ -30,8 +30,9 @@ use Rattle.gp_report.specs.declared.record.WindowRecord.{WindowRecord}
 use Rattle.gp_report.specs.Report.{IsWindowRecord}
 use Rattle.gp_window.specs.declared.schedule.EventId.{EventId}
 use Rattle.gp_window.specs.WindowForm.{WindowForm}
-use Rattle.gp_checker.specs.Accepted.{AcceptsAnswer, AcceptsBody, AcceptsEntry, AcceptsListed, AcceptsProperty, AcceptsWindow, windows_of}
-use Rattle.gp_analysis.specs.Acceptance.{AnsweredIsAccepted}
+use Rattle.gp_window.specs.Windows.{all_windows}
+use Rattle.gp_checker.specs.Accepted.{AcceptsAnswer, AcceptsBody, AcceptsEntry, AcceptsListed, AcceptsProperty, AcceptsWindow}
+use Rattle.gp_acceptance.specs.Acceptance.{AnsweredIsAccepted}
 use Rattle.gp_analysis.specs.Answered.{AnswersBody, AnswersEach, AnswersListed, AnswersProperties, AnswersWindow, Evidence, IsAnswer}
 
 -- a turn that is spent has as many entries as its budget
@@ -75,7 +76,7 @@ module _ (window : WindowForm) (known : Evidence) where
   properties_accepted number ticket (property ∷ properties) (told ∷ more) is =
       ((is.0, listed_accepted property ticket (due_instances window property number) told.body is.1), properties_accepted (number + 1) _ properties more is.2)
 
-  body_accepted : (properties : List PropertyForm) (count : ℕ) (due : Result EncodedForm BaseFault) (told : WindowBody) → SharedPasses (base_of window) known.shared
+  body_accepted : (properties : List PropertyForm) (count : ℕ) (due : Result WindowForm BaseFault) (told : WindowBody) → SharedPasses (base_of window) known.shared
       → AnswersBody window properties count known due told → AcceptsBody window known.budget properties known.shared due told
   body_accepted properties count (Err (no_window.TooLarge events clauses)) (told.TooLarge more_events more_clauses) passes is = (is.0, is.1)
   body_accepted properties count (Err (no_window.TooLarge events clauses)) (told.Answers records) passes is = absurd is
@@ -101,5 +102,5 @@ windows_accepted properties count budget format (window ∷ windows) (told ∷ r
 
 pub answered_accepted : AnsweredIsAccepted
 answered_accepted recording properties count budget report fits first is =
-    subst (λ (n : ℕ). AllZip (AcceptsWindow properties n) (windows_of recording) report.windows) (sym is.same_budget)
-    (windows_accepted properties count budget report.format (windows_of recording) report.windows first fits.windows is.windows)
+    subst (λ (n : ℕ). AllZip (AcceptsWindow properties n) (all_windows recording) report.windows) (sym is.same_budget)
+    (windows_accepted properties count budget report.format (all_windows recording) report.windows first fits.windows is.windows)

@@ -1,5 +1,0 @@
-use Rattle.gp_analysis.proofs.Acceptance.{answered_accepted}
-use Rattle.gp_analysis.proofs.laws.answered_is_accepted.Goals as goal
-
-pub returns : goal.returns
-returns c = answered_accepted

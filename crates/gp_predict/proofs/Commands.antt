@@ -5,7 +5,7 @@ use Rattle.gp_outside.specs.Folders.{File}
 use Rattle.gp_words.specs.declared.task.Task.{Task}
 use Rattle.gp_words.specs.declared.task.Task.TheVariants as task
 use Rattle.gp_words.specs.Command.{CommandForm, command_of}
-use Rattle.gp_predict.specs.Answer.{due_answer, due_by, due_in, either_expected, reads_files, task_at}
+use Rattle.gp_predict.specs.Reply.{due_answer, due_by, due_in, either_expected, reads_files, task_at}
 use Rattle.gp_predict.specs.Asking.{recipe_of}
 use Rattle.gp_predict.specs.Expected.{Expected}
 use Rattle.gp_predict.specs.Making.{LeavesBy, LeavesFiles, LeavesMade}

@@ -1,86 +1,85 @@
--- How far a listing is written: up to the window of this number.
-use Rattle.std.proofs.Common.{◌≡◌, sym, ℕ, ◌+◌, ◌-◌, ◌*◌, ◌<◌, ◌≤◌, List, ◌∙◌, ap, subst, arith}
+-- How far a listing is written: up to the windows that are left.
+use Rattle.std.proofs.Common.{◌≡◌, sym, ℕ, ◌+◌, ◌*◌, ◌≤◌, List, [], ◌∷◌, ◌++◌, ◌∙◌, ap, length, subst, Result, Ok, Err, OnErr, arith}
 use Rattle.std.specs.Prelude.{Option, flat_map, sum_by}
+use Rattle.std.proofs.lemmas.Grind.{flat_map-append}
+use Rattle.std.proofs.lemmas.List.Sums.{sum_by-cons}
 use Rattle.gp_outside.specs.Sinks.{Appends, AppendsFront}
 use Rattle.gp_property.specs.PropertyForm.{PropertyForm}
 use Rattle.gp_window.specs.RecordingForm.{RecordingForm}
-use Rattle.gp_window.specs.WindowForm.{numbers_from}
+use Rattle.gp_window.specs.WindowForm.{WindowForm}
+use Rattle.gp_window.specs.Windows.{all_windows}
+use Rattle.gp_window.specs.WindowsLaws.{count_windows}
 use Rattle.gp_predict.specs.Listing.{all_lines, total_count, window_count, window_lines}
-use Rattle.gp_predict.proofs.Windows.{next_count, next_text}
 use Rattle.gp_predict.proofs.Written.{IsWritten, written_all, written_cut, written_more, written_none, written_prefix}
+
+-- what holds anyway holds on an error
+pub anyway : {T E P : Type 0} (result : Result T E) → P → OnErr result P
+anyway (Ok value) holds = tt
+anyway (Err error) holds = holds
 
 abbrev text_of : List (List ℕ) → List ℕ
 text_of lines = flat_map (λ line. line) lines
 
--- the text of the windows from k on
-abbrev text_from : RecordingForm → List PropertyForm → ℕ → List ℕ
-text_from r ps k = text_of (flat_map (window_lines r ps) (numbers_from k (r.manifest.epochs + 1 - k)))
+-- the text of the windows that are left
+abbrev text_left : List PropertyForm → List WindowForm → List ℕ
+text_left ps left = text_of (flat_map (window_lines ps) left)
 
--- what the windows before k have is counted and written, and what those from k on have is left
-pub record IsBefore (r : RecordingForm) (ps : List PropertyForm) (old new : Option (List ℕ)) (total k : ℕ) : Type 0 where
-  pub counted : total + sum_by (window_count r ps) (numbers_from k (r.manifest.epochs + 1 - k)) ≡ total_count r ps
-  pub few : total + 640000 ≤ k * 640000
-  pub written : IsWritten old new (flat_map (λ line. line) (flat_map (window_lines r ps) (numbers_from k (r.manifest.epochs + 1 - k)))) (flat_map (λ line. line) (all_lines r ps))
+-- what the windows before those that are left have is counted and written, and what those have is left
+pub record IsBefore (r : RecordingForm) (ps : List PropertyForm) (old new : Option (List ℕ)) (total : ℕ) (left : List WindowForm) : Type 0 where
+  pub counted : total + sum_by (window_count ps) left ≡ total_count r ps
+  pub few : total + length left * 640000 ≤ 4096 * 640000
+  pub written : IsWritten old new (flat_map (λ line. line) (flat_map (window_lines ps) left)) (flat_map (λ line. line) (all_lines r ps))
 
 -- nothing is written before the first window
-pub first_window : (r : RecordingForm) (ps : List PropertyForm) (old : Option (List ℕ)) (k : ℕ) → k ≡ 1 → IsBefore r ps old old 0 k
-first_window r ps old k is =
-    let all : r.manifest.epochs + 1 - 1 ≡ r.manifest.epochs = omega arith in
-    let count : 0 + sum_by (window_count r ps) (numbers_from 1 (r.manifest.epochs + 1 - 1)) ≡ total_count r ps =
-    ap (λ n. 0 + sum_by (window_count r ps) (numbers_from 1 n)) all ∙ omega arith in
-    let text : text_of (all_lines r ps) ≡ text_from r ps 1 = ap (λ n. text_of (flat_map (window_lines r ps) (numbers_from 1 n))) (sym all) in
+pub none_put : (r : RecordingForm) (ps : List PropertyForm) (old : Option (List ℕ)) (left : List WindowForm) → r.manifest.epochs ≤ 4096 → left ≡ all_windows r → IsBefore r ps old old 0 left
+none_put r ps old left few is =
+    let count = count_windows r 1 r.manifest.epochs in
     subst (IsBefore r ps old old 0) (sym is) (record {
-      counted = count;
-      few = omega arith;
-      written = subst (λ rest. IsWritten old old rest (text_of (all_lines r ps))) text (written_none old (text_of (all_lines r ps)));
+      counted = omega arith;
+      few = omega (arith, count, few);
+      written = written_none old (text_of (all_lines r ps));
     })
 
 -- a prefix is written
-pub begun : (r : RecordingForm) (ps : List PropertyForm) (old new : Option (List ℕ)) (total k : ℕ)
-    → IsBefore r ps old new total k → AppendsFront old new (flat_map (λ line. line) (all_lines r ps))
-begun r ps old new total k h = written_prefix old new (text_from r ps k) (text_of (all_lines r ps)) h.written
+pub begun : (r : RecordingForm) (ps : List PropertyForm) (old new : Option (List ℕ)) (total : ℕ) (left : List WindowForm)
+    → IsBefore r ps old new total left → AppendsFront old new (flat_map (λ line. line) (all_lines r ps))
+begun r ps old new total left h = written_prefix old new (text_left ps left) (text_of (all_lines r ps)) h.written
+
+text_parted : (ps : List PropertyForm) (window : WindowForm) (rest : List WindowForm) → text_left ps (window ∷ rest) ≡ text_of (window_lines ps window) ++ text_left ps rest
+text_parted ps window rest = flat_map-append (λ line. line) (window_lines ps window) (flat_map (window_lines ps) rest)
+
+left_parted : (r : RecordingForm) (ps : List PropertyForm) (old new : Option (List ℕ)) (total : ℕ) (left rest : List WindowForm) (window : WindowForm) → left ≡ window ∷ rest
+    → IsBefore r ps old new total left → IsWritten old new (text_of (window_lines ps window) ++ text_left ps rest) (text_of (all_lines r ps))
+left_parted r ps old new total left rest window first h =
+    subst (λ (text : List ℕ). IsWritten old new text (text_of (all_lines r ps))) (ap (text_left ps) first ∙ text_parted ps window rest) h.written
 
 -- a prefix of the window's lines is written
-pub cut_in : (r : RecordingForm) (ps : List PropertyForm) (old middle new : Option (List ℕ)) (total k : ℕ) (lines : List (List ℕ))
-    → k ≤ r.manifest.epochs → lines ≡ window_lines r ps k → IsBefore r ps old middle total k
-    → AppendsFront middle new (flat_map (λ line. line) lines) → AppendsFront old new (flat_map (λ line. line) (all_lines r ps))
-cut_in r ps old middle new total k lines within is h cut =
-    let below : k < r.manifest.epochs + 1 = omega arith in
-    let text = next_text (window_lines r ps) k r.manifest.epochs below in
-    written_cut old middle new (text_of (window_lines r ps k)) (text_from r ps (k + 1)) (text_of (all_lines r ps))
-    (subst (λ rest. IsWritten old middle rest (text_of (all_lines r ps))) text h.written)
-    (subst (λ own. AppendsFront middle new (text_of own)) is cut)
+pub cut_in : (r : RecordingForm) (ps : List PropertyForm) (old middle new : Option (List ℕ)) (total : ℕ) (left rest : List WindowForm) (window : WindowForm) → left ≡ window ∷ rest
+    → IsBefore r ps old middle total left → AppendsFront middle new (flat_map (λ line. line) (window_lines ps window)) → AppendsFront old new (flat_map (λ line. line) (all_lines r ps))
+cut_in r ps old middle new total left rest window first h cut =
+    written_cut old middle new (text_of (window_lines ps window)) (text_left ps rest) (text_of (all_lines r ps)) (left_parted r ps old middle total left rest window first h) cut
 
 -- the window is written
-pub next_window_is : (r : RecordingForm) (ps : List PropertyForm) (old middle new : Option (List ℕ)) (total k count : ℕ) (lines : List (List ℕ))
-    → k ≤ r.manifest.epochs → lines ≡ window_lines r ps k → count ≡ window_count r ps k → count ≤ 640000
-    → IsBefore r ps old middle total k → Appends middle new (flat_map (λ line. line) lines) → IsBefore r ps old new (total + count) (k + 1)
-next_window_is r ps old middle new total k count lines within is count_is most h appended =
-    let below : k < r.manifest.epochs + 1 = omega arith in
-    let text = next_text (window_lines r ps) k r.manifest.epochs below in
-    let counted = next_count (window_count r ps) k r.manifest.epochs below in
+pub one_put : (r : RecordingForm) (ps : List PropertyForm) (old middle new : Option (List ℕ)) (total count : ℕ) (left rest : List WindowForm) (window : WindowForm) → left ≡ window ∷ rest
+    → count ≡ window_count ps window → count ≤ 640000 → IsBefore r ps old middle total left → Appends middle new (flat_map (λ line. line) (window_lines ps window)) → IsBefore r ps old new (total + count) rest
+one_put r ps old middle new total count left rest window first is most h appended =
+    let sum : sum_by (window_count ps) left ≡ window_count ps window + sum_by (window_count ps) rest = ap (sum_by (window_count ps)) first ∙ sum_by-cons (window_count ps) window rest in
+    let size : length left ≡ length (window ∷ rest) = ap (λ (ws : List WindowForm). length ws) first in
     record {
-      counted = omega (arith, h.counted, counted, count_is);
-      few = omega (arith, h.few, most);
-      written = written_more old middle new (text_of (window_lines r ps k)) (text_from r ps (k + 1)) (text_of (all_lines r ps))
-          (subst (λ rest. IsWritten old middle rest (text_of (all_lines r ps))) text h.written)
-          (subst (λ own. Appends middle new (text_of own)) is appended);
+      counted = omega (arith, h.counted, sum, is);
+      few = omega (arith, h.few, size, most);
+      written = written_more old middle new (text_of (window_lines ps window)) (text_left ps rest) (text_of (all_lines r ps)) (left_parted r ps old middle total left rest window first h) appended;
     }
 
-none_left : (r : RecordingForm) (k : ℕ) → k ≡ r.manifest.epochs → r.manifest.epochs + 1 - (k + 1) ≡ 0
-none_left r k last = omega arith
-
 -- after the last window all is written
-pub whole : (r : RecordingForm) (ps : List PropertyForm) (old new : Option (List ℕ)) (total k : ℕ) → k ≡ r.manifest.epochs
-    → IsBefore r ps old new total (k + 1) → Appends old new (flat_map (λ line. line) (all_lines r ps))
-whole r ps old new total k last h =
-    written_all old new (text_of (all_lines r ps))
-    (subst (λ n. IsWritten old new (text_of (flat_map (window_lines r ps) (numbers_from (k + 1) n))) (text_of (all_lines r ps))) (none_left r k last) h.written)
+pub whole : (r : RecordingForm) (ps : List PropertyForm) (old new : Option (List ℕ)) (total : ℕ) (left : List WindowForm) → left ≡ []
+    → IsBefore r ps old new total left → Appends old new (flat_map (λ line. line) (all_lines r ps))
+whole r ps old new total left none h =
+    written_all old new (text_of (all_lines r ps)) (subst (λ (ws : List WindowForm). IsWritten old new (text_left ps ws) (text_of (all_lines r ps))) none h.written)
 
 -- and counted
-pub whole_count : (r : RecordingForm) (ps : List PropertyForm) (old new : Option (List ℕ)) (total k : ℕ) → k ≡ r.manifest.epochs
-    → IsBefore r ps old new total (k + 1) → total ≡ total_count r ps
-whole_count r ps old new total k last h =
-    let counted : total + 0 ≡ total_count r ps =
-    subst (λ n. total + sum_by (window_count r ps) (numbers_from (k + 1) n) ≡ total_count r ps) (none_left r k last) h.counted in
+pub whole_count : (r : RecordingForm) (ps : List PropertyForm) (old new : Option (List ℕ)) (total : ℕ) (left : List WindowForm) → left ≡ []
+    → IsBefore r ps old new total left → total ≡ total_count r ps
+whole_count r ps old new total left none h =
+    let counted : total + 0 ≡ total_count r ps = subst (λ (ws : List WindowForm). total + sum_by (window_count ps) ws ≡ total_count r ps) none h.counted in
     omega (arith, counted)

@@ -7,7 +7,7 @@ use Rattle.gp_report.specs.declared.record.Entry.{Entry}
 use Rattle.gp_report.specs.Entries.{entries_of, is_found}
 use Rattle.gp_report.specs.ReportForm.{ReportForm}
 use Rattle.gp_base.specs.Results.{and_then}
-use Rattle.gp_predict.specs.declared.answer.Answer.{Answer}
+use Rattle.gp_predict.specs.declared.reply.Reply.{Reply}
 use Rattle.gp_predict.specs.declared.due.Asked.{Asked}
 use Rattle.gp_predict.specs.declared.listing.Listing.{Listing}
 use Rattle.gp_predict.specs.Expected.{AnalysisForm, Expected, Text, Analysis}
@@ -25,7 +25,7 @@ analysis_form listing asked = record {
 }
 
 -- the refusal of so many instances with this budget each
-abbrev pub limit_refused : ℕ → ℕ → Answer
+abbrev pub limit_refused : ℕ → ℕ → Reply
 limit_refused total budget = one_line 7 (codes "limit " ++ decimal total ++ codes " " ++ decimal budget)
 
 -- an analysis, or the refusal of so many instances, where they are too many
@@ -38,7 +38,7 @@ abbrev pub analysis_of : Listing → Asked → Expected
 analysis_of listing asked = analysis_by listing asked (too_much listing.recording listing.properties asked.budget)
 
 -- what is due to task analyse on the files of a folder
-abbrev pub analysing_at : List File → List ℕ → Asked → Result Expected Answer
+abbrev pub analysing_at : List File → List ℕ → Asked → Result Expected Reply
 analysing_at files folder asked = and_then (listing_at files folder) (λ listing. Ok (analysis_of listing asked))
 
 -- the workers and the budget are within their ranges

@@ -2,11 +2,11 @@
 use Rattle.std.specs.Prelude.{ℕ, List, flat_map}
 use Rattle.gp_property.specs.PropertyForm.{PropertyForm}
 use Rattle.gp_window.specs.RecordingForm.{RecordingForm}
-use Rattle.gp_predict.specs.declared.answer.Answer.{Answer}
+use Rattle.gp_predict.specs.declared.reply.Reply.{Reply}
 use Rattle.gp_predict.specs.declared.submission.Submission.{Submission}
 
 -- the whole text of an answer
-abbrev pub text_of : Answer → List ℕ
+abbrev pub text_of : Reply → List ℕ
 text_of answer = flat_map (λ line. line) answer.lines
 
 -- an analysis of a recording with its properties, by so many workers, each query with this budget; its report is to be
@@ -20,7 +20,7 @@ pub record AnalysisForm : Type 0 where
 
 -- what is due: a text with its status, an analysis, the verdict on a report, or a report in its compact form
 pub data Expected : Type 0 where
-  Text : Answer → Expected
+  Text : Reply → Expected
   Analysis : AnalysisForm → Expected
   Verdict : Submission → Expected
   Compacted : Submission → Expected

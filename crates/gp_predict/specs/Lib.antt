@@ -1,5 +1,5 @@
 pub mod Analysing
-pub mod Answer
+pub mod Reply
 pub mod Asking
 pub mod Content
 pub mod Due

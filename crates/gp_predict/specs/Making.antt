@@ -7,12 +7,12 @@ use Rattle.gp_outside.specs.Folders.{File}
 use Rattle.gp_words.specs.declared.task.Task.{Task}
 use Rattle.gp_words.specs.declared.task.Task.TheVariants as task
 use Rattle.gp_words.specs.Command.{CommandForm}
-use Rattle.gp_predict.specs.declared.answer.Answer.{Answer}
+use Rattle.gp_predict.specs.declared.reply.Reply.{Reply}
 use Rattle.gp_predict.specs.Asking.{recipe_of}
 use Rattle.gp_predict.specs.Refusal.{one_line}
 
 -- so many threads, events and windows were made
-abbrev pub made_answer : Recipe → Answer
+abbrev pub made_answer : Recipe → Reply
 made_answer recipe =
     one_line 0 (codes "made " ++ decimal recipe.threads ++ codes " " ++ decimal recipe.events ++ codes " " ++ decimal (windows_of recipe.events))
 

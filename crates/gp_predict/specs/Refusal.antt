@@ -19,41 +19,41 @@ use Rattle.gp_report.specs.declared.fault.ReportFault.{ReportFault}
 use Rattle.gp_report.specs.declared.fault.ReportFault.TheVariants as report
 use Rattle.gp_report.specs.declared.fault.ReportRule.{ReportRule}
 use Rattle.gp_report.specs.declared.fault.ReportRule.TheVariants as rule
-use Rattle.gp_predict.specs.declared.answer.Answer.{Answer}
+use Rattle.gp_predict.specs.declared.reply.Reply.{Reply}
 
 -- a status with a text of one line
-abbrev pub one_line : ℕ → List ℕ → Answer
+abbrev pub one_line : ℕ → List ℕ → Reply
 one_line status text = record { status = status; lines = (text ++ codes "\n") ∷ [] }
 
 -- no text: the definitions ask for no memory and for no folder, so this answer is never due
-abbrev pub never_due : Answer
+abbrev pub never_due : Reply
 never_due = record { status = 6; lines = [] }
 
 -- a file that is refused as a whole
-abbrev pub refused_as : FileName → List ℕ → Answer
+abbrev pub refused_as : FileName → List ℕ → Reply
 refused_as name rule = one_line 3 (codes "refused " ++ name_of name ++ codes " " ++ rule)
 
 -- a file that is refused at a line
-abbrev pub refused_at : FileName → ℕ → List ℕ → Answer
+abbrev pub refused_at : FileName → ℕ → List ℕ → Reply
 refused_at name line rule = one_line 3 (codes "refused " ++ name_of name ++ codes " " ++ decimal line ++ codes " " ++ rule)
 
 -- a recording whose files do not fit together, told with a thread
-abbrev pub recording_refused : List ℕ → ℕ → Answer
+abbrev pub recording_refused : List ℕ → ℕ → Reply
 recording_refused rule thread = one_line 3 (codes "refused recording " ++ rule ++ codes " " ++ decimal thread)
 
 -- a recording in which two threads hold this lock over the mark before this window
-abbrev pub two_holders : List ℕ → ℕ → Answer
+abbrev pub two_holders : List ℕ → ℕ → Reply
 two_holders lock window = one_line 3 (codes "refused recording twoholders " ++ lock ++ codes " " ++ decimal window)
 
 -- a file whose text has no lines
-abbrev pub text_refusal : FileName → TextFault → Answer
+abbrev pub text_refusal : FileName → TextFault → Reply
 text_refusal name (text.NotAscii line) = refused_at name line (codes "notascii")
 text_refusal name (text.LongLine line) = refused_at name line (codes "longline")
 text_refusal name (text.NoLastNewline line) = refused_at name line (codes "nolastnewline")
 text_refusal name text.Memory = never_due
 
 -- the trace of this thread, which breaks a rule
-abbrev pub trace_refusal : ℕ → TraceFault → Answer
+abbrev pub trace_refusal : ℕ → TraceFault → Reply
 trace_refusal thread (trace.Text fault) = text_refusal (file.Trace thread) fault
 trace_refusal thread (trace.AfterExit line) = refused_at (file.Trace thread) line (codes "afterexit")
 trace_refusal thread (trace.BadWord line) = refused_at (file.Trace thread) line (codes "badword")
@@ -65,14 +65,14 @@ trace_refusal thread (trace.MarkCount line) = refused_at (file.Trace thread) lin
 trace_refusal thread trace.Memory = never_due
 
 -- a file whose bytes are not told
-abbrev pub content_refusal : ContentFault → Answer
+abbrev pub content_refusal : ContentFault → Reply
 content_refusal (content.Absent name) = refused_as name (codes "absent")
 content_refusal (content.TooLong name) = refused_as name (codes "toolong")
 content_refusal content.ReadFailed = never_due
 content_refusal content.Memory = never_due
 
 -- files that are no recording
-abbrev pub recording_refusal : RecordingFault → Answer
+abbrev pub recording_refusal : RecordingFault → Reply
 recording_refusal (recording.Absent name) = refused_as name (codes "absent")
 recording_refusal (recording.TooLong name) = refused_as name (codes "toolong")
 recording_refusal recording.ReadFailed = never_due
@@ -86,13 +86,13 @@ recording_refusal (recording.TwoHolders lock window) = two_holders lock window
 recording_refusal recording.Memory = never_due
 
 -- a text that is no schedule
-abbrev pub schedule_refusal : ScheduleFault → Answer
+abbrev pub schedule_refusal : ScheduleFault → Reply
 schedule_refusal (schedule.Text fault) = text_refusal file.Schedule fault
 schedule_refusal (schedule.BadLine line) = refused_at file.Schedule line (codes "badline")
 schedule_refusal schedule.Memory = never_due
 
 -- a text that is no file of properties
-abbrev pub properties_refusal : PropertyFault → Answer
+abbrev pub properties_refusal : PropertyFault → Reply
 properties_refusal (property.Text fault) = text_refusal file.Properties fault
 properties_refusal (property.Empty line) = refused_at file.Properties line (codes "empty")
 properties_refusal (property.BadWord line) = refused_at file.Properties line (codes "badword")
@@ -112,7 +112,7 @@ rule_word rule.End = codes "end"
 rule_word rule.After = codes "after"
 
 -- a text that is no report
-abbrev pub report_refusal : ReportFault → Answer
+abbrev pub report_refusal : ReportFault → Reply
 report_refusal (report.Text fault) = text_refusal file.Report fault
 report_refusal (report.Rule line rule) = refused_at file.Report line (rule_word rule)
 report_refusal report.Memory = never_due

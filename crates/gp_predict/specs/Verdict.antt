@@ -9,13 +9,13 @@ use Rattle.gp_checker.specs.Sound.{AnswersAreTrue}
 use Rattle.gp_outside.specs.Sinks.{Appends, AppendsFront}
 use Rattle.gp_report.specs.Entries.{entries_of}
 use Rattle.gp_report.specs.ReportForm.{ReportForm}
-use Rattle.gp_predict.specs.declared.answer.Answer.{Answer}
+use Rattle.gp_predict.specs.declared.reply.Reply.{Reply}
 use Rattle.gp_predict.specs.declared.submission.Submission.{Submission}
 use Rattle.gp_predict.specs.Expected.{text_of}
 use Rattle.gp_predict.specs.Refusal.{one_line}
 
 -- a report of so many instances is accepted
-abbrev pub accepted : ℕ → Answer
+abbrev pub accepted : ℕ → Reply
 accepted count = one_line 0 (codes "accepted " ++ decimal count)
 
 -- a text, and after a space a number
@@ -23,13 +23,13 @@ abbrev pub then_number : List ℕ → ℕ → List ℕ
 then_number text number = (text ++ codes " ") ++ decimal number
 
 -- a report is rejected: its window, property and instance, the number of the reason, and the place
-abbrev pub rejected : Failure → Answer
+abbrev pub rejected : Failure → Reply
 rejected failure =
     let instance = then_number (then_number (then_number (codes "rejected") failure.window) failure.property) failure.instance in
     one_line 1 (then_number (then_number instance (number_of failure.reason)) failure.place)
 
 -- what is told of a report that was checked so
-abbrev pub verdict_on : ReportForm → Checked → Answer
+abbrev pub verdict_on : ReportForm → Checked → Reply
 verdict_on report Accepted = accepted (length (entries_of report.windows))
 verdict_on report (Rejected failure) = rejected failure
 

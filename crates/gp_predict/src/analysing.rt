@@ -7,9 +7,9 @@ ghost use Rattle.gp_predict.specs.Due.{EndsIn, IsOfTask, IsWithinLimits, expecte
 ghost use Rattle.gp_predict.specs.Stage.{GivesAs, IsRefusal};
 ghost use Rattle.gp_words.specs.Command.{IsInRanges, form_of};
 
-use crate::answer::limit_refused;
 use crate::due::{Asked, Due};
 use crate::listing::{Listing, listing_at};
+use crate::reply::limit_refused;
 use crate::stop::Stop;
 use gp_analysis::too_much;
 use gp_outside::Folder;

@@ -1,5 +1,5 @@
-use crate::answer::Answer;
 use crate::listing::Listing;
+use crate::reply::Reply;
 use crate::submission::Submission;
 
 /// What is asked of an analysis.
@@ -17,7 +17,7 @@ pub struct Asked {
 #[derive(Debug, Drop)]
 pub enum Due {
     /// An answer of a few lines.
-    Whole(Answer),
+    Whole(Reply),
     /// A listing, whose lines are made window by window while they are written.
     InPieces(Listing),
     /// The report of an analysis of what would be listed.

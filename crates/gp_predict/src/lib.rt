@@ -11,7 +11,6 @@
 #![tactic(auto)]
 
 mod analysing;
-mod answer;
 mod content;
 mod due;
 mod lines;
@@ -20,6 +19,7 @@ mod making;
 mod outcome;
 mod refusal;
 mod replaying;
+mod reply;
 mod reporting;
 mod stop;
 mod submission;

@@ -6,7 +6,7 @@ ghost use Rattle.gp_instance.specs.Instances.{due_instances};
 ghost use Rattle.gp_property.specs.Property.{IsProperty};
 ghost use Rattle.gp_property.specs.Reading.{properties_of};
 ghost use Rattle.gp_analysis.specs.Tickets.{found_count, properties_count};
-ghost use Rattle.gp_predict.specs.Listing.{instance_lines, listing_at, properties_at, properties_lines, property_lines, told_lines};
+ghost use Rattle.gp_predict.specs.Listing.{instance_lines, listing_at, properties_at, properties_lines, property_lines, window_count, window_lines};
 ghost use Rattle.gp_predict.specs.Refusal.{properties_refusal};
 ghost use Rattle.gp_base.specs.Results.{or_refused};
 ghost use Rattle.gp_predict.specs.Stage.{IsRefusal, refusal_of};
@@ -96,20 +96,15 @@ pub struct Told {
     pub count: u64,
 }
 
-/// What is told of a window, where its number is k.
-pub fn told_of(
-    alloc: Global,
-    k: u32,
-    window: &Window,
-    properties: &[Property],
-) -> Result<Told, AllocError>
+/// What is told of a window.
+pub fn told_of(alloc: Global, window: &Window, properties: &[Property]) -> Result<Told, AllocError>
     requires { length properties.now ≤ 64 }
-    ensures lines { IfOk result (λ told. told.lines ≡ told_lines k window.now properties.now) }
-    ensures count { IfOk result (λ told. told.count ≡ properties_count window.now 0 properties.now) }
+    ensures lines { IfOk result (λ told. told.lines ≡ window_lines properties.now window.now) }
+    ensures count { IfOk result (λ told. told.count ≡ window_count properties.now window.now) }
     ensures most { IfOk result (λ told. told.count ≤ 640000) }
 {
     let mut lines = Row::new(alloc);
-    lines.push(window_line(alloc, k)?)?;
+    lines.push(window_line(alloc, window.number())?)?;
     let count = add_properties(alloc, &mut lines, window, properties)?;
     Ok(Told { lines, count })
 }

@@ -6,8 +6,8 @@ ghost use Rattle.gp_predict.specs.Expected.{Text};
 ghost use Rattle.gp_predict.specs.Making.{LeavesMade, made_answer};
 ghost use Rattle.gp_words.specs.Command.{IsInRanges, form_of};
 
-use crate::answer::{Answer, one_line};
 use crate::outcome::Outcome;
+use crate::reply::{Reply, one_line};
 use crate::writing::put_answer;
 use gp_make::{Recipe, write_recording};
 use gp_outside::{Folder, Sink, WriteFault};
@@ -58,7 +58,7 @@ fn put_made<S: Sink>(alloc: Global, sink: &mut S, recipe: &Recipe) -> Outcome
 }
 
 /// The answer that so many threads, events and windows were made.
-pub fn made_answer(alloc: Global, recipe: &Recipe) -> Result<Answer, AllocError>
+pub fn made_answer(alloc: Global, recipe: &Recipe) -> Result<Reply, AllocError>
     ensures { IfOk result (λ answer. answer ≡ made_answer recipe.now) }
 {
     let Recipe {

@@ -1,7 +1,7 @@
 ghost use Rattle.std.specs.Prelude.{◌≡◌, IfOk};
 ghost use Rattle.gp_predict.specs.Refusal.{content_refusal, properties_refusal, recording_refusal, recording_refused, refused_as, refused_at, report_refusal, rule_word, schedule_refusal, text_refusal, trace_refusal, two_holders};
 
-use crate::answer::{Answer, line_of, one_line};
+use crate::reply::{Reply, line_of, one_line};
 use gp_property::PropertyFault;
 use gp_replay::ScheduleFault;
 use gp_report::{ReportFault, ReportRule};
@@ -13,7 +13,7 @@ use std::alloc::{AllocError, Global};
 const REFUSED: u8 = 3;
 
 /// The refusal of a file whose bytes are not told. Want of memory, and a folder that failed, have none.
-pub fn content_refusal(alloc: Global, fault: ContentFault) -> Result<Answer, AllocError>
+pub fn content_refusal(alloc: Global, fault: ContentFault) -> Result<Reply, AllocError>
     ensures text { IfOk result (λ answer. answer ≡ content_refusal fault) }
     ensures status { IfOk result (λ answer. answer.status ≡ 3) }
 {
@@ -25,7 +25,7 @@ pub fn content_refusal(alloc: Global, fault: ContentFault) -> Result<Answer, All
 }
 
 /// The refusal of files that are no recording. Want of memory, and a folder that failed, have none.
-pub fn recording_refusal(alloc: Global, fault: RecordingFault) -> Result<Answer, AllocError>
+pub fn recording_refusal(alloc: Global, fault: RecordingFault) -> Result<Reply, AllocError>
     ensures text { IfOk result (λ answer. answer ≡ recording_refusal fault) }
     ensures status { IfOk result (λ answer. answer.status ≡ 3) }
 {
@@ -49,7 +49,7 @@ pub fn recording_refusal(alloc: Global, fault: RecordingFault) -> Result<Answer,
 }
 
 /// The refusal of a text that is no schedule. Want of memory has none.
-pub fn schedule_refusal(alloc: Global, fault: ScheduleFault) -> Result<Answer, AllocError>
+pub fn schedule_refusal(alloc: Global, fault: ScheduleFault) -> Result<Reply, AllocError>
     ensures text { IfOk result (λ answer. answer ≡ schedule_refusal fault) }
     ensures status { IfOk result (λ answer. answer.status ≡ 3) }
 {
@@ -61,7 +61,7 @@ pub fn schedule_refusal(alloc: Global, fault: ScheduleFault) -> Result<Answer, A
 }
 
 /// The refusal of a text that is no file of properties. Want of memory has none.
-pub fn properties_refusal(alloc: Global, fault: PropertyFault) -> Result<Answer, AllocError>
+pub fn properties_refusal(alloc: Global, fault: PropertyFault) -> Result<Reply, AllocError>
     ensures text { IfOk result (λ answer. answer ≡ properties_refusal fault) }
     ensures status { IfOk result (λ answer. answer.status ≡ 3) }
 {
@@ -98,7 +98,7 @@ pub fn properties_refusal(alloc: Global, fault: PropertyFault) -> Result<Answer,
 }
 
 /// The refusal of a text that is no report. Want of memory has none.
-pub fn report_refusal(alloc: Global, fault: ReportFault) -> Result<Answer, AllocError>
+pub fn report_refusal(alloc: Global, fault: ReportFault) -> Result<Reply, AllocError>
     ensures text { IfOk result (λ answer. answer ≡ report_refusal fault) }
     ensures status { IfOk result (λ answer. answer.status ≡ 3) }
 {
@@ -124,7 +124,7 @@ fn rule_word(rule: ReportRule) -> &'static str
     }
 }
 
-fn refused_as(alloc: Global, file: FileName, rule: &str) -> Result<Answer, AllocError>
+fn refused_as(alloc: Global, file: FileName, rule: &str) -> Result<Reply, AllocError>
     ensures text { IfOk result (λ answer. answer ≡ refused_as file rule.now) }
     ensures status { IfOk result (λ answer. answer.status ≡ 3) }
 {
@@ -137,7 +137,7 @@ fn refused_as(alloc: Global, file: FileName, rule: &str) -> Result<Answer, Alloc
     )
 }
 
-fn refused_at(alloc: Global, file: FileName, line: u32, rule: &str) -> Result<Answer, AllocError>
+fn refused_at(alloc: Global, file: FileName, line: u32, rule: &str) -> Result<Reply, AllocError>
     ensures text { IfOk result (λ answer. answer ≡ refused_at file line rule.now) }
     ensures status { IfOk result (λ answer. answer.status ≡ 3) }
 {
@@ -150,7 +150,7 @@ fn refused_at(alloc: Global, file: FileName, line: u32, rule: &str) -> Result<An
     )
 }
 
-fn recording_refused(alloc: Global, rule: &str, thread: u32) -> Result<Answer, AllocError>
+fn recording_refused(alloc: Global, rule: &str, thread: u32) -> Result<Reply, AllocError>
     ensures text { IfOk result (λ answer. answer ≡ recording_refused rule.now thread) }
     ensures status { IfOk result (λ answer. answer.status ≡ 3) }
 {
@@ -162,7 +162,7 @@ fn recording_refused(alloc: Global, rule: &str, thread: u32) -> Result<Answer, A
     line_of(alloc, REFUSED, line)
 }
 
-fn two_holders(alloc: Global, lock: &Name, window: u32) -> Result<Answer, AllocError>
+fn two_holders(alloc: Global, lock: &Name, window: u32) -> Result<Reply, AllocError>
     ensures text { IfOk result (λ answer. answer ≡ two_holders lock.now window) }
     ensures status { IfOk result (λ answer. answer.status ≡ 3) }
 {
@@ -174,7 +174,7 @@ fn two_holders(alloc: Global, lock: &Name, window: u32) -> Result<Answer, AllocE
     line_of(alloc, REFUSED, line)
 }
 
-fn text_refusal(alloc: Global, file: FileName, fault: TextFault) -> Result<Answer, AllocError>
+fn text_refusal(alloc: Global, file: FileName, fault: TextFault) -> Result<Reply, AllocError>
     ensures text { IfOk result (λ answer. answer ≡ text_refusal file fault) }
     ensures status { IfOk result (λ answer. answer.status ≡ 3) }
 {
@@ -186,7 +186,7 @@ fn text_refusal(alloc: Global, file: FileName, fault: TextFault) -> Result<Answe
     }
 }
 
-fn trace_refusal(alloc: Global, thread: u32, fault: TraceFault) -> Result<Answer, AllocError>
+fn trace_refusal(alloc: Global, thread: u32, fault: TraceFault) -> Result<Reply, AllocError>
     ensures text { IfOk result (λ answer. answer ≡ trace_refusal thread fault) }
     ensures status { IfOk result (λ answer. answer.status ≡ 3) }
 {

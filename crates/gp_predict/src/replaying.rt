@@ -8,9 +8,9 @@ ghost use Rattle.gp_base.specs.Results.{or_refused};
 ghost use Rattle.gp_predict.specs.Stage.{IsRefusal, refusal_of};
 ghost use Rattle.gp_window.specs.Gives.{Gives};
 
-use crate::answer::{Answer, feasible, stuck};
 use crate::content::{content_at, recording_at};
 use crate::refusal::schedule_refusal;
+use crate::reply::{Reply, feasible, stuck};
 use crate::stop::Stop;
 use gp_outside::Folder;
 use gp_replay::{ReplayFault, ScheduleFault, WindowSchedule, read_schedule, replay};
@@ -23,7 +23,7 @@ pub fn replay_at<R: AllocGlobal + Threads + Sync, F: Folder>(
     rt: &R,
     folder: &mut F,
     directory: &str,
-) -> Result<Answer, Stop>
+) -> Result<Reply, Stop>
     ensures later { F.faults folder.old ≤ F.faults folder.new }
     ensures kept { F.files folder.new ≡ F.files folder.old }
     ensures told { (files : List File) → F.files folder.old ≡ Some files
@@ -70,7 +70,7 @@ fn schedule_from(alloc: Global, epochs: u32, bytes: &[u8]) -> Result<WindowSched
     }
 }
 
-fn verdict_on(alloc: Global, recording: &Recording, read: &WindowSchedule) -> Result<Answer, Stop>
+fn verdict_on(alloc: Global, recording: &Recording, read: &WindowSchedule) -> Result<Reply, Stop>
     requires first { 1 ≤ read.now.window }
     requires last { read.now.window ≤ recording.now.manifest.epochs }
     ensures due { IfOk result (λ answer. answer ≡ replay_answer recording.now read.now) }

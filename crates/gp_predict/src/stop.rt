@@ -1,11 +1,11 @@
-use crate::answer::Answer;
+use crate::reply::Reply;
 use std::alloc::AllocError;
 
 /// Why the files were not read and replayed to a verdict.
 #[derive(Debug, Drop)]
 pub enum Stop {
     /// An input file, or the recording as a whole, is refused, with this answer.
-    Refused(Answer),
+    Refused(Reply),
     /// The folder failed.
     ReadFault,
     /// Want of memory.

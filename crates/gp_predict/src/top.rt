@@ -1,7 +1,7 @@
 ghost use Rattle.std.specs.Prelude.{ℕ, ◌≡◌, ◌≢◌, ◌≤◌, ◌⊎◌, true, List, Some, None, Err, IfOk, IfErr, map, string_bytes};
 ghost use Rattle.gp_outside.specs.Faults.{Rose};
 ghost use Rattle.gp_outside.specs.Folders.{File};
-ghost use Rattle.gp_predict.specs.Answer.{due_answer, due_by, reads_files, task_at, words_refused};
+ghost use Rattle.gp_predict.specs.Reply.{due_answer, due_by, reads_files, task_at, words_refused};
 ghost use Rattle.gp_predict.specs.Due.{EndsIn, IsOfTask, IsPut, IsRun, IsWithinLimits, expected_of};
 ghost use Rattle.gp_predict.specs.Expected.{Text};
 ghost use Rattle.gp_predict.specs.Making.{LeavesFiles};
@@ -10,12 +10,12 @@ ghost use Rattle.gp_predict.specs.Stage.{GivesAs, IsRefusal};
 ghost use Rattle.gp_words.specs.Command.{IsInRanges, command_of, form_of};
 
 use crate::analysing::{analysing_at, asked_of};
-use crate::answer::words_refused;
 use crate::due::Due;
 use crate::listing::listing_at;
 use crate::making::{made_answer, make_at, recipe_of};
 use crate::outcome::Outcome;
 use crate::replaying::replay_at;
+use crate::reply::words_refused;
 use crate::stop::Stop;
 use crate::submission::submission_at;
 use crate::writing::{put_answer, put_due};

@@ -5,8 +5,8 @@ ghost use Rattle.gp_predict.specs.Submission.{CanBeChecked};
 ghost use Rattle.gp_predict.specs.Verdict.{IsVerdict, accepted, rejected, then_number, verdict_on};
 ghost use Rattle.gp_report.specs.Entries.{entries_among, entries_of};
 
-use crate::answer::{Answer, line_of, one_line};
 use crate::outcome::Outcome;
+use crate::reply::{Reply, line_of, one_line};
 use crate::submission::Submission;
 use crate::writing::put_answer;
 use gp_checker::{Checked, Failure, accepted_is_true, check_report};
@@ -59,7 +59,7 @@ fn put_checked<S: Sink>(
     }
 }
 
-fn verdict_on(alloc: Global, report: &Report, checked: Checked) -> Result<Answer, AllocError>
+fn verdict_on(alloc: Global, report: &Report, checked: Checked) -> Result<Reply, AllocError>
     ensures text { IfOk result (λ answer. answer ≡ verdict_on report.now checked) }
     ensures status { IfOk result (λ answer. answer.status ≤ 1) }
 {
@@ -69,13 +69,13 @@ fn verdict_on(alloc: Global, report: &Report, checked: Checked) -> Result<Answer
     }
 }
 
-fn accepted(alloc: Global, count: u64) -> Result<Answer, AllocError>
+fn accepted(alloc: Global, count: u64) -> Result<Reply, AllocError>
     ensures { IfOk result (λ answer. answer ≡ accepted count) }
 {
     one_line(alloc, 0, format!(in alloc; "accepted {count}\n")?)
 }
 
-fn rejected(alloc: Global, failure: Failure) -> Result<Answer, AllocError>
+fn rejected(alloc: Global, failure: Failure) -> Result<Reply, AllocError>
     ensures { IfOk result (λ answer. answer ≡ rejected failure) }
 {
     let mut line = Vec::from_slice(alloc, b"rejected")?;

@@ -4,20 +4,20 @@ ghost use Rattle.gp_outside.specs.Sinks.{Appends, AppendsFront};
 ghost use Rattle.gp_predict.specs.Due.{EndsIn, IsPut, IsWithinLimits, expected_of};
 ghost use Rattle.gp_predict.specs.Expected.{Text, text_of};
 ghost use Rattle.gp_predict.specs.Lines.{total_line};
-ghost use Rattle.gp_predict.specs.Listing.{all_lines, answer_of_listing, total_count};
+ghost use Rattle.gp_predict.specs.Listing.{all_lines, answer_of_listing, total_count, window_count, window_lines};
 ghost use Rattle.gp_predict.specs.Run.{IsDone};
 
-use crate::answer::Answer;
 use crate::due::Due;
 use crate::lines::total_line;
 use crate::listing::{Listing, Told, told_of};
 use crate::outcome::Outcome;
+use crate::reply::Reply;
 use crate::reporting::{put_analysis, put_compacted};
 use crate::verdict::put_verdict;
 use gp_base::Row;
 use gp_outside::{Gate, PutFault, Sink};
 use gp_property::Property;
-use gp_window::{Recording, WindowWalk};
+use gp_window::{Recording, Window, Windows};
 use std::alloc::Global;
 use std::sync::Wait;
 use std::thread::Threads;
@@ -44,7 +44,7 @@ pub fn put_due<R: AllocGlobal + Threads + Wait + Sync, S: Sink, G: Gate + Sync>(
 }
 
 /// Writes an answer of a few lines.
-pub fn put_answer<S: Sink>(sink: &mut S, answer: &Answer) -> Outcome
+pub fn put_answer<S: Sink>(sink: &mut S, answer: &Reply) -> Outcome
     requires { EndsIn IsDone (Text answer.now) }
     ensures { IsPut (Text answer.now) result (S.written sink.old) (S.written sink.new) (S.faults sink.old) (S.faults sink.new) }
 {
@@ -107,18 +107,35 @@ fn put_windows<S: Sink>(
     ensures err { OnErr result (AppendsFront (S.written sink.old) (S.written sink.new) (flat_map (λ line. line) (all_lines recording.now properties.now))) }
     ensures failed { result ≡ Err PutFault.Failed → Rose (S.faults sink.old) (S.faults sink.new) }
 {
+    // the type says that the epochs are few
+    let _ = recording.manifest();
     let mut total = 0u64;
-    let mut walk = WindowWalk::new(alloc, recording)?;
-    loop {
-        let window = walk.window(alloc)?;
-        let Told { lines, count } = told_of(alloc, walk.number(), &window, properties)?;
-        put_lines(sink, lines.as_slice())?;
+    let mut windows = Windows::new(alloc, recording)?;
+    while let Some(window) = windows.next(alloc)? {
+        let count = put_window(alloc, sink, &window, properties)?;
         total += count;
-        let Some(next) = walk.advance()? else {
-            return Ok(total);
-        };
-        walk = next;
     }
+    Ok(total)
+}
+
+/// Writes what is told of a window, and gives how many instances that are.
+fn put_window<S: Sink>(
+    alloc: Global,
+    sink: &mut S,
+    window: &Window,
+    properties: &[Property],
+) -> Result<u64, PutFault>
+    requires few { length properties.now ≤ 64 }
+    ensures later { S.faults sink.old ≤ S.faults sink.new }
+    ensures count { IfOk result (λ count. count ≡ window_count properties.now window.now) }
+    ensures most { IfOk result (λ count. count ≤ 640000) }
+    ensures ok { OnOk result (Appends (S.written sink.old) (S.written sink.new) (flat_map (λ line. line) (window_lines properties.now window.now))) }
+    ensures err { OnErr result (AppendsFront (S.written sink.old) (S.written sink.new) (flat_map (λ line. line) (window_lines properties.now window.now))) }
+    ensures failed { result ≡ Err PutFault.Failed → Rose (S.faults sink.old) (S.faults sink.new) }
+{
+    let Told { lines, count } = told_of(alloc, window, properties)?;
+    put_lines(sink, lines.as_slice())?;
+    Ok(count)
 }
 
 fn put_lines<S: Sink>(sink: &mut S, lines: &[Row<u8>]) -> Result<(), PutFault>

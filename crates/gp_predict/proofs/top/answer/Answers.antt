@@ -1,5 +1,5 @@
 -- What the stages gave is what is due, and was put.
-use Rattle.gp_predict.specs.Answer.{due_by}
+use Rattle.gp_predict.specs.Reply.{due_by}
 use Rattle.gp_predict.specs.Due.{expected_of}
 use Rattle.gp_predict.proofs.Commands.{due_is}
 use Rattle.gp_predict.proofs.Runs.{run_of_put}

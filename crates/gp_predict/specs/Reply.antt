@@ -2,7 +2,7 @@
 use Rattle.std.specs.Prelude.{ℕ, Bool, true, false, List, Option, Some, None, Result, Ok, Err, codes}
 use Rattle.gp_outside.specs.Folders.{File}
 use Rattle.gp_base.specs.Results.{and_then}
-use Rattle.gp_predict.specs.declared.answer.Answer.{Answer}
+use Rattle.gp_predict.specs.declared.reply.Reply.{Reply}
 use Rattle.gp_predict.specs.declared.submission.Submission.{Submission}
 use Rattle.gp_predict.specs.Analysing.{analysing_at}
 use Rattle.gp_predict.specs.Asking.{asked_of, recipe_of}
@@ -17,19 +17,19 @@ use Rattle.gp_words.specs.declared.task.Task.TheVariants as task
 use Rattle.gp_words.specs.Command.{CommandForm, command_of}
 
 -- a text that is due, or the refusal that came before it
-abbrev pub as_text : Result Answer Answer → Result Expected Answer
+abbrev pub as_text : Result Reply Reply → Result Expected Reply
 as_text due = and_then due (λ answer. Ok (Text answer))
 
 -- the verdict on what was submitted, or the refusal that came before it
-abbrev pub as_verdict : Result Submission Answer → Result Expected Answer
+abbrev pub as_verdict : Result Submission Reply → Result Expected Reply
 as_verdict due = and_then due (λ submission. Ok (Verdict submission))
 
 -- the compact form of the report that was submitted, or the refusal that came before it
-abbrev pub as_compacted : Result Submission Answer → Result Expected Answer
+abbrev pub as_compacted : Result Submission Reply → Result Expected Reply
 as_compacted due = and_then due (λ submission. Ok (Compacted submission))
 
 -- what is due to a task on the files of a folder
-abbrev pub task_at : CommandForm → Task → List File → Result Expected Answer
+abbrev pub task_at : CommandForm → Task → List File → Result Expected Reply
 task_at command task.Replay files = as_text (replay_at files command.folder)
 task_at command task.List files = as_text (list_at files command.folder)
 task_at command task.Analyse files = analysing_at files command.folder (asked_of command)
@@ -38,12 +38,12 @@ task_at command task.Compact files = as_compacted (submission_at files command.f
 task_at command task.Make files = Ok (Text (made_answer (recipe_of command)))
 
 -- what was reached, or the refusal that came before it
-abbrev pub either_expected : Result Expected Answer → Expected
+abbrev pub either_expected : Result Expected Reply → Expected
 either_expected (Ok expected) = expected
 either_expected (Err refusal) = Text refusal
 
 -- the refusal of the words
-abbrev pub words_refused : Answer
+abbrev pub words_refused : Reply
 words_refused = one_line 2 (codes "words")
 
 -- whether a task reads files: task make only writes them

@@ -1,16 +1,13 @@
-ghost use Rattle.std.specs.Prelude.{◌≡◌, ◌≤◌, true, length};
-ghost use Rattle.gp_constraint.specs.Base.{clauses_of};
-ghost use Rattle.gp_constraint.specs.Encoded.{encoded_of};
-ghost use Rattle.gp_constraint.specs.Points.{points_of};
+ghost use Rattle.std.specs.Prelude.{◌≡◌, true};
 ghost use Rattle.gp_instance.specs.Instance.{is_instance};
-ghost use Rattle.gp_witness.specs.Answered.{AnswersInstance};
+ghost use Rattle.gp_witness.specs.Answered.{SolvesInstance};
 
-use crate::recorded::{encode, properties, window_of};
+use crate::recorded::{properties, window_of};
 use crate::rows;
 use crate::rows::Case;
 use crate::written::are_events;
 use gp_clause::Valuation;
-use gp_constraint::{Encoded, problems_are_valid, query};
+use gp_constraint::{Encoded, base, problems_are_valid, query};
 use gp_instance::{Instance, instances, is_one_for_each, lists_exactly, matches};
 use gp_property::Property;
 use gp_replay::{ReplayFault, replay};
@@ -46,17 +43,15 @@ fn is_found(schedule: &Schedule, due: &Due) -> bool {
 
 fn scheduled(
     alloc: Global,
-    window: &Window,
     encoded: &Encoded,
     property: &Property,
     instance: &Instance,
     valuation: &Valuation,
 ) -> Result<Schedule, AllocError>
-    requires encoded { encoded.now ≡ encoded_of window.now }
-    requires instance { is_instance window.now property.now instance.now.events ≡ true }
-    requires answer { AnswersInstance window.now property.now instance.now.events valuation.now }
+    requires instance { is_instance encoded.now property.now instance.now.events ≡ true }
+    requires answer { SolvesInstance encoded.now property.now instance.now.events valuation.now }
 {
-    schedule_of(alloc, window, encoded, property, instance, valuation)
+    schedule_of(alloc, encoded, property, instance, valuation)
 }
 
 fn replays(alloc: Global, window: &Window, schedule: &Schedule) -> Result<bool, AllocError> {
@@ -74,35 +69,29 @@ fn is_matched(property: &Property, instance: &Instance, schedule: &Schedule) -> 
 // Whether the schedule of an answer is the one that is due, replays to its end and matches.
 fn finds(
     alloc: Global,
-    window: &Window,
     encoded: &Encoded,
     property: &Property,
     instance: &Instance,
     valuation: &Valuation,
     due: &Due,
 ) -> Result<bool, Fail>
-    requires encoded { encoded.now ≡ encoded_of window.now }
-    requires instance { is_instance window.now property.now instance.now.events ≡ true }
-    requires answer { AnswersInstance window.now property.now instance.now.events valuation.now }
+    requires instance { is_instance encoded.now property.now instance.now.events ≡ true }
+    requires answer { SolvesInstance encoded.now property.now instance.now.events valuation.now }
 {
-    let schedule = scheduled(alloc, window, encoded, property, instance, valuation)?;
-    let replayed = replays(alloc, window, &schedule)?;
+    let schedule = scheduled(alloc, encoded, property, instance, valuation)?;
+    let replayed = replays(alloc, encoded.window(), &schedule)?;
     Ok(is_found(&schedule, due) && replayed && is_matched(property, instance, &schedule))
 }
 
 // Whether a search finds what is due.
 fn ends(
     alloc: Global,
-    window: &Window,
     encoded: &Encoded,
     property: &Property,
     instance: &Instance,
     due: &Due,
 ) -> Result<bool, Fail>
-    requires encoded { encoded.now ≡ encoded_of window.now }
-    requires points { length (points_of window.now) ≤ 2048 }
-    requires clauses { length (clauses_of window.now) ≤ 500000 }
-    requires instance { is_instance window.now property.now instance.now.events ≡ true }
+    requires { is_instance encoded.now property.now instance.now.events ≡ true }
 {
     problems_are_valid();
     let problem = encoded.problem();
@@ -112,13 +101,11 @@ fn ends(
     if problem.clauses.len() > 1000 {
         return Ok(false);
     }
-    let query = query(alloc, encoded, window, property, instance)?;
+    let query = query(alloc, encoded, property, instance)?;
     let mut search = Search::new(alloc, problem)?;
     let mut mail = NoMail::new(problem);
     match search.ask(&query, BUDGET, &mut mail)? {
-        Verdict::Model(valuation) => finds(
-            alloc, window, encoded, property, instance, &valuation, due,
-        ),
+        Verdict::Model(valuation) => finds(alloc, encoded, property, instance, &valuation, due),
         Verdict::Refuted(_) => Ok(matches!(due, Due::Impossible)),
         Verdict::Spent { .. } => Ok(false),
     }
@@ -127,18 +114,19 @@ fn ends(
 // Whether the one instance of a property is the one of a case, and a search finds what is due.
 fn ends_with_one(
     alloc: Global,
-    window: &Window,
+    window: Window,
     property: &Property,
     case: &Case,
     due: &Due,
 ) -> Result<bool, Fail> {
     lists_exactly();
-    let encoded = encode(alloc, window)?;
+    let encoded = base(alloc, window)?;
+    let window = encoded.window();
     let listed = instances(alloc, window, property, 0)?;
     let [instance] = listed.as_slice() else {
         return Ok(false);
     };
-    let found = ends(alloc, window, &encoded, property, instance, due)?;
+    let found = ends(alloc, &encoded, property, instance, due)?;
     Ok(found && are_events(instance.events.as_slice(), case.instance))
 }
 
@@ -148,11 +136,11 @@ fn answers<R: AllocGlobal + Threads + Sync>(rt: &R, case: &Case, due: &Due) -> R
     let [property] = properties.as_slice() else {
         return Ok(false);
     };
-    ends_with_one(rt.alloc(), &window, property, case, due)
+    ends_with_one(rt.alloc(), window, property, case, due)
 }
 
 // A case, how many events its schedule has, and which are the last of them.
-const FOUND: [(&Case, usize, &[(u32, u32)]); 9] = [
+const FOUND: [(&Case, usize, &[(u32, u32)]); 13] = [
     (
         &rows::USE_BEFORE_AUTHORISATION,
         3,
@@ -179,6 +167,12 @@ const FOUND: [(&Case, usize, &[(u32, u32)]); 9] = [
     ),
     (&rows::READ_BESIDE_WRITE, 2, &[(1, 0), (2, 0)]),
     (&rows::JOIN_OF_EXITED, 3, &[(1, 0), (1, 1), (1, 2)]),
+    (
+        &rows::JOIN_AFTER_EVENTS,
+        4,
+        &[(1, 0), (2, 0), (1, 1), (1, 2)],
+    ),
+    (&rows::JOIN_OF_EXITED_EARLIER, 2, &[(1, 0), (1, 1)]),
     // The schedule ends inside a section.
     (
         &rows::SECTIONS_SWAPPED,
@@ -193,6 +187,9 @@ const FOUND: [(&Case, usize, &[(u32, u32)]); 9] = [
     // The two sections begin in either order.
     (&rows::READERS_TOGETHER, 4, &[(1, 1), (2, 1)]),
     (&rows::READ_OVER_MARK, 3, &[(2, 0), (2, 1), (1, 0)]),
+    // The events of a group stand in any order.
+    (&rows::THREE_TOGETHER, 3, &[]),
+    (&rows::FOUR_TOGETHER, 4, &[]),
 ];
 
 #[test]
@@ -207,7 +204,7 @@ fn schedules_are_found(rt: HostRuntime) -> Result<(), Fail> {
     Ok(())
 }
 
-const IMPOSSIBLE: [&Case; 7] = [
+const IMPOSSIBLE: [&Case; 10] = [
     &rows::FLAG_KEEPS_ORDER,
     &rows::UPDATE_INSIDE_SECTION,
     &rows::READ_BESIDE_WRITE_LOCKED,
@@ -215,6 +212,9 @@ const IMPOSSIBLE: [&Case; 7] = [
     &rows::LOCK_TAKEN_EARLY,
     &rows::READER_BESIDE_WRITER,
     &rows::TAKEN_AFTER_READING,
+    &rows::NEVER_STARTED,
+    &rows::THREE_APART,
+    &rows::FOUR_APART,
 ];
 
 #[test]

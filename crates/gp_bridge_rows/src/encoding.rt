@@ -1,15 +1,11 @@
-ghost use Rattle.std.specs.Prelude.{◌≡◌};
-ghost use Rattle.gp_constraint.specs.Encoded.{encoded_of};
-
-use crate::recorded::{encode, properties, window_of};
+use crate::recorded::{properties, window_of};
 use crate::rows;
 use crate::rows::Case;
 use crate::written::Sort::{Free, Order};
 use crate::written::{Encoding, are_events, is_encoding, is_query};
-use gp_constraint::{Encoded, query};
+use gp_constraint::{Encoded, base, query};
 use gp_instance::instances;
 use gp_property::Property;
-use gp_window::Window;
 use std::alloc::Global;
 use std::test::Fail;
 use std::thread::Threads;
@@ -18,29 +14,26 @@ use std::thread::Threads;
 fn is_asked(
     alloc: Global,
     encoded: &Encoded,
-    window: &Window,
     property: &Property,
     case: &Case,
-) -> Result<bool, Fail>
-    requires { encoded.now ≡ encoded_of window.now }
-{
-    let listed = instances(alloc, window, property, 0)?;
+) -> Result<bool, Fail> {
+    let listed = instances(alloc, encoded.window(), property, 0)?;
     let [instance] = listed.as_slice() else {
         return Ok(false);
     };
-    let query = query(alloc, encoded, window, property, instance)?;
+    let query = query(alloc, encoded, property, instance)?;
     Ok(are_events(instance.events.as_slice(), case.instance) && is_query(&query, &case.query))
 }
 
 fn asks<R: AllocGlobal + Threads + Sync>(rt: &R, case: &Case) -> Result<bool, Fail> {
     let alloc = rt.alloc();
     let window = window_of(rt, case)?;
-    let encoded = encode(alloc, &window)?;
+    let encoded = base(alloc, window)?;
     let properties = properties(alloc, case.property)?;
     let [property] = properties.as_slice() else {
         return Ok(false);
     };
-    is_asked(alloc, &encoded, &window, property, case)
+    is_asked(alloc, &encoded, property, case)
 }
 
 // Whether the problem of a case, of so many points, is the one that is due.
@@ -51,7 +44,7 @@ fn encodes<R: AllocGlobal + Threads + Sync>(
     due: &Encoding,
 ) -> Result<bool, Fail> {
     let window = window_of(rt, case)?;
-    let encoded = encode(rt.alloc(), &window)?;
+    let encoded = base(rt.alloc(), window)?;
     Ok(is_encoding(encoded.problem(), points, due))
 }
 
@@ -63,7 +56,7 @@ const TAKEN: Encoding = Encoding {
 };
 
 // A case, how many points it has, and its problem.
-const ENCODED: [(&Case, u32, Encoding); 12] = [
+const ENCODED: [(&Case, u32, Encoding); 16] = [
     (
         &rows::FLAG_KEEPS_ORDER,
         5,
@@ -117,6 +110,42 @@ const ENCODED: [(&Case, u32, Encoding); 12] = [
             kinds: &[Free, Free, Free],
             edges: &[(0, 1), (1, 2)],
             clauses: &[&[1, -2], &[2, -3], &[1, -2]],
+        },
+    ),
+    (
+        &rows::JOIN_AFTER_EVENTS,
+        4,
+        Encoding {
+            kinds: &[Free, Free, Free, Free, Order(0, 3), Order(1, 3)],
+            edges: &[(0, 1), (1, 2)],
+            clauses: &[&[1, -2], &[2, -3], &[1, -4], &[-4, 5], &[-2, 4], &[-2, -6]],
+        },
+    ),
+    (
+        &rows::JOIN_OF_EXITED_EARLIER,
+        2,
+        Encoding {
+            kinds: &[Free, Free],
+            edges: &[(0, 1)],
+            clauses: &[&[1, -2]],
+        },
+    ),
+    (
+        &rows::NEVER_STARTED,
+        2,
+        Encoding {
+            kinds: &[Free, Free],
+            edges: &[],
+            clauses: &[&[-2]],
+        },
+    ),
+    (
+        &rows::FOUR_TOGETHER,
+        4,
+        Encoding {
+            kinds: &[Free, Free, Free, Free],
+            edges: &[(0, 1), (2, 3)],
+            clauses: &[&[1, -2], &[3, -4]],
         },
     ),
     (
@@ -245,7 +274,7 @@ fn problems_are_as_written(rt: HostRuntime) -> Result<(), Fail> {
     Ok(())
 }
 
-const ASKED: [&Case; 18] = [
+const ASKED: [&Case; 25] = [
     &rows::USE_BEFORE_AUTHORISATION,
     &rows::FLAG_KEEPS_ORDER,
     &rows::FLAG_IS_SET_BEFORE,
@@ -255,6 +284,9 @@ const ASKED: [&Case; 18] = [
     &rows::READ_BESIDE_WRITE_LOCKED,
     &rows::JOIN_OF_EXITED,
     &rows::JOIN_OF_RUNNING,
+    &rows::JOIN_AFTER_EVENTS,
+    &rows::JOIN_OF_EXITED_EARLIER,
+    &rows::NEVER_STARTED,
     &rows::SECTIONS_SWAPPED,
     &rows::LOCK_HANDED_OVER,
     &rows::LOCK_TAKEN_EARLY,
@@ -264,6 +296,10 @@ const ASKED: [&Case; 18] = [
     &rows::TAKEN_AFTER_READING,
     &rows::READ_AFTER_HOLDING,
     &rows::SECTIONS_WITHOUT_END,
+    &rows::THREE_TOGETHER,
+    &rows::THREE_APART,
+    &rows::FOUR_TOGETHER,
+    &rows::FOUR_APART,
 ];
 
 #[test]

@@ -5,18 +5,17 @@ ghost use Rattle.gp_clause.specs.Kind.{KeepsBound, bound_of};
 ghost use Rattle.gp_clause.specs.Lit.{HoldsLit};
 ghost use Rattle.gp_clause.specs.Valuation.{Meets, place_of, truth_of};
 ghost use Rattle.gp_bridge_rows.specs.Kept.{KeepsBelow};
-ghost use Rattle.gp_constraint.specs.Encoded.{encoded_of};
-ghost use Rattle.gp_witness.specs.Answered.{AnswersWindow};
+ghost use Rattle.gp_witness.specs.Answered.{SolvesWindow};
 
-use crate::recorded::{encode, window_of};
+use crate::recorded::window_of;
 use crate::rows;
 use crate::rows::Case;
 use crate::written::are_events;
 use gp_base::Row;
 use gp_clause::{Clause, Edge, Kind, Lit, Problem, Valuation};
-use gp_constraint::Encoded;
+use gp_constraint::{Encoded, base};
 use gp_difference::keeps;
-use gp_window::{Schedule, Window};
+use gp_window::Schedule;
 use gp_witness::executed_of;
 use std::alloc::{AllocError, Global};
 use std::test::Fail;
@@ -104,33 +103,24 @@ fn is_answer(problem: &Problem, valuation: &Valuation) -> bool
     keep_bounds(valuation, problem.kinds.as_slice())
 }
 
-fn executed(
-    alloc: Global,
-    window: &Window,
-    encoded: &Encoded,
-    valuation: &Valuation,
-) -> Result<Schedule, AllocError>
-    requires encoded { encoded.now ≡ encoded_of window.now }
-    requires answer { AnswersWindow window.now valuation.now }
+fn executed(alloc: Global, encoded: &Encoded, valuation: &Valuation) -> Result<Schedule, AllocError>
+    requires { SolvesWindow encoded.now valuation.now }
 {
-    executed_of(alloc, window, encoded, valuation)
+    executed_of(alloc, encoded, valuation)
 }
 
 // Whether what answers the constraints of a window gives these events.
 fn gives(
     alloc: Global,
-    window: &Window,
     encoded: &Encoded,
     valuation: &Valuation,
     due: &[(u32, u32)],
-) -> Result<bool, AllocError>
-    requires { encoded.now ≡ encoded_of window.now }
-{
+) -> Result<bool, AllocError> {
     let problem = encoded.problem();
     if !is_answer(problem, valuation) {
         return Ok(false);
     }
-    let schedule = executed(alloc, window, encoded, valuation)?;
+    let schedule = executed(alloc, encoded, valuation)?;
     Ok(are_events(schedule.events.as_slice(), due))
 }
 
@@ -153,9 +143,9 @@ fn executes<R: AllocGlobal + Threads + Sync>(
 ) -> Result<bool, Fail> {
     let alloc = rt.alloc();
     let window = window_of(rt, case)?;
-    let encoded = encode(alloc, &window)?;
+    let encoded = base(alloc, window)?;
     let valuation = valuation_of(alloc, truth, places)?;
-    Ok(gives(alloc, &window, &encoded, &valuation, due)?)
+    Ok(gives(alloc, &encoded, &valuation, due)?)
 }
 
 // Truth values and places, and the events that they schedule.

@@ -1,11 +1,5 @@
-ghost use Rattle.std.specs.Prelude.{◌≡◌, ◌≤◌, IfOk, length};
-ghost use Rattle.gp_constraint.specs.Base.{clauses_of};
-ghost use Rattle.gp_constraint.specs.Encoded.{encoded_of};
-ghost use Rattle.gp_constraint.specs.Points.{points_of};
-
 use crate::rows::Case;
 use gp_base::Row;
-use gp_constraint::{BaseFault, Encoded, base};
 use gp_outside::MemoryFolder;
 use gp_property::{Property, read_properties};
 use gp_window::{Window, cut, read_recording};
@@ -51,14 +45,4 @@ pub fn properties(alloc: Global, text: &str) -> Result<Row<Property>, Fail> {
 /// The last window of a case.
 pub fn window_of<R: AllocGlobal + Threads + Sync>(rt: &R, case: &Case) -> Result<Window, Fail> {
     last_window(rt, case.manifest, case.traces)
-}
-
-/// The constraints of a window that is not too large.
-pub fn encode(alloc: Global, window: &Window) -> Result<Encoded, BaseFault>
-    ensures encoded { IfOk result (λ encoded. encoded ≡ encoded_of window.now) }
-    ensures points { IfOk result (λ _. length (points_of window.now) ≤ 2048) }
-    ensures clauses { IfOk result (λ _. length (clauses_of window.now) ≤ 500000) }
-{
-    let encoded = base(alloc, window)?;
-    Ok(encoded)
 }

@@ -33,6 +33,12 @@ const MID: &str =
 
 const ADJACENT: &str = "property adj\nevent r read x *\nevent w write x *\npattern r@t || w@u\n";
 
+const THREE: &str =
+    "property three\nevent a op a\nevent b op b\nevent c op c\npattern a@t || b@t || c@u\n";
+
+const FOUR: &str =
+    "property four\nevent a op a\nevent b op b\nevent c op c\nevent d op d\npattern a@t || b@t || c@u || d@u\n";
+
 const DONE: &str = "property done\nevent d op done\npattern d@t\n";
 
 const SWAPPED: &str = "property ba\nevent a op a\nevent b op b\npattern b@u a@t\n";
@@ -140,7 +146,7 @@ pub const READ_BESIDE_WRITE: Case = Case {
     property: ADJACENT,
     instance: &[(1, 0), (2, 0)],
     query: Asked {
-        locals: &[Span(0, 1), Span(1, 0)],
+        locals: &[Span(0, 1, 1), Span(1, 0, 1)],
         assumed: &[1, 2, 5, 6],
     },
 };
@@ -154,8 +160,8 @@ pub const READ_BESIDE_WRITE_LOCKED: Case = Case {
     instance: &[(1, 1), (2, 1)],
     query: Asked {
         locals: &[
-            Span(1, 4),
-            Span(4, 1),
+            Span(1, 4, 1),
+            Span(4, 1, 1),
             Order(1, 3),
             Order(1, 5),
             Order(0, 4),
@@ -175,6 +181,45 @@ pub const JOIN_OF_EXITED: Case = Case {
     query: Asked {
         locals: &[],
         assumed: &[3],
+    },
+};
+
+/// A join of a thread that has an event and then exits.
+pub const JOIN_AFTER_EVENTS: Case = Case {
+    name: "a join of a thread that did something and exited",
+    manifest: ONE_ROOT,
+    traces: ["start 2\njoin 2\nop done\n", "op e\nexit\n"],
+    property: DONE,
+    instance: &[(1, 2)],
+    query: Asked {
+        locals: &[],
+        assumed: &[3],
+    },
+};
+
+/// A join of a thread that did something and exited in the window before.
+pub const JOIN_OF_EXITED_EARLIER: Case = Case {
+    name: "a join of a thread that exited in the window before",
+    manifest: "gptrace 1\nthreads 2\nepochs 2\nroots 1\n",
+    traces: ["start 2\nmark\njoin 2\nop done\n", "op e\nexit\nmark\n"],
+    property: DONE,
+    instance: &[(1, 1)],
+    query: Asked {
+        locals: &[],
+        assumed: &[2],
+    },
+};
+
+/// An event of a thread that nobody starts.
+pub const NEVER_STARTED: Case = Case {
+    name: "a thread that nobody starts",
+    manifest: ONE_ROOT,
+    traces: ["op a\n", "op u\n"],
+    property: REVERSED,
+    instance: &[(2, 0), (1, 0)],
+    query: Asked {
+        locals: &[Order(0, 1)],
+        assumed: &[2, 1, -3],
     },
 };
 
@@ -242,8 +287,8 @@ pub const READERS_TOGETHER: Case = Case {
     instance: &[(1, 1), (2, 1)],
     query: Asked {
         locals: &[
-            Span(1, 4),
-            Span(4, 1),
+            Span(1, 4, 1),
+            Span(4, 1, 1),
             Order(1, 3),
             Order(1, 5),
             Order(0, 4),
@@ -262,8 +307,8 @@ pub const READER_BESIDE_WRITER: Case = Case {
     instance: &[(1, 1), (2, 1)],
     query: Asked {
         locals: &[
-            Span(1, 4),
-            Span(4, 1),
+            Span(1, 4, 1),
+            Span(4, 1, 1),
             Order(1, 3),
             Order(1, 5),
             Order(0, 4),
@@ -331,5 +376,112 @@ pub const SECTIONS_WITHOUT_END: Case = Case {
     query: Asked {
         locals: &[Order(1, 3)],
         assumed: &[4, 2, -6],
+    },
+};
+
+/// Three events side by side.
+pub const THREE_TOGETHER: Case = Case {
+    name: "three together",
+    manifest: TWO_ROOTS,
+    traces: ["op a\nop b\n", "op c\n"],
+    property: THREE,
+    instance: &[(1, 0), (1, 1), (2, 0)],
+    query: Asked {
+        locals: &[
+            Span(0, 1, 2),
+            Span(0, 2, 2),
+            Span(1, 0, 2),
+            Span(1, 2, 2),
+            Span(2, 0, 2),
+            Span(2, 1, 2),
+            Order(0, 2),
+            Order(1, 2),
+        ],
+        assumed: &[1, 2, 3, 4, 5, 6, 7, 8, 9],
+    },
+};
+
+/// Three events, with a fourth between two of them, so that no three places hold them side by side.
+pub const THREE_APART: Case = Case {
+    name: "three apart",
+    manifest: TWO_ROOTS,
+    traces: ["op a\nop x\nop b\n", "op c\n"],
+    property: THREE,
+    instance: &[(1, 0), (1, 2), (2, 0)],
+    query: Asked {
+        locals: &[
+            Span(0, 2, 2),
+            Span(0, 3, 2),
+            Span(2, 0, 2),
+            Span(2, 3, 2),
+            Span(3, 0, 2),
+            Span(3, 2, 2),
+            Order(0, 3),
+            Order(2, 3),
+            Order(1, 3),
+        ],
+        assumed: &[1, 3, 4, 5, 6, 7, 8, 9, 10],
+    },
+};
+
+/// Four events side by side.
+pub const FOUR_TOGETHER: Case = Case {
+    name: "four together",
+    manifest: TWO_ROOTS,
+    traces: ["op a\nop b\n", "op c\nop d\n"],
+    property: FOUR,
+    instance: &[(1, 0), (1, 1), (2, 0), (2, 1)],
+    query: Asked {
+        locals: &[
+            Span(0, 1, 3),
+            Span(0, 2, 3),
+            Span(0, 3, 3),
+            Span(1, 0, 3),
+            Span(1, 2, 3),
+            Span(1, 3, 3),
+            Span(2, 0, 3),
+            Span(2, 1, 3),
+            Span(2, 3, 3),
+            Span(3, 0, 3),
+            Span(3, 1, 3),
+            Span(3, 2, 3),
+            Order(0, 2),
+            Order(0, 3),
+            Order(1, 2),
+            Order(1, 3),
+        ],
+        assumed: &[1, 2, 3, 4, 5, 6, 7, 8, 9, 10, 11, 12, 13, 14, 15, 16],
+    },
+};
+
+/// Four events, with a fifth between two of them.
+pub const FOUR_APART: Case = Case {
+    name: "four apart",
+    manifest: TWO_ROOTS,
+    traces: ["op a\nop x\nop b\n", "op c\nop d\n"],
+    property: FOUR,
+    instance: &[(1, 0), (1, 2), (2, 0), (2, 1)],
+    query: Asked {
+        locals: &[
+            Span(0, 2, 3),
+            Span(0, 3, 3),
+            Span(0, 4, 3),
+            Span(2, 0, 3),
+            Span(2, 3, 3),
+            Span(2, 4, 3),
+            Span(3, 0, 3),
+            Span(3, 2, 3),
+            Span(3, 4, 3),
+            Span(4, 0, 3),
+            Span(4, 2, 3),
+            Span(4, 3, 3),
+            Order(0, 3),
+            Order(0, 4),
+            Order(2, 3),
+            Order(2, 4),
+            Order(1, 3),
+            Order(1, 4),
+        ],
+        assumed: &[1, 3, 4, 5, 6, 7, 8, 9, 10, 11, 12, 13, 14, 15, 16, 17],
     },
 };

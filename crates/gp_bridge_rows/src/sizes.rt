@@ -30,7 +30,7 @@ fn window_with<R: AllocGlobal + Threads + Sync>(
 }
 
 // How many clauses there are, and whether the window is too large.
-fn size_of(alloc: Global, window: &Window) -> Result<(u64, u64, bool), AllocError> {
+fn size_of(alloc: Global, window: Window) -> Result<(u64, u64, bool), AllocError> {
     match base(alloc, window) {
         Ok(encoded) => {
             let problem = encoded.problem();
@@ -54,7 +54,7 @@ fn has_size<R: AllocGlobal + Threads + Sync>(
     due: (u64, u64, bool),
 ) -> Result<bool, Fail> {
     let window = window_with(rt, manifest, lines, count)?;
-    Ok(size_of(rt.alloc(), &window)? == due)
+    Ok(size_of(rt.alloc(), window)? == due)
 }
 
 #[test]

@@ -2,12 +2,12 @@
 use gp_clause::{Clause, Edge, Kind, Lit, Problem, Query};
 use gp_window::EventId;
 
-/// What a variable stands for. A span is 1 wide.
+/// What a variable stands for. A span has its two points and its width.
 #[derive(Drop, Clone, Copy)]
 pub enum Sort {
     Free,
     Order(u32, u32),
-    Span(u32, u32),
+    Span(u32, u32, u32),
 }
 
 /// The kinds of the variables, the pairs of points of the edges, and the clauses.
@@ -42,7 +42,9 @@ fn is_kind(kind: Kind, due: Sort) -> bool {
     match (kind, due) {
         (Kind::Free, Sort::Free) => true,
         (Kind::Order { a, b }, Sort::Order(first, second)) => a == first && b == second,
-        (Kind::Span { a, b, c }, Sort::Span(first, second)) => a == first && b == second && c == 1,
+        (Kind::Span { a, b, c }, Sort::Span(first, second, width)) => {
+            a == first && b == second && c == width
+        }
         _ => false,
     }
 }

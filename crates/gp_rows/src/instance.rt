@@ -90,7 +90,7 @@ fn lists<R: AllocGlobal + Threads + Sync>(
 }
 
 fn instances_hold<R: AllocGlobal + Threads + Sync>(rt: &R) -> Result<bool, Fail> {
-    const ROWS: [(Recorded, &str, &str); 18] = [
+    const ROWS: [(Recorded, &str, &str); 20] = [
         (
             (ONE_ROOT, "start 2\nop auth r\n", "op use r\n"),
             AUTH,
@@ -181,6 +181,16 @@ fn instances_hold<R: AllocGlobal + Threads + Sync>(rt: &R) -> Result<bool, Fail>
             (TWO_ROOTS, "op a\nop a\n", "op a\n"),
             "property group\nevent a op a\npattern a@t || a@t\n",
             "1.0 1.1 \n1.1 1.0 \n",
+        ),
+        (
+            (TWO_ROOTS, "op a\nop a\nop a\n", "op a\n"),
+            "property three\nevent a op a\npattern a@t || a@t || a@t\n",
+            "1.0 1.1 1.2 \n1.0 1.2 1.1 \n1.1 1.0 1.2 \n1.1 1.2 1.0 \n1.2 1.0 1.1 \n1.2 1.1 1.0 \n",
+        ),
+        (
+            (TWO_ROOTS, "op a\nop a\n", "op a\nop a\n"),
+            "property four\nevent a op a\npattern a@t || a@t || a@u || a@u\n",
+            "1.0 1.1 2.0 2.1 \n1.0 1.1 2.1 2.0 \n1.1 1.0 2.0 2.1 \n1.1 1.0 2.1 2.0 \n2.0 2.1 1.0 1.1 \n2.0 2.1 1.1 1.0 \n2.1 2.0 1.0 1.1 \n2.1 2.0 1.1 1.0 \n",
         ),
         (
             (TWO_ROOTS, "op move p q\nop move r r\n", "op move s\n"),
@@ -294,36 +304,76 @@ fn matched(
     Ok(Some(matches(property, &instance, &schedule)))
 }
 
-fn matches_hold(alloc: Global, property: &Property) -> Result<bool, AllocError> {
+/// A schedule, and whether it matches.
+type Scheduled<'a> = (&'a [(u32, u32)], bool);
+
+fn matches_hold(
+    alloc: Global,
+    property: &Property,
+    rows: &[Scheduled],
+) -> Result<bool, AllocError> {
     const EVENTS: [(u32, u32); 4] = [(1, 0), (2, 0), (3, 0), (4, 0)];
-    const ROWS: [(&[(u32, u32)], bool); 8] = [
-        (&[(1, 0), (2, 0), (3, 0), (4, 0)], true),
-        (&[(1, 0), (3, 0), (2, 0), (4, 0)], true),
-        (&[(1, 0), (5, 0), (3, 0), (2, 0), (5, 1), (4, 0)], true),
-        (&[(1, 0), (2, 0), (5, 0), (3, 0), (4, 0)], false),
-        (&[(2, 0), (1, 0), (3, 0), (4, 0)], false),
-        (&[(2, 0), (3, 0), (1, 0), (4, 0)], false),
-        (&[(1, 0), (2, 0), (4, 0), (3, 0)], false),
-        (&[(1, 0), (2, 0), (3, 0)], false),
-    ];
     let mut hold = true;
-    for (schedule, due) in &ROWS {
+    for (schedule, due) in rows {
         hold &= matched(alloc, property, &EVENTS, schedule)? == Some(*due);
     }
     Ok(hold)
 }
 
-fn pattern_matches(alloc: Global) -> Result<bool, Fail> {
-    let text = "property p\nevent a op a\npattern a@t a@u || a@v a@w\n";
-    let properties = properties_of(alloc, text)?;
+fn pattern_matches(alloc: Global, pattern: &str, rows: &[Scheduled]) -> Result<bool, Fail> {
+    let properties = properties_of(alloc, pattern)?;
     match properties.as_slice() {
-        [property] => Ok(matches_hold(alloc, property)?),
+        [property] => Ok(matches_hold(alloc, property, rows)?),
         _ => Ok(false),
     }
 }
 
+/// A group of two between two steps.
+const TWO: &str = "property p\nevent a op a\npattern a@t a@u || a@v a@w\n";
+
+const TWO_ROWS: [Scheduled; 8] = [
+    (&[(1, 0), (2, 0), (3, 0), (4, 0)], true),
+    (&[(1, 0), (3, 0), (2, 0), (4, 0)], true),
+    (&[(1, 0), (5, 0), (3, 0), (2, 0), (5, 1), (4, 0)], true),
+    (&[(1, 0), (2, 0), (5, 0), (3, 0), (4, 0)], false),
+    (&[(2, 0), (1, 0), (3, 0), (4, 0)], false),
+    (&[(2, 0), (3, 0), (1, 0), (4, 0)], false),
+    (&[(1, 0), (2, 0), (4, 0), (3, 0)], false),
+    (&[(1, 0), (2, 0), (3, 0)], false),
+];
+
+/// A group of three before a step.
+const THREE: &str = "property p\nevent a op a\npattern a@t || a@u || a@v a@w\n";
+
+const THREE_ROWS: [Scheduled; 6] = [
+    (&[(3, 0), (1, 0), (2, 0), (4, 0)], true),
+    (&[(5, 0), (2, 0), (3, 0), (1, 0), (5, 1), (4, 0)], true),
+    (&[(1, 0), (5, 0), (2, 0), (3, 0), (4, 0)], false),
+    (&[(1, 0), (2, 0), (5, 0), (3, 0), (4, 0)], false),
+    (&[(1, 0), (2, 0), (4, 0), (3, 0)], false),
+    (&[(4, 0), (1, 0), (2, 0), (3, 0)], false),
+];
+
+/// A group of four.
+const FOUR: &str = "property p\nevent a op a\npattern a@t || a@u || a@v || a@w\n";
+
+const FOUR_ROWS: [Scheduled; 4] = [
+    (&[(4, 0), (2, 0), (1, 0), (3, 0)], true),
+    (&[(5, 0), (4, 0), (2, 0), (1, 0), (3, 0), (5, 1)], true),
+    (&[(4, 0), (2, 0), (5, 0), (1, 0), (3, 0)], false),
+    (&[(4, 0), (2, 0), (1, 0)], false),
+];
+
+fn patterns_match(alloc: Global) -> Result<bool, Fail> {
+    Ok(
+        pattern_matches(alloc, TWO, &TWO_ROWS)?
+            && pattern_matches(alloc, THREE, &THREE_ROWS)?
+            && pattern_matches(alloc, FOUR, &FOUR_ROWS)?,
+    )
+}
+
 #[test]
 fn schedules_match_or_not(rt: HostRuntime) -> Result<(), Fail> {
-    assert!(rt; pattern_matches(rt.alloc())?);
+    assert!(rt; patterns_match(rt.alloc())?);
     Ok(())
 }

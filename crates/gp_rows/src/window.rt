@@ -2,7 +2,7 @@
 use crate::numbered::window_numbered;
 use crate::recorded::{pair_of, recording_of};
 use gp_text::Name;
-use gp_window::{Recording, RecordingFault, Window, WindowWalk};
+use gp_window::{Recording, RecordingFault, Window, Windows};
 use std::alloc::{AllocError, Global};
 use std::test::Fail;
 use std::thread::Threads;
@@ -133,18 +133,21 @@ fn are_alike(one: &Window, other: &Window) -> bool {
         && one.exited() == other.exited()
 }
 
-/// Whether a walk gives the third window as `cut` does.
+/// The third of the windows of a recording: the first is taken, and the second is gone past.
+fn third_of(alloc: Global, recording: &Recording) -> Result<Option<Window>, AllocError> {
+    let mut windows = Windows::new(alloc, recording)?;
+    let _ = windows.next(alloc)?;
+    windows.skip(1)?;
+    windows.next(alloc)
+}
+
+/// Whether the third of the windows of a recording is the one that `cut` gives.
 fn agrees_with_cut(alloc: Global, recording: &Recording) -> Result<bool, AllocError> {
-    let first = WindowWalk::new(alloc, recording)?;
-    let Some(second) = first.advance()? else {
+    let Some(third) = third_of(alloc, recording)? else {
         return Ok(false);
     };
-    let Some(third) = second.advance()? else {
-        return Ok(false);
-    };
-    let walked = third.window(alloc)?;
     Ok(match window_numbered(alloc, recording, 3)? {
-        Some(alone) => walked.number() == 3 && are_alike(&walked, &alone),
+        Some(alone) => third.number() == 3 && are_alike(&third, &alone),
         None => false,
     })
 }

@@ -6,12 +6,12 @@ use Rattle.gp_clause.specs.declared.lit.Lit.{Lit}
 use Rattle.gp_clause.specs.declared.problem.Problem.{Problem}
 use Rattle.gp_clause.specs.declared.problem.Query.{Query}
 use Rattle.gp_clause.specs.Clause.{NamesBelow}
-use Rattle.gp_derivation.specs.declared.step.Step.{Step}
-use Rattle.gp_derivation.specs.declared.certificate.Certificate.{Certificate}
-use Rattle.gp_derivation.specs.Certificate.{Checks, clauses_of, empty_query, StepsCheck}
+use Rattle.gp_certificate.specs.declared.step.Step.{Step}
+use Rattle.gp_certificate.specs.declared.certificate.Certificate.{Certificate}
+use Rattle.gp_certificate.specs.Certificate.{Checks, clauses_of, empty_query, StepsCheck}
 use Rattle.gp_derivation.specs.Exchange.{IsGoodBy}
 use Rattle.gp_derivation.specs.Fit.{literals_in}
-use Rattle.gp_derivation.specs.Shared.{ChecksOver, PassesOver, SharesNothing}
+use Rattle.gp_certificate.specs.Shared.{ChecksOver, PassesOver, SharesNothing}
 
 -- the step of a clause that may use all base clauses
 abbrev pub plain : List Lit → Step

@@ -5,7 +5,8 @@ use Rattle.std.proofs.lemmas.List.{length-drop, drop_more, take_more}
 use Rattle.std.proofs.lemmas.List.Elements.{All-tail}
 use Rattle.gp_clause.specs.declared.lit.Lit.{Lit}
 use Rattle.gp_derivation.specs.declared.exchange.SharedClause.{SharedClause}
-use Rattle.gp_search.specs.Mail.{Gives, MailForm, one_more}
+use Rattle.gp_search.specs.Mail.{Gives, MailForm}
+use Rattle.gp_base.specs.Counts.{one_more}
 
 -- what is left of a list after some of it was given, where one value more is given
 record Next {X : Type 0} (all rest : List X) (x : X) (before after : ℕ) : Type 0 where

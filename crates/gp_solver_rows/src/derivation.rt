@@ -1,17 +1,15 @@
 ghost use Rattle.std.specs.Prelude.{◌≡◌, [], ◌∷◌, All, IsTrue};
 ghost use Rattle.gp_clause.specs.Clause.{NamesBelow};
 ghost use Rattle.gp_clause.specs.Problem.{IsValidProblem, IsValidQuery};
-ghost use Rattle.gp_derivation.specs.Certificate.{clauses_of};
+ghost use Rattle.gp_certificate.specs.Certificate.{clauses_of};
 
 use crate::fixture::{
     Rows, are_lits, are_named, is_asked, is_valid, lits_of, problem_of, query_of,
 };
 use gp_base::Row;
+use gp_certificate::{Certificate, Step, check_certificate, check_shared};
 use gp_clause::{Clause, Edge, Kind, Problem, Query};
-use gp_derivation::{
-    Certificate, LogEntry, Origin, Step, can_be_numbered, check_certificate, check_shared, cone,
-    tight,
-};
+use gp_derivation::{LogEntry, Origin, can_be_numbered, cone, tight};
 use std::alloc::Global;
 use std::process::Abort;
 use std::sync::Arc;
@@ -128,7 +126,7 @@ fn have_cones(rt: &impl Abort, alloc: Global, rows: &[Cone]) -> Result<(), Fail>
 #[test]
 fn cones_of_small_logs(rt: HostRuntime) -> Result<(), Fail> {
     const FIRST: Entry = ((&[10], &[0, 1]), None);
-    const ROWS: [Cone; 5] = [
+    const ROWS: [Cone; 7] = [
         (
             "nothing",
             [FIRST, FIRST, FIRST],
@@ -157,6 +155,13 @@ fn cones_of_small_logs(rt: HostRuntime) -> Result<(), Fail> {
                 (&[20], &[4, 5]),
             ],
         ),
+        (
+            "an entry without hints",
+            [FIRST, ((&[11], &[]), None), ((&[12], &[4, 1]), None)],
+            &[5, 2],
+            &[(&[11], &[0]), (&[12], &[3, 1]), (&[20], &[4, 2])],
+        ),
+        ("no hints", [FIRST, FIRST, FIRST], &[], &[(&[20], &[0])]),
         (
             "an entry that is not needed",
             [FIRST, ((&[11], &[1, 2]), None), ((&[12], &[3, 2]), None)],

@@ -1,9 +1,8 @@
 ghost use Rattle.std.specs.Prelude.{◌≡◌, IsTrue, All, length};
 ghost use Rattle.gp_clause.specs.Clause.{NamesBelow, NamesOnce};
-ghost use Rattle.gp_clause.specs.Edge.{Keeps};
+ghost use Rattle.gp_clause.specs.Edge.{Keeps, IsSolvable};
 ghost use Rattle.gp_clause.specs.Problem.{IsValidKind, IsValidEdge, IsValidProblem, IsValidQuery};
 ghost use Rattle.gp_difference.specs.Places.{place_at};
-ghost use Rattle.gp_search.specs.Verdict.{IsSolvable};
 
 use gp_base::Row;
 use gp_clause::{Clause, Edge, Kind, Lit, Problem, Query};

@@ -1,7 +1,7 @@
 ghost use Rattle.std.specs.Prelude.{◌≡◌, ◌++◌, ◌∷◌, [], All, MatchOption, OnErr, OnOk, Some};
 ghost use Rattle.std.specs.Option.{option_to_list};
 ghost use Rattle.gp_derivation.specs.Exchange.{IsGood};
-ghost use Rattle.gp_search.specs.Mail.{one_more};
+ghost use Rattle.gp_base.specs.Counts.{one_more};
 
 use gp_clause::{Clause, Problem};
 use gp_derivation::SharedClause;

@@ -2,7 +2,7 @@ ghost use Rattle.std.specs.Arc.{arc_value};
 ghost use Rattle.std.specs.Prelude.{◌≡◌, ◌∷◌, [], All, IfOk, IsTrue};
 ghost use Rattle.gp_clause.specs.Problem.{IsValidProblem};
 ghost use Rattle.gp_derivation.specs.Exchange.{IsGood, IsGoodBy};
-ghost use Rattle.gp_search.specs.Verdict.{IsSolvable};
+ghost use Rattle.gp_clause.specs.Edge.{IsSolvable};
 
 use crate::derivation::TWO;
 use crate::fixture::{
@@ -10,14 +10,13 @@ use crate::fixture::{
     query_of,
 };
 use crate::memory_mail::{Letters, MemoryMail, Offer};
-use crate::search::{Due, is_due};
+use crate::search::{BACK, Due, ORDERED, is_due};
 use crate::small_cones::is_fit;
 use gp_base::Row;
+use gp_certificate::{Certificate, Step, check_certificate, shares_nothing};
 use gp_clause::{Clause, Kind, Problem, Query};
-use gp_derivation::{
-    Certificate, LogEntry, Origin, SharedClause, Step, check_certificate, shares_nothing,
-};
-use gp_search::Search;
+use gp_derivation::{LogEntry, Origin, SharedClause};
+use gp_search::{Search, Verdict};
 use std::alloc::Global;
 use std::collections::VecDeque;
 use std::marker::Brand;
@@ -134,6 +133,15 @@ struct Mailed<'a> {
     due: Due<'a>,
     logged: usize,
     offered: &'a [u32],
+    again: Option<Again<'a>>,
+}
+
+// What the same search is asked next, when no clause waits, and how long its log then is.
+#[derive(Drop, Clone, Copy)]
+struct Again<'a> {
+    assumed: &'a [i32],
+    due: Due<'a>,
+    logged: usize,
 }
 
 // Whether an entry was taken, with this clause.
@@ -198,6 +206,45 @@ fn are_fit(
     Ok(all)
 }
 
+// Whether a search answers what it is asked next as it is due.
+fn answers_again<L: Letters>(
+    rt: &impl Abort,
+    alloc: Global,
+    problem: &Problem,
+    search: &mut Search,
+    mail: &mut MemoryMail<L>,
+    again: &Again,
+) -> Result<bool, Fail>
+    requires valid { IsValidProblem problem.now }
+    requires same { search.old.problem ≡ problem.now }
+    requires mail { mail.old.problem.now ≡ problem.now }
+{
+    let query = query_of(alloc, &[], again.assumed)?;
+    assert!(rt; is_asked(problem, &query));
+    assert!(rt; problem.clauses.len() < 1000 && search.log().len() < 1000);
+    let verdict = search.ask(&query, 27, mail)?;
+    Ok(is_due(&verdict, &again.due, &[]) && search.log().len() == again.logged)
+}
+
+// The same, where it is asked again.
+fn ends_again<L: Letters>(
+    rt: &impl Abort,
+    alloc: Global,
+    problem: &Problem,
+    search: &mut Search,
+    mail: &mut MemoryMail<L>,
+    again: &Option<Again>,
+) -> Result<bool, Fail>
+    requires valid { IsValidProblem problem.now }
+    requires same { search.old.problem ≡ problem.now }
+    requires mail { mail.old.problem.now ≡ problem.now }
+{
+    match again {
+        Some(again) => answers_again(rt, alloc, problem, search, mail, again),
+        None => Ok(true),
+    }
+}
+
 // Whether a search that is asked by a mail takes, learns and offers what is due.
 fn asks<L: Letters>(
     rt: &impl Abort,
@@ -217,9 +264,23 @@ fn asks<L: Letters>(
     let mut search = Search::new(alloc, problem)?;
     let mut mail: MemoryMail<L> = MemoryMail::new(alloc, problem, waiting);
     let verdict = search.ask(query, 27, &mut mail)?;
+    let told = is_told(rt, alloc, problem, &search, &verdict, &mail, mailed)?;
+    Ok(told && ends_again(rt, alloc, problem, &mut search, &mut mail, &mailed.again)?)
+}
+
+// Whether a search that was asked by a mail has taken, learned and offered what is due.
+fn is_told<L: Letters>(
+    rt: &impl Abort,
+    alloc: Global,
+    problem: &Problem,
+    search: &Search,
+    verdict: &Verdict,
+    mail: &MemoryMail<L>,
+    mailed: &Mailed,
+) -> Result<bool, Fail> {
     let log = search.log();
     Ok(
-        is_due(&verdict, &mailed.due, &[])
+        is_due(verdict, &mailed.due, &[])
             && log.len() == mailed.logged
             && search.learned_from() as usize == mailed.waiting.len()
             && takes_all(log, mailed.waiting)
@@ -267,33 +328,9 @@ const NONE: Rows = Rows {
     clauses: &EIGHT,
 };
 
-// The first variable brings two orders of three points where it is false, and cannot be true.
-const ORDERED: Rows = Rows {
-    points: 3,
-    kinds: &[
-        Kind::Free,
-        Kind::Free,
-        Kind::Free,
-        Kind::Order { a: 0, b: 1 },
-        Kind::Order { a: 1, b: 2 },
-    ],
-    edges: &[],
-    clauses: &[
-        &[1, 4],
-        &[1, 5],
-        &[-1, 2, 3],
-        &[-1, 2, -3],
-        &[-1, -2, 3],
-        &[-1, -2, -3],
-    ],
-};
-
-// The order that closes a cycle with those two.
-const BACK: [Kind; 1] = [Kind::Order { a: 2, b: 0 }];
-
 #[test]
 fn takes_and_offers_by_a_mail(rt: HostRuntime) -> Result<(), Fail> {
-    const ROWS: [(&str, Rows, Mailed); 4] = [
+    const ROWS: [(&str, Rows, Mailed); 5] = [
         (
             "one clause waits",
             TWO,
@@ -304,6 +341,7 @@ fn takes_and_offers_by_a_mail(rt: HostRuntime) -> Result<(), Fail> {
                 due: Due::Model(&[1]),
                 logged: 1,
                 offered: &[],
+                again: None,
             },
         ),
         (
@@ -316,6 +354,7 @@ fn takes_and_offers_by_a_mail(rt: HostRuntime) -> Result<(), Fail> {
                 due: Due::Refuted(&[]),
                 logged: 3,
                 offered: &[0, 1, 2],
+                again: None,
             },
         ),
         (
@@ -328,6 +367,25 @@ fn takes_and_offers_by_a_mail(rt: HostRuntime) -> Result<(), Fail> {
                 due: Due::Refuted(&[]),
                 logged: 4,
                 offered: &[2, 3],
+                again: None,
+            },
+        ),
+        // What was taken serves the next query too, so that nothing is learned for it.
+        (
+            "four wait",
+            NONE,
+            Mailed {
+                waiting: &[&[1, 2], &[1, -2], &[-1, 2], &[-1, -2]],
+                locals: &[],
+                assumed: &[1],
+                due: Due::Refuted(&[-1]),
+                logged: 4,
+                offered: &[],
+                again: Some(Again {
+                    assumed: &[-1],
+                    due: Due::Refuted(&[1]),
+                    logged: 4,
+                }),
             },
         ),
         (
@@ -340,6 +398,7 @@ fn takes_and_offers_by_a_mail(rt: HostRuntime) -> Result<(), Fail> {
                 due: Due::Refuted(&[-6]),
                 logged: 2,
                 offered: &[1],
+                again: None,
             },
         ),
     ];

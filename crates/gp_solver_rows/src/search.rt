@@ -1,6 +1,6 @@
 ghost use Rattle.std.specs.Prelude.{◌≡◌};
 ghost use Rattle.gp_clause.specs.Problem.{IsValidProblem};
-ghost use Rattle.gp_search.specs.Verdict.{IsSolvable};
+ghost use Rattle.gp_clause.specs.Edge.{IsSolvable};
 
 use crate::fixture::{
     EIGHT, FREE, Rows, are_kept, are_lits, is_asked, is_solvable, is_valid, lit, problem_of,
@@ -317,5 +317,45 @@ fn asks_the_places(rt: HostRuntime) -> Result<(), Fail> {
         ),
     ];
     assert!(rt; all_placed(&rt, rt.alloc(), &ROWS)?);
+    Ok(())
+}
+
+// The first variable brings two orders of three points where it is false, and cannot be true.
+pub const ORDERED: Rows = Rows {
+    points: 3,
+    kinds: &[
+        Kind::Free,
+        Kind::Free,
+        Kind::Free,
+        Kind::Order { a: 0, b: 1 },
+        Kind::Order { a: 1, b: 2 },
+    ],
+    edges: &[],
+    clauses: &[
+        &[1, 4],
+        &[1, 5],
+        &[-1, 2, 3],
+        &[-1, 2, -3],
+        &[-1, -2, 3],
+        &[-1, -2, -3],
+    ],
+};
+
+// The order that closes a cycle with those two.
+pub const BACK: [Kind; 1] = [Kind::Order { a: 2, b: 0 }];
+
+// The order that they bring.
+const ON: [Kind; 1] = [Kind::Order { a: 0, b: 2 }];
+
+// What was learned of a query's local serves that query alone: a later query may call another order by its number.
+#[test]
+fn forgets_what_rests_on_a_local(rt: HostRuntime) -> Result<(), Fail> {
+    const ROWS: [Asked; 4] = [
+        (&BACK, &[6], 27, Due::Refuted(&[-6]), Some(2)),
+        (&ON, &[6], 27, Due::Model(&[-1, 4, 5, 6]), None),
+        (&BACK, &[6], 27, Due::Refuted(&[-6]), None),
+        (&[], &[], 27, Due::Model(&[-1, 4, 5]), None),
+    ];
+    assert!(rt; answers(&rt, rt.alloc(), &ORDERED, &[0, 0, 0], &[], &ROWS)?);
     Ok(())
 }

@@ -165,6 +165,87 @@ fn instances_are_answered(rt: HostRuntime) -> Result<(), Fail> {
     Ok(())
 }
 
+#[test]
+fn joins_and_starts_are_answered(rt: HostRuntime) -> Result<(), Fail> {
+    const ROWS: [Run; 3] = [
+        (
+            [ONE_ROOT, JOINS, "op e\nexit\n"],
+            DONE,
+            1,
+            "gpredict 1\nbudget 200\nwindow 1\nproperty done 1\ninstance 0 1.2\nfound 4\n1.0 2.0 1.1 1.2\nsummary 1 0 0\n",
+        ),
+        (
+            [
+                "gptrace 1\nthreads 2\nepochs 2\nroots 1\n",
+                "start 2\nmark\njoin 2\nop done\n",
+                "op e\nexit\nmark\n",
+            ],
+            DONE,
+            1,
+            "gpredict 1\nbudget 200\nwindow 1\nproperty done 0\nwindow 2\nproperty done 1\ninstance 0 1.1\nfound 2\n1.0 1.1\nsummary 1 0 0\n",
+        ),
+        (
+            [ONE_ROOT, "op a\n", "op u\n"],
+            BACK,
+            0,
+            "gpredict 1\nbudget 200\nwindow 1\nproperty ord 1\ninstance 0 2.0 1.0\nimpossible\nsummary 0 1 0\n",
+        ),
+    ];
+    assert!(rt; analyses_hold(&rt, &ROWS)?);
+    Ok(())
+}
+
+/// The operations a and b of one thread, c and d of another, as a group.
+const FOUR: &str =
+    "property four\nevent a op a\nevent b op b\nevent c op c\nevent d op d\npattern a@t || b@t || c@u || d@u\n";
+
+/// Whether the four events of a group are answered as found, side by side in one of the orders that their threads
+/// leave free.
+fn four_are_found<R: AllocGlobal + Threads + Wait + Sync>(rt: &R) -> Result<bool, AllocError> {
+    const ORDERS: [&str; 6] = [
+        "1.0 1.1 2.0 2.1",
+        "1.0 2.0 1.1 2.1",
+        "1.0 2.0 2.1 1.1",
+        "2.0 1.0 1.1 2.1",
+        "2.0 1.0 2.1 1.1",
+        "2.0 2.1 1.0 1.1",
+    ];
+    let mut found = false;
+    for order in &ORDERS {
+        let text = format!(in rt.alloc();
+            "gpredict 1\nbudget 200\nwindow 1\nproperty four 1\ninstance 0 1.0 1.1 2.0 2.1\nfound 4\n{order}\nsummary 1 0 0\n"
+        )?;
+        found |= analysis_ends(
+            rt,
+            [TWO_ROOTS, "op a\nop b\n", "op c\nop d\n"],
+            FOUR,
+            1,
+            text.as_str(),
+        )?;
+    }
+    Ok(found)
+}
+
+#[test]
+fn groups_are_answered(rt: HostRuntime) -> Result<(), Fail> {
+    const ROWS: [Run; 2] = [
+        (
+            [TWO_ROOTS, "op a\nop x\nop b\n", "op c\n"],
+            "property three\nevent a op a\nevent b op b\nevent c op c\npattern a@t || b@t || c@u\n",
+            0,
+            "gpredict 1\nbudget 200\nwindow 1\nproperty three 1\ninstance 0 1.0 1.2 2.0\nimpossible\nsummary 0 1 0\n",
+        ),
+        (
+            [TWO_ROOTS, "op a\nop x\nop b\n", "op c\nop d\n"],
+            FOUR,
+            0,
+            "gpredict 1\nbudget 200\nwindow 1\nproperty four 1\ninstance 0 1.0 1.2 2.0 2.1\nimpossible\nsummary 0 1 0\n",
+        ),
+    ];
+    assert!(rt; four_are_found(&rt)? && analyses_hold(&rt, &ROWS)?);
+    Ok(())
+}
+
 /// Whether so many workers answer the instances of a property in a recording of two threads by this text.
 fn workers_answer<R: AllocGlobal + Threads + Wait + Sync>(
     rt: &R,

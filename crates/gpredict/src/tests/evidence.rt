@@ -1,17 +1,15 @@
 // The evidence in kept reports: certificates that check again, and the logs of spent budgets.
-ghost use Rattle.std.specs.Prelude.{◌≡◌, ◌≤◌, true, IfOk, length};
-ghost use Rattle.gp_constraint.specs.Base.{clauses_of};
-ghost use Rattle.gp_constraint.specs.Encoded.{encoded_of};
-ghost use Rattle.gp_constraint.specs.Points.{points_of};
+ghost use Rattle.std.specs.Prelude.{◌≡◌, ◌≤◌, true, length};
 ghost use Rattle.gp_instance.specs.Instance.{is_instance};
 
 use super::analysing::{BACK, FIRST, SECOND};
 use super::listing::{ADJ, DONE, JOINS, LATE_AUTH, MID, ONCE, READY, TWO_EPOCHS, UPDATE, WAITS};
 use super::sharing::{HOLDS_LATER, ONE_HOLDS, OVER_MARK, READER, SHARED, SHARED_EPOCHS};
 use super::{ANALYSE, Files, ONE_ROOT, Script, TWO_ROOTS, add, recording, run_on, words_with};
+use gp_certificate::{Certificate, Step, check_certificate};
 use gp_clause::Lit;
-use gp_constraint::{BaseFault, Encoded, base, problems_are_valid, query};
-use gp_derivation::{Certificate, Step, Turn, WorkerRecord, check_certificate};
+use gp_constraint::{Encoded, base, problems_are_valid, query};
+use gp_derivation::{Turn, WorkerRecord};
 use gp_instance::{Instance, instances, lists_exactly};
 use gp_outside::MemoryFolder;
 use gp_property::{Property, read_properties};
@@ -58,34 +56,20 @@ fn ends_in_negations(assumed: &[Lit], steps: &[Step]) -> bool {
     }
 }
 
-/// The constraints of a window that is not too large.
-fn encode(alloc: Global, window: &Window) -> Result<Encoded, BaseFault>
-    ensures encoded { IfOk result (λ encoded. encoded ≡ encoded_of window.now) }
-    ensures points { IfOk result (λ _. length (points_of window.now) ≤ 2048) }
-    ensures clauses { IfOk result (λ _. length (clauses_of window.now) ≤ 500000) }
-{
-    let encoded = base(alloc, window)?;
-    Ok(encoded)
-}
-
 /// Whether a certificate refutes the query of an instance.
 fn refutes(
     alloc: Global,
-    window: &Window,
     encoded: &Encoded,
     property: &Property,
     instance: &Instance,
     certificate: &Certificate,
 ) -> Result<bool, AllocError>
-    requires encoded { encoded.now ≡ encoded_of window.now }
-    requires points { length (points_of window.now) ≤ 2048 }
-    requires clauses { length (clauses_of window.now) ≤ 500000 }
     requires few { length instance.now.events ≤ 6 }
-    requires instance { is_instance window.now property.now instance.now.events ≡ true }
+    requires instance { is_instance encoded.now property.now instance.now.events ≡ true }
 {
     problems_are_valid();
     let problem = encoded.problem();
-    let query = query(alloc, encoded, window, property, instance)?;
+    let query = query(alloc, encoded, property, instance)?;
     let passes = check_certificate(alloc, problem, &[], &query, certificate)?;
     Ok(passes && ends_in_negations(query.assumed.as_slice(), certificate.steps.as_slice()))
 }
@@ -93,12 +77,13 @@ fn refutes(
 /// Whether a certificate refutes the query of the one instance of a property.
 fn refutes_the_one(
     alloc: Global,
-    window: &Window,
+    window: Window,
     property: &Property,
     certificate: &Certificate,
 ) -> Result<bool, Fail> {
     lists_exactly();
-    let encoded = encode(alloc, window)?;
+    let encoded = base(alloc, window)?;
+    let window = encoded.window();
     let listed = instances(alloc, window, property, 0)?;
     let [instance] = listed.as_slice() else {
         return Ok(false);
@@ -106,7 +91,7 @@ fn refutes_the_one(
     if instance.events.len() > 6 {
         return Ok(false);
     }
-    Ok(refutes(alloc, window, &encoded, property, instance, certificate)?)
+    Ok(refutes(alloc, &encoded, property, instance, certificate)?)
 }
 
 fn only_window<R: AllocGlobal + Threads + Sync>(
@@ -132,7 +117,7 @@ fn refutes_recorded<R: AllocGlobal + Threads + Sync>(
     }
     let properties = read_properties(rt.alloc(), bytes)?;
     match properties.as_slice() {
-        [property] => refutes_the_one(rt.alloc(), &window, property, certificate),
+        [property] => refutes_the_one(rt.alloc(), window, property, certificate),
         _ => Ok(false),
     }
 }

@@ -1,13 +1,16 @@
-use Rattle.std.proofs.Common.{◌≡◌, ◌∙◌, sym, subst, ap, List, length, get_or, arith}
+use Rattle.std.proofs.Common.{◌≡◌, subst, true, List, length, get_or, arith}
 use Rattle.gp_instance.specs.declared.instance.Instance.{Instance}
+use Rattle.gp_instance.specs.Instance.{is_instance}
+use Rattle.gp_window.specs.WindowForm.{WindowForm}
 use Rattle.gp_bridge_rows.proofs.Told.{only}
 use Rattle.gp_bridge_rows.proofs.asking.ends_with_one.Goals as goal
 
-pub ends-requires-clause-instance : goal.ends-requires-clause-instance
-ends-requires-clause-instance c =
+pub ends-requires : goal.ends-requires
+ends-requires c =
     let listed : List Instance = c.in_ok-listed.listed in
     let instance : Instance = c.instance-item.result in
     let same : c.as_slice.result.now ≡ listed = c.as_slice.ensures in
-    only c.lists_exactly.ensures c.args.window.now c.args.property.now 0 listed instance c.in_ok-listed.ensures
+    subst (λ (w : WindowForm). is_instance w c.args.property.now instance.events ≡ true) c.window-window.ensures.window
+    (only c.lists_exactly.ensures c.window-window.result.now c.args.property.now 0 listed instance c.in_ok-listed.ensures
     (subst (λ (all : List Instance). length all ≡ 1) same (omega (arith, c.in-len1.len_at_least, c.in-len1.len_below)))
-    (subst (λ (all : List Instance). instance ≡ get_or all 0 instance) same c.instance-item.is)
+    (subst (λ (all : List Instance). instance ≡ get_or all 0 instance) same c.instance-item.is))

@@ -1,4 +1,4 @@
-use Rattle.std.proofs.Common.{◌≡◌, ◌∙◌, subst, ℕ, Bool, List, arith}
+use Rattle.std.proofs.Common.{◌∙◌, subst, ℕ, Bool, List}
 use Rattle.std.proofs.lemmas.List.{take_all}
 use Rattle.std.proofs.lemmas.List.Elements.{All-more}
 use Rattle.gp_clause.specs.declared.lit.Lit.{Lit}

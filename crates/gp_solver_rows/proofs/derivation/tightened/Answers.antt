@@ -3,8 +3,8 @@ use Rattle.std.proofs.lemmas.List.{append-nil}
 use Rattle.gp_clause.specs.declared.lit.Lit.{Lit}
 use Rattle.gp_clause.specs.Clause.{NamesBelow}
 use Rattle.gp_base.specs.ListLaws.{got_all}
-use Rattle.gp_derivation.specs.NamedLaws.{named_all}
-use Rattle.gp_derivation.specs.Step.{named}
+use Rattle.gp_certificate.specs.NamedLaws.{named_all}
+use Rattle.gp_certificate.specs.Step.{named}
 use Rattle.gp_solver_rows.proofs.derivation.tightened.Goals as goal
 
 -- what a problem's clauses name is below a greater count too, and so is what those of them that hints name

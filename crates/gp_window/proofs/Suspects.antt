@@ -14,7 +14,7 @@ use Rattle.gp_trace.specs.declared.lock_use.LockMode.{LockMode}
 use Rattle.gp_trace.specs.declared.lock_use.LockMode.TheVariants.{Exclusive, Shared}
 use Rattle.gp_window.specs.Contested.{first_contested, is_contested, is_held_beside}
 use Rattle.gp_window.specs.Holders.{Holding, Holdings, holder_cmp, is_exclusive}
-use Rattle.gp_window.specs.Users.{IsCounted, IsListed, acquires_of, may_contest, no_users, one_fewer, one_more, users_at}
+use Rattle.gp_window.specs.Users.{IsCounted, IsListed, acquires_of, may_contest, no_users, without_user, with_user, users_at}
 use Rattle.gp_window.specs.declared.users.Users.{Users}
 use Rattle.gp_window.proofs.Counts.{after_drop, after_put, alone, none_both, of_place}
 
@@ -60,14 +60,14 @@ counted_on held users lock now it others other =
 
 -- after a thread takes a lock
 pub taken : (held : Holdings) (users : List (List ℕ × Users)) (lock : List ℕ) (thread : ℕ) (mode : LockMode) → IsCounted held users
-    → IsCounted (with_entry holder_cmp held (lock, thread) mode) (with_entry (slice_cmp nat_cmp) users lock (one_more mode (users_at users lock)))
+    → IsCounted (with_entry holder_cmp held (lock, thread) mode) (with_entry (slice_cmp nat_cmp) users lock (with_user mode (users_at users lock)))
 taken held users lock thread mode all =
     let own : cond {A = ℕ} (acquired lock ((lock, thread), mode)) 1 0 ≡ acquires_of mode =
     ap (λ b. cond {A = ℕ} (b && is_exclusive mode) 1 0) (is_on lock) ∙ one_acquire mode in
     let one : cond {A = ℕ} (on lock ((lock, thread), mode)) 1 0 ≡ 1 = ap (λ b. cond b 1 0) (is_on lock) in
     let threads = after_put (on lock) held (lock, thread) mode in
     let acquires = after_put (acquired lock) held (lock, thread) mode in
-    counted_on (with_entry holder_cmp held (lock, thread) mode) users lock (one_more mode (users_at users lock))
+    counted_on (with_entry holder_cmp held (lock, thread) mode) users lock (with_user mode (users_at users lock))
     (omega (arith, (all lock).0), omega (arith, (all lock).1))
     (λ other apart.
     let none : cond {A = ℕ} (on other ((lock, thread), mode)) 1 0 ≡ 0 = ap (λ b. cond b 1 0) (not_on other lock apart) in
@@ -79,7 +79,7 @@ taken held users lock thread mode all =
 fewer : (held less : Holdings) (lock : List ℕ) (thread : ℕ) (old : Option LockMode) (now : Users)
     → count_by (on lock) less + of_place (on lock) (lock, thread) old ≤ count_by (on lock) held
     → count_by (acquired lock) less + of_place (acquired lock) (lock, thread) old ≤ count_by (acquired lock) held
-    → AreCounted held now lock → AreCounted less (one_fewer old now) lock
+    → AreCounted held now lock → AreCounted less (without_user old now) lock
 fewer held less lock thread None now threads acquires was = (omega (arith, was.0), omega (arith, was.1))
 fewer held less lock thread (Some mode) now threads acquires was =
     let own : cond {A = ℕ} (acquired lock ((lock, thread), mode)) 1 0 ≡ acquires_of mode =
@@ -90,9 +90,9 @@ fewer held less lock thread (Some mode) now threads acquires was =
 -- after a thread gives a lock back
 pub given_back : (held : Holdings) (users : List (List ℕ × Users)) (lock : List ℕ) (thread : ℕ) → IsCounted held users
     → IsCounted (without_entry holder_cmp held (lock, thread))
-    (with_entry (slice_cmp nat_cmp) users lock (one_fewer (value_at holder_cmp held (lock, thread)) (users_at users lock)))
+    (with_entry (slice_cmp nat_cmp) users lock (without_user (value_at holder_cmp held (lock, thread)) (users_at users lock)))
 given_back held users lock thread all =
-    counted_on (without_entry holder_cmp held (lock, thread)) users lock (one_fewer (value_at holder_cmp held (lock, thread)) (users_at users lock))
+    counted_on (without_entry holder_cmp held (lock, thread)) users lock (without_user (value_at holder_cmp held (lock, thread)) (users_at users lock))
     (fewer held (without_entry holder_cmp held (lock, thread)) lock thread (value_at holder_cmp held (lock, thread)) (users_at users lock)
     (after_drop (on lock) held (lock, thread)) (after_drop (acquired lock) held (lock, thread)) (all lock))
     (λ other apart.
@@ -171,22 +171,22 @@ no_suspects held users suspects counted listed none =
 
 -- after a lock is taken, its users and the suspects
 pub after_take : (held next : Holdings) (users more : List (List ℕ × Users)) (suspects rest : List (List ℕ × Unit {0})) (lock : List ℕ) (thread : ℕ) (mode : LockMode) (now : Users)
-    → IsCounted held users → IsListed users suspects → next ≡ with_entry holder_cmp held (lock, thread) mode → now ≡ one_more mode (users_at users lock)
+    → IsCounted held users → IsListed users suspects → next ≡ with_entry holder_cmp held (lock, thread) mode → now ≡ with_user mode (users_at users lock)
     → more ≡ with_entry (slice_cmp nat_cmp) users lock now
     → rest ≡ (if may_contest now then with_entry (slice_cmp nat_cmp) suspects lock tt else without_entry (slice_cmp nat_cmp) suspects lock)
     → IsCounted next more × IsListed more rest
 after_take held next users more suspects rest lock thread mode now counted listed next_is now_is more_is rest_is =
-    rw (next_is, more_is, rest_is, now_is) (taken held users lock thread mode counted, listed_on users suspects lock (one_more mode (users_at users lock)) listed)
+    rw (next_is, more_is, rest_is, now_is) (taken held users lock thread mode counted, listed_on users suspects lock (with_user mode (users_at users lock)) listed)
 
 -- after a lock is given back, its users and the suspects
 pub after_give_back : (held next : Holdings) (users more : List (List ℕ × Users)) (suspects rest : List (List ℕ × Unit {0})) (lock : List ℕ) (thread : ℕ) (old : Option LockMode) (now : Users)
     → IsCounted held users → IsListed users suspects → old ≡ value_at holder_cmp held (lock, thread) → next ≡ without_entry holder_cmp held (lock, thread)
-    → now ≡ one_fewer old (users_at users lock) → more ≡ with_entry (slice_cmp nat_cmp) users lock now
+    → now ≡ without_user old (users_at users lock) → more ≡ with_entry (slice_cmp nat_cmp) users lock now
     → rest ≡ (if may_contest now then with_entry (slice_cmp nat_cmp) suspects lock tt else without_entry (slice_cmp nat_cmp) suspects lock)
     → IsCounted next more × IsListed more rest
 after_give_back held next users more suspects rest lock thread old now counted listed old_is next_is now_is more_is rest_is =
     rw (next_is, more_is, rest_is, now_is, old_is)
-    (given_back held users lock thread counted, listed_on users suspects lock (one_fewer (value_at holder_cmp held (lock, thread)) (users_at users lock)) listed)
+    (given_back held users lock thread counted, listed_on users suspects lock (without_user (value_at holder_cmp held (lock, thread)) (users_at users lock)) listed)
 
 -- a lock that is not found among the suspects is not contested
 pub unsuspected : (held now : Holdings) (users : List (List ℕ × Users)) (suspects : List (List ℕ × Unit {0})) (lock : List ℕ) → held ≡ now

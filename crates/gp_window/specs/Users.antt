@@ -15,14 +15,14 @@ abbrev pub acquires_of : LockMode → ℕ
 acquires_of Exclusive = 1
 acquires_of Shared = 0
 
--- the users with one more
-abbrev pub one_more : LockMode → Users → Users
-one_more mode users = record { threads = users.threads + 1; acquires = users.acquires + acquires_of mode }
+-- the users with one more thread, which holds the lock in this way
+abbrev pub with_user : LockMode → Users → Users
+with_user mode users = record { threads = users.threads + 1; acquires = users.acquires + acquires_of mode }
 
 -- the users without one that held the lock in this way
-abbrev pub one_fewer : Option LockMode → Users → Users
-one_fewer None users = users
-one_fewer (Some mode) users = record { threads = users.threads - 1; acquires = users.acquires - acquires_of mode }
+abbrev pub without_user : Option LockMode → Users → Users
+without_user None users = users
+without_user (Some mode) users = record { threads = users.threads - 1; acquires = users.acquires - acquires_of mode }
 
 -- at least two threads, one of them by an acquire
 abbrev pub may_contest : Users → Bool

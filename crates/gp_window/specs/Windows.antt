@@ -22,7 +22,7 @@ abbrev pub CanGoTo : ℕ → Option WalkForm → Type 0
 CanGoTo last None = Unit {0}
 CanGoTo last (Some walk) = (walk.number ≤ last) × (last ≤ walk.recording.manifest.epochs)
 
--- of the windows that are still to come the first is taken, if there is one
+-- of the windows that are still to come the first is taken, if there is one; else none is left after
 abbrev pub TakesFirst : List WindowForm → Option WindowForm → List WindowForm → Type 0
-TakesFirst left None after = left ≡ []
+TakesFirst left None after = (left ≡ []) × (after ≡ [])
 TakesFirst left (Some window) after = left ≡ window ∷ after

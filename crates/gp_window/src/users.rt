@@ -2,7 +2,7 @@ ghost use Rattle.std.specs.Prelude.{◌≡◌, IfOk, OnOk, if◌then◌else◌};
 ghost use Rattle.std.specs.Cmp.Lexicographic.{slice_cmp};
 ghost use Rattle.std.specs.Ordering.{nat_cmp};
 ghost use Rattle.gp_base.specs.Table.{with_entry, without_entry};
-ghost use Rattle.gp_window.specs.Users.{acquires_of, may_contest, one_fewer, one_more, users_at};
+ghost use Rattle.gp_window.specs.Users.{acquires_of, may_contest, without_user, with_user, users_at};
 
 use gp_base::Table;
 use gp_text::Name;
@@ -19,7 +19,7 @@ pub struct Users {
 impl Users {
     /// With one more thread. More than can be counted want more memory than there is.
     pub fn with(self, mode: LockMode) -> Result<Users, AllocError>
-        ensures { IfOk result (λ users. users ≡ one_more mode self) }
+        ensures { IfOk result (λ users. users ≡ with_user mode self) }
     {
         let Some(threads) = self.threads.checked_add(1) else {
             return Err(AllocError);
@@ -32,7 +32,7 @@ impl Users {
 
     /// Without a thread that held the lock in this way; as they were where none did.
     pub fn without(self, held: Option<LockMode>) -> Users
-        ensures { result ≡ one_fewer held self }
+        ensures { result ≡ without_user held self }
     {
         match held {
             Some(mode) => Users {

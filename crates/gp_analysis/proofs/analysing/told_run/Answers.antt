@@ -19,4 +19,4 @@ loop-windows-preserved g c =
 pub returns : goal.returns
 returns g c =
     all_told c.args.task.now.properties.now c.args.task.now.workers c.args.task.now.budget (run_windows c.args.recording.now c.args.run) c.loop-windows.windows c.loop-windows.told.items
-    (subst (λ window. TakesFirst c.loop-windows.windows window c.next.new.self) c.in_default.is c.in_ok-window.ensures) c.loop-windows.invariant
+    (subst (λ window. TakesFirst c.loop-windows.windows window c.next.new.self) c.in_default.is c.in_ok-window.ensures).0 c.loop-windows.invariant

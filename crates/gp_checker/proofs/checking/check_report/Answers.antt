@@ -29,5 +29,5 @@ loop-left-preserved c =
 pub returns : goal.returns
 returns c =
     all_checked c.args.recording.now c.args.properties.now c.args.report.now c.loop-left.left c.epochs.result c.at_end.result (length c.windows.result.now) c.loop-left.invariant
-    (subst (λ window. TakesFirst c.loop-left.left window c.next.new.self) c.in_default.is c.in_ok-window.ensures) (c.epochs.ensures.value ∙ ap (λ m. m.epochs) c.manifest.ensures.value)
+    (subst (λ window. TakesFirst c.loop-left.left window c.next.new.self) c.in_default.is c.in_ok-window.ensures).0 (c.epochs.ensures.value ∙ ap (λ m. m.epochs) c.manifest.ensures.value)
     (ap (λ (all : List WindowRecord). length all) c.windows.ensures.value) c.at_end.ensures.last c.at_end.ensures.more

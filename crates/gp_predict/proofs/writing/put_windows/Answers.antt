@@ -30,10 +30,10 @@ loop-windows-preserved g c =
 
 pub returns-clause-total : goal.returns-clause-total
 returns-clause-total g c =
-    let none : c.loop-windows.windows ≡ [] = subst (λ window. TakesFirst c.loop-windows.windows window c.next.new.self) c.in_default.is c.in_ok-window.ensures in
+    let none : c.loop-windows.windows ≡ [] = (subst (λ window. TakesFirst c.loop-windows.windows window c.next.new.self) c.in_default.is c.in_ok-window.ensures).0 in
     whole_count c.args.recording.now c.args.properties.now (g.S.Sink.written c.args.sink.now) (g.S.Sink.written c.loop-windows.sink) c.loop-windows.total c.loop-windows.windows none c.loop-windows.invariant.1
 
 pub returns-clause-ok : goal.returns-clause-ok
 returns-clause-ok g c =
-    let none : c.loop-windows.windows ≡ [] = subst (λ window. TakesFirst c.loop-windows.windows window c.next.new.self) c.in_default.is c.in_ok-window.ensures in
+    let none : c.loop-windows.windows ≡ [] = (subst (λ window. TakesFirst c.loop-windows.windows window c.next.new.self) c.in_default.is c.in_ok-window.ensures).0 in
     whole c.args.recording.now c.args.properties.now (g.S.Sink.written c.args.sink.now) (g.S.Sink.written c.loop-windows.sink) c.loop-windows.total c.loop-windows.windows none c.loop-windows.invariant.1

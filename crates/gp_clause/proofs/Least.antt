@@ -8,10 +8,6 @@ use Rattle.gp_clause.specs.Closure.Derived.{given, forced}
 use Rattle.gp_clause.specs.Lit.{lit_eq, opposite}
 use Rattle.gp_clause.specs.LitLaws.{lit_eq_decides}
 
-not_twice : (b : Bool) → not (not b) ≡ b
-not_twice true = refl
-not_twice false = refl
-
 -- where the negation of a literal is true, the literal is false
 false_from_opposite : (values : ℕ → Option Bool) (lit : Lit) → IsTrueIn values (opposite lit) → IsFalseIn values lit
 false_from_opposite values lit is = is

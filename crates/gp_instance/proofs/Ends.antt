@@ -1,10 +1,10 @@
 -- The table of ends, made in one walk from the last event to the first, has the end of each region.
-use Rattle.std.proofs.Common.{◌≡◌, refl, ap, ◌∙◌, sym, ℕ, zero, suc, ◌+◌, ◌<◌, ◌≤◌, Bool, true, false, cond, List, [], ◌∷◌, ◌++◌, length, drop, map, get_or, reverse, arith}
+use Rattle.std.proofs.Common.{◌≡◌, refl, ap, ◌∙◌, sym, ℕ, zero, suc, ◌+◌, ◌<◌, Bool, true, false, cond, List, [], ◌∷◌, ◌++◌, length, drop, map, get_or, reverse, arith}
 use Rattle.std.specs.Prelude.{Option, Some, None, position, count_by, ◌==◌, ◌&&◌, nat_lt, not, slice_get, unwrap_or}
 use Rattle.std.specs.Option.{option_flatten, option_map}
 use Rattle.std.specs.List.{position_or_len}
 use Rattle.std.proofs.lemmas.Bool.Decides.{nat_tests}
-use Rattle.std.proofs.lemmas.List.{drop_all, reverse-append}
+use Rattle.std.proofs.lemmas.List.{reverse-append}
 use Rattle.std.proofs.lemmas.List.Sums.{sum_by-cons}
 use Rattle.std.proofs.Math.Seq.{drop-cons}
 use Rattle.gp_trace.specs.declared.event.Event.{Event}
@@ -171,12 +171,6 @@ pub ends_found : (segments : List (List Event)) (thread index : ℕ) → option_
 ends_found segments zero zero = refl
 ends_found segments zero (suc index) = refl
 ends_found segments (suc place) index = end_found segments place index
-
--- no events at the end
-pub table_begun : (segment : List Event) (n : ℕ) → length segment ≤ n → ([] ≡ waiting_from n (drop n segment)) × ([] ≡ ends_from n (drop n segment))
-table_begun segment n past =
-    let none : drop n segment ≡ [] = drop_all n segment past in
-    (ap (waiting_from n) (sym none), ap (ends_from n) (sym none))
 
 -- one event further to the front
 pub table_step : (segment : List Event) (index next : ℕ) (event : Event) (waiting more : List ℕ) (ends : List (Option ℕ)) (end : Option ℕ)

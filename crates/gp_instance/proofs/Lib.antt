@@ -16,7 +16,6 @@ pub mod ThreadsFit
 pub mod Holding
 pub mod InRows
 pub mod Matched
-pub mod Order
 pub mod Thin
 pub mod Keys
 pub mod Pairing

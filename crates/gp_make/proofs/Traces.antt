@@ -72,11 +72,6 @@ event_put old event trace new first last at is threads lines all =
     ∙ set_at f g new 1 threads (event.thread - 1) event.thread below place put
     (λ k differs. ap (λ more. file_of (Trace k) more) (sym (append-nil (lines k)) ∙ ap (λ more. lines k ++ more) (sym (lines_of_others event k differs))))
 
--- nothing was put yet
-pub nothing_put : (old : List MadeFileForm) → TracesGrow old old (λ thread. [])
-nothing_put old threads lines all =
-    all ∙ ap (λ f. traces_with threads f) (fun_ext (λ thread. sym (append-nil (lines thread))))
-
 -- the same lines, said in another way
 pub put_same : (old new : List MadeFileForm) (f g : ℕ → List (List (List ℕ))) → TracesGrow old new f → ((thread : ℕ) → f thread ≡ g thread) → TracesGrow old new g
 put_same old new f g put same threads lines all =

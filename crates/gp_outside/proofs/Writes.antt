@@ -1,6 +1,6 @@
 -- A piece that is written by short writes, where the bytes that a writer holds are known.
-use Rattle.std.proofs.Common.{arith, ◌≡◌, ℕ, ◌-◌, ◌∙◌, List, [], ◌++◌, None, Some, length, refl, take, drop, sym, ap, append_assoc, append-nil, take-append-drop, drop_of_length-le}
-use Rattle.std.proofs.KnownBytes.{Appends-nil, Appends-trans}
+use Rattle.std.proofs.Common.{◌≡◌, ℕ, ◌-◌, ◌∙◌, List, [], ◌++◌, None, Some, length, take, drop, sym, ap, append_assoc, append-nil, take-append-drop}
+use Rattle.std.proofs.KnownBytes.{Appends-trans}
 use Rattle.std.proofs.Math.Seq.{take-append_seam}
 use Rattle.std.proofs.lemmas.List.{take_rest}
 use Rattle.std.specs.Io.KnownBytes.{Appends as Grows, Keeps}
@@ -12,9 +12,6 @@ pub record IsWriting (old now : Option (List ℕ)) (piece rest : List ℕ) : Typ
   pub done : List ℕ
   pub split : piece ≡ done ++ rest
   pub grown : Grows old now done
-
-pub write_begun : (old : Option (List ℕ)) (piece : List ℕ) → IsWriting old old piece piece
-write_begun old piece = record { done = []; split = refl; grown = Appends-nil old }
 
 split_again : (piece done rest : List ℕ) (n : ℕ) → piece ≡ done ++ rest
     → piece ≡ (done ++ take n rest) ++ take (length rest - n) (drop n rest)
@@ -59,16 +56,3 @@ write_stopped old now next piece rest n w took =
 pub write_failed : (old now next : Option (List ℕ)) (piece rest : List ℕ)
     → IsWriting old now piece rest → Keeps now next → AppendsFront old next piece
 write_failed old now next piece rest w keeps = write_stopped old now next piece rest 0 w (kept_is_none now next keeps)
-
-all_done : (piece done rest : List ℕ) → length rest ≡ 0 → piece ≡ done ++ rest → piece ≡ done
-all_done piece done rest none split =
-    let empty : rest ≡ [] = drop_of_length-le rest {i = 0} (omega arith) in
-    split ∙ ap (λ l. done ++ l) empty ∙ append-nil done
-
--- nothing is left of the piece, so that all of it is there
-pub write_ended : (old now : Option (List ℕ)) (piece rest : List ℕ)
-    → length rest ≡ 0 → IsWriting old now piece rest → Appends old now piece
-write_ended None now piece rest none w = tt
-write_ended (Some bytes) None piece rest none w = absurd w.grown
-write_ended (Some bytes) (Some more) piece rest none w =
-    ap (λ l. Some l) (w.grown ∙ ap (λ l. bytes ++ l) (sym (all_done piece w.done rest none w.split)))

@@ -1,5 +1,5 @@
 -- What tests on names and bytes tell.
-use Rattle.std.proofs.Common.{◌≡◌, refl, ℕ, ◌==◌, Bool, true, false, List, [], ap, arith, inl, inr}
+use Rattle.std.proofs.Common.{◌≡◌, refl, ℕ, ◌==◌, Bool, true, false, List, ap, arith, inl, inr}
 use Rattle.std.specs.Prelude.{◌⊎◌, Option, Some, None, if◌then◌else◌}
 use Rattle.std.specs.List.{list_all}
 use Rattle.std.specs.Str.{bytes_eq}
@@ -16,9 +16,6 @@ if_some false x y e = (cc)
 -- equal bytes, and their test
 pub same_bytes : (xs ys : List ℕ) → bytes_eq xs ys ≡ true → xs ≡ ys
 same_bytes xs ys e = (bytes_eq-Decides xs ys).0 e
-
-pub equal_bytes : (xs : List ℕ) → bytes_eq xs xs ≡ true
-equal_bytes xs = (bytes_eq-Decides xs xs).1 refl
 
 -- a byte of a name is none of the marks of the language
 pub record IsPart (b : ℕ) : Type 0 where
@@ -40,13 +37,6 @@ name_byte b named = record {
 -- a name has a first byte, and bytes of names alone
 pub name_bytes : (name : List ℕ) → is_name name ≡ true → list_all is_name_byte name ≡ true
 name_bytes name named = grind (arith, nat_tests)
-
-pub no_empty_name : is_name [] ≡ true → ⊥
-no_empty_name named = (cc)
-
--- a name is read as itself
-pub name_again : (name : List ℕ) → is_name name ≡ true → name_of name ≡ Some name
-name_again name named = rw named refl
 
 -- what is read as a name is this name
 pub name_read : (word name : List ℕ) → name_of word ≡ Some name → (word ≡ name) × (is_name name ≡ true)

@@ -4,5 +4,4 @@ pub mod Name
 pub mod Numbers
 pub mod Padding
 pub mod Spelling
-pub mod LineLaws
 pub mod SpellingLaws

@@ -87,11 +87,6 @@ dropped_beside held lock thread place apart =
     let same : (lock, thread) ≡ key = found_pair (lock, thread) key e in
     ap not (not_found place.0 place.1 key (λ a b. apart (ap (λ (p : List ℕ × ℕ). p.0) same ∙ sym a) (ap (λ (p : List ℕ × ℕ). p.1) same ∙ sym b)))) held
 
-none_at : (b : Bool) (place key : List ℕ × ℕ) (rest : List (List ℕ × ℕ)) → is_at (holder_cmp place) key ≡ false → list_any (is_at (holder_cmp place)) rest ≡ false
-    → list_any (is_at (holder_cmp place)) (cond b (key ∷ rest) rest) ≡ false
-none_at true place key rest apart none = rw apart none
-none_at false place key rest apart none = none
-
 -- a place below all others is not among them
 absent : (p : LockMode → Bool) (held : Holdings) (place : List ℕ × ℕ) → AllByRecursion (λ key. holder_cmp place key ≡ Less) (keys_of held)
     → list_any (is_at (holder_cmp place)) (map (λ one. one.0) (filter (λ one. p one.1) held)) ≡ false

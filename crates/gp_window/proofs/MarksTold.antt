@@ -151,13 +151,6 @@ told_none held lock is two = by_cases (find (λ (one : Holding). is_contested he
     by_cases (Some one) same e = absurd (cc)
     by_cases None same e = none_found (λ one. is_contested held one.0.0) held ((lock, two.0), Exclusive) same two.4 (hold_contested held lock two)
 
-pub none_told : (held : Holdings) → Rise held → ((lock : List ℕ) → TwoHold held lock → ⊥) → first_contested held ≡ None
-none_told held rise none = by_cases (first_contested held) refl
-  where
-    by_cases : (found : Option (List ℕ)) → first_contested held ≡ found → first_contested held ≡ None
-    by_cases None is = is
-    by_cases (Some lock) is = absurd (none lock (told_least held lock rise is).0)
-
 -- where a mark is told, it is the first over which a lock is contested
 abbrev IsFirstMark : List LocalTraceForm → ℕ → ℕ → RecordingFault → Type 0
 IsFirstMark traces passed more fault =

@@ -43,11 +43,6 @@ same_ok started more e = cc
 abbrev Adds : List ℕ → List ℕ → (ℕ → ℕ) → Type 0
 Adds started more count = (thread : ℕ) → one (is_among started thread) + count thread ≤ one (is_among more thread)
 
-added_at : (b rest : Bool) → one (b || rest) ≤ 1
-added_at true rest = omega arith
-added_at false true = omega arith
-added_at false false = omega arith
-
 one_added : (started : List ℕ) (other thread : ℕ) → is_among started other ≡ false
     → one (is_among started thread) + one (other == thread) ≤ one (is_among (started ++ other ∷ []) thread)
 one_added started other thread anew =

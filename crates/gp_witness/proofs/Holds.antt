@@ -2,13 +2,12 @@
 use Rattle.std.proofs.Common.{ℕ, zero, suc, ◌≡◌, ◌⊎◌, ◌<◌, ap, sym, ◌∙◌, refl, subst, inl, inr, List, [], ◌∷◌, ◌++◌, true, arith}
 use Rattle.std.specs.Prelude.{Some, None, Option, slice_get, Contains}
 use Rattle.std.specs.BTreeMap.{is_at}
-use Rattle.std.specs.Cmp.{IsTotalOrder}
 use Rattle.std.specs.Cmp.Lexicographic.{slice_cmp}
 use Rattle.std.specs.Ordering.{is_eq, match_ordering, nat_cmp}
 use Rattle.std.specs.declared.cmp.Ordering.{Ordering}
 use Rattle.std.specs.declared.cmp.Ordering.TheVariants.{Less, Equal, Greater}
 use Rattle.std.proofs.lemmas.Bool.{cases_Bool, cases_eq}
-use Rattle.std.proofs.lemmas.Cmp.{nat_cmp_total, nat_list_cmp_total, on_total, ranked, then_total, tied_itself}
+use Rattle.std.proofs.lemmas.Cmp.{ranked}
 use Rattle.std.proofs.lemmas.Map.Lookups.{exact_bytes, exact_pairs}
 use Rattle.std.proofs.lemmas.List.Elements.{Contains-append_left, Contains-append_right, Contains-append_cases}
 use Rattle.gp_base.specs.Table.{with_entries, with_entry}
@@ -82,11 +81,6 @@ given_between held (event ∷ events) (suc one) (suc at) lock m mode well less f
     let high = rest.2 in
     (suc rest.0, omega (arith, low), omega (arith, high), rest.3)
 
--- the order of locks and threads is total, and exact
-holder_total : IsTotalOrder holder_cmp
-holder_total =
-    then_total (on_total (λ (holder : List ℕ × ℕ). holder.0) nat_list_cmp_total) (on_total (λ (holder : List ℕ × ℕ). holder.1) nat_cmp_total)
-
 same_holder : (one other : List ℕ × ℕ) → holder_cmp one other ≡ Equal → one ≡ other
 same_holder one other is = exact_pairs (slice_cmp nat_cmp) nat_cmp exact_bytes (λ x y e. ranked x y Equal (sym e)) one other is
 
@@ -102,21 +96,6 @@ stands_has (pair ∷ pairs) lock thread e =
     elim (cases_Bool (is_at (holder_cmp (lock, thread)) pair)) [
       | inl tied ↦ (0, omega arith, sym (same_holder (lock, thread) pair (equal_from (holder_cmp (lock, thread) pair) tied)))
       | inr apart ↦ there _ _ _ (stands_has pairs lock thread (rw apart at e))
-    ]
-
-has_stands : (pairs : List (List ℕ × ℕ)) (lock : List ℕ) (thread : ℕ) → Contains pairs (lock, thread) → stands_at pairs lock thread ≡ true
-has_stands [] lock thread i = absurd (nothing_in _ i)
-has_stands (pair ∷ pairs) lock thread i =
-    elim (first_or_rest _ _ _ i) [
-      | inl same ↦
-          let tied : is_at (holder_cmp (lock, thread)) pair ≡ true =
-          subst (λ p. is_at (holder_cmp (lock, thread)) p ≡ true) (sym same) (ap is_eq (tied_itself holder_total (lock, thread))) in
-          rw tied refl
-      | inr i ↦
-          elim (cases_Bool (is_at (holder_cmp (lock, thread)) pair)) [
-            | inl here ↦ rw here refl
-            | inr apart ↦ rw apart (has_stands pairs lock thread i)
-          ]
     ]
 
 -- what was put into the table of holds is there

@@ -2,7 +2,7 @@
 use Rattle.std.proofs.Common.{◌≡◌, refl, sym, ◌∙◌, ap, subst, ℕ, suc, ◌+◌, ◌-◌, ◌*◌, ◌<◌, ◌≤◌, Bool, false, Option, None, Some, List, [], ◌∷◌, ◌++◌, length, map, All, append_assoc, arith}
 use Rattle.std.specs.Prelude.{IsSomeAnd}
 use Rattle.std.specs.List.{slice_get}
-use Rattle.std.proofs.Math.Nat.{mul-le-mul_right, suc-mul}
+use Rattle.std.proofs.Math.Nat.{suc-mul}
 use Rattle.std.proofs.lemmas.List.{length-append, length_push, map-append}
 use Rattle.std.proofs.lemmas.List.Elements.{All-nil, All-push}
 use Rattle.std.proofs.lemmas.Option.{slice_get_within}
@@ -20,7 +20,7 @@ use Rattle.gp_tickets.specs.TicketLaws.{single_has_drawn}
 use Rattle.gp_derivation.specs.FitStaying.{FitStays}
 use Rattle.gp_derivation.specs.Spent.{SpentStays}
 use Rattle.gp_search.specs.Mail.{MailForm, taken_entry}
-use Rattle.gp_search.specs.Verdict.{HasRoom, Learns, LearnsAndShares, turn_of}
+use Rattle.gp_search.specs.Verdict.{Learns, LearnsAndShares, turn_of}
 use Rattle.gp_tickets.specs.declared.drawn.Made.{Made}
 use Rattle.gp_workers.specs.declared.crew.Worked.{Worked}
 use Rattle.gp_tickets.specs.declared.tickets.Tickets.{Tickets}
@@ -30,8 +30,7 @@ use Rattle.gp_workers.specs.Crew.{IsDone}
 use Rattle.gp_tickets.specs.Tickets.{hand_of, IsSingle}
 use Rattle.gp_workers.specs.Worker.{AnswersOwn, HasWorked, IsAnswerBy, IsFresh, PassesAll, TakesTurn, record_of}
 use Rattle.gp_workers.specs.Record.{IsWorkerRecord, TakesThenLearns, TurnsCover, tickets_of}
-use Rattle.gp_workers.specs.Mail.{given_by, GivesFew, IsSilent, SharesSoFar, TellsOrGivesNone}
-use Rattle.gp_workers.specs.Work.{CanBeWorked}
+use Rattle.gp_workers.specs.Mail.{given_by, IsSilent, SharesSoFar, TellsOrGivesNone}
 use Rattle.gp_workers.proofs.WorkerAnswers.{GoesOn, answers_stay}
 use Rattle.gp_workers.proofs.WorkerLogs.{taken_follow, turn_shares}
 
@@ -174,14 +173,6 @@ one_more stays fit problem queries budget drawn now query ticket old new answers
     subst (λ (ns : List ℕ). HasWorked problem queries budget ns new all after) (sym longer)
     (subst (λ (rs : List (Made WorkAnswer)). HasWorked problem queries budget (drawn ++ ticket ∷ []) new rs after) (sym pushed)
     (one_answer_more stays fit problem queries budget drawn query ticket old new answers answer may before after worked at took gives quiet (subst (λ (p : Problem). IsAnswerBy p query budget old.number (record_of new) ticket answer) worked.searches is)))
-
--- as long as fewer tickets were drawn than there are queries, there is room for a turn
-pub has_room : (problem : Problem) (queries : List Query) (budget : ℕ) (drawn : List ℕ) (worker : Worker) (answers : List (Made WorkAnswer)) (told : Option MailForm) → CanBeWorked problem queries budget → HasWorked problem queries budget drawn worker answers told
-    → GivesFew told → length drawn < length queries → HasRoom worker.search budget
-has_room problem queries budget drawn worker answers told can worked given left =
-    let bases : length worker.search.problem.clauses ≡ length problem.clauses = ap (λ (p : Problem). length p.clauses) worked.searches in
-    let within : suc (length drawn) * budget ≤ length queries * budget = mul-le-mul_right budget left in
-    omega (arith, bases, suc-mul (length drawn) budget, within, worked.few, can.few, can.few_clauses, given)
 
 -- what a worker hands back is a record
 is_record : CertificateFollows → (problem : Problem) (queries : List Query) (budget : ℕ) (drawn : List ℕ) (worker : Worker) (answers : List (Made WorkAnswer)) (told : Option MailForm) → IsValidProblem problem → HasWorked problem queries budget drawn worker answers told

@@ -35,8 +35,7 @@ pub(crate) fn listing_of(
     let mut found = Vec::new(alloc);
     let mut queries = Vec::new(alloc);
     for (number, property) in properties.iter().enumerate() {
-        // the type says that it is a property of the language
-        let _ = property.name();
+        property.keeps_rules();
         let own = found_of(alloc, window, property, number as u32)?;
         add_queries(alloc, &mut queries, encoded, property, &own)?;
         found.push(own)?;

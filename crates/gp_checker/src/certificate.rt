@@ -33,8 +33,7 @@ pub(crate) fn check_certificate(
     ensures found { IfOk result (λ found. MatchOption found (PassesOver (base_of basis.now.encoded.now) basis.now.shared.now (query_of basis.now.encoded.now property.now instance.now.events) certificate.now × RefutesAtLast (query_of basis.now.encoded.now property.now instance.now.events) certificate.now.steps) (λ failure. FailsCertificate (base_of basis.now.encoded.now) basis.now.shared.now (query_of basis.now.encoded.now property.now instance.now.events) certificate.now failure.reason failure.place)) }
     ensures same { judge.new ≡ judge.old }
 {
-    // the type says that it is a property of the language, whose instances have at most six events
-    let _ = property.name();
+    property.keeps_rules();
     laws();
     let asked = query(alloc, basis.encoded, property, instance)?;
     let problem = basis.encoded.problem();

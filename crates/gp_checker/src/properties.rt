@@ -100,8 +100,7 @@ fn check_body(
     ensures found { IfOk result (λ found. MatchOption found (AcceptsListed basis.now.encoded.now basis.now.budget basis.now.shared.now property.now (due_instances basis.now.encoded.now property.now number) body.now) (λ failure. FailsListed basis.now.encoded.now basis.now.budget basis.now.shared.now property.now failure (due_instances basis.now.encoded.now property.now number) body.now)) }
     ensures same { judge.new ≡ judge.old }
 {
-    // the type says that it is a property of the language, whose instances have an event for each atom
-    let _ = property.name();
+    property.keeps_rules();
     laws();
     match instances(alloc, basis.encoded.window(), property, number) {
         Ok(listed) => check_listed(alloc, basis, judge, property, listed.as_slice(), body),

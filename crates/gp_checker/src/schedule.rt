@@ -45,8 +45,7 @@ fn check_match(
     requires feasible { IsFeasible window.now schedule.now.events }
     ensures { MatchOption result (IsFeasible window.now schedule.now.events × (matches_events property.now instance.now.events schedule.now.events ≡ true)) (λ failure. FailsSchedule window.now property.now instance.now.events schedule.now.events failure.reason failure.place) }
 {
-    // the type says that it is a property of the language, whose instances have an event for each atom
-    let _ = property.name();
+    property.keeps_rules();
     laws();
     if matches(property, instance, schedule) {
         return None;

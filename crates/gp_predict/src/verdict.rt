@@ -33,8 +33,7 @@ fn verdict_of(alloc: Global, submission: &Submission) -> Result<Checked, AllocEr
 {
     accepted_is_true();
     let listing = &submission.listing;
-    // the type says that the recording keeps its rules
-    let _ = listing.recording.manifest();
+    listing.recording.keeps_rules();
     check_report(
         alloc,
         &listing.recording,

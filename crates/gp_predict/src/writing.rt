@@ -107,8 +107,7 @@ fn put_windows<S: Sink>(
     ensures err { OnErr result (AppendsFront (S.written sink.old) (S.written sink.new) (flat_map (λ line. line) (all_lines recording.now properties.now))) }
     ensures failed { result ≡ Err PutFault.Failed → Rose (S.faults sink.old) (S.faults sink.new) }
 {
-    // the type says that the epochs are few
-    let _ = recording.manifest();
+    recording.keeps_rules();
     let mut total = 0u64;
     let mut windows = Windows::new(alloc, recording)?;
     while let Some(window) = windows.next(alloc)? {

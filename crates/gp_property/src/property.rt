@@ -142,6 +142,13 @@ impl Property {
         &self.name
     }
 
+    /// A law: a property keeps the rules of the language.
+    pub fn keeps_rules(&self)
+        ensures { IsProperty self.now }
+    {
+        let _ = &self.name;
+    }
+
     /// The events that the pattern speaks of, at most 16, each of another name.
     pub fn events(&self) -> &[EventDef]
         ensures value { result.now ≡ self.now.events }

@@ -220,6 +220,6 @@ fn event_at(window: &Window, id: EventId) -> Option<&Event>
     ensures event { option_copied result ≡ event_at window.now id }
     ensures small { OnSome result (id.index < 2 ^ 32 - 1) }
 {
-    let _ = window.number();
+    window.comes_from_recording();
     window.event(id)
 }

@@ -38,6 +38,13 @@ impl Recording {
         &self.manifest
     }
 
+    /// A law: a recording keeps the rules of recordings.
+    pub fn keeps_rules(&self)
+        ensures { IsRecording self.now }
+    {
+        let _ = &self.manifest;
+    }
+
     /// The traces, in order of thread.
     pub fn traces(&self) -> &[LocalTrace]
         ensures value { result.now ≡ self.now.traces }

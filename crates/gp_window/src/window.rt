@@ -46,6 +46,13 @@ impl Window {
         self.number
     }
 
+    /// A law: a window is one of the windows of a recording.
+    pub fn comes_from_recording(&self)
+        ensures { IsWindow self.now }
+    {
+        let _ = &self.number;
+    }
+
     /// The events of each thread in this window, in order of thread.
     pub fn segments(&self) -> &[Row<Event>]
         ensures value { result.now ≡ self.now.segments }

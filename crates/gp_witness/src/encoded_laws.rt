@@ -22,7 +22,7 @@ pub fn law_base(encoded: &Encoded, schedule: &Schedule)
     requires { IsFeasible encoded.now schedule.now.events }
     ensures { ScheduleModel encoded.now schedule.now.events (base_of encoded.now) (base_of encoded.now).kinds [] }
 {
-    let _ = encoded.window().number();
+    encoded.window().comes_from_recording();
     schedules_are_complete();
 }
 
@@ -35,8 +35,8 @@ pub fn law_sound(encoded: &Encoded, property: &Property, instance: &Instance, va
     ensures feasible { (executed : List EventId) → IsByPlace encoded.now valuation.now executed → IsFeasible encoded.now (up_to_last instance.now.events executed) }
     ensures matches { (executed : List EventId) → IsByPlace encoded.now valuation.now executed → matches_events property.now instance.now.events (up_to_last instance.now.events executed) ≡ true }
 {
-    let _ = encoded.window().number();
-    let _ = property.pattern();
+    encoded.window().comes_from_recording();
+    property.keeps_rules();
     witnesses_are_sound();
 }
 
@@ -53,6 +53,6 @@ pub fn law_complete(
     requires matches { matches_events property.now instance.now.events schedule.now.events ≡ true }
     ensures { ScheduleModel encoded.now schedule.now.events (base_of encoded.now) ((base_of encoded.now).kinds ++ (query_of encoded.now property.now instance.now.events).locals) (query_of encoded.now property.now instance.now.events).assumed }
 {
-    let _ = encoded.window().number();
+    encoded.window().comes_from_recording();
     schedules_are_complete();
 }

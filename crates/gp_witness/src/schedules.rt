@@ -26,8 +26,7 @@ pub fn executed_of(
     ensures order { IfOk result (λ schedule. IsByPlace encoded.now valuation.now schedule.events) }
     ensures feasible { IfOk result (λ schedule. IsFeasible encoded.now schedule.events) }
 {
-    // the window's type says that it is one of a recording, which the law wants
-    let _ = encoded.window().number();
+    encoded.window().comes_from_recording();
     witnesses_are_sound();
     by_place(alloc, encoded, valuation)
 }
@@ -53,9 +52,8 @@ pub fn schedule_of(
     ensures feasible { IfOk result (λ schedule. IsFeasible encoded.now schedule.events) }
     ensures matches { IfOk result (λ schedule. matches_events property.now instance.now.events schedule.events ≡ true) }
 {
-    // the types of both say what the law wants of them
-    let _ = encoded.window().number();
-    let _ = property.pattern();
+    encoded.window().comes_from_recording();
+    property.keeps_rules();
     witnesses_are_sound();
     let executed = by_place(alloc, encoded, valuation)?;
     let events = up_to_last(instance.events.as_slice(), executed.events);

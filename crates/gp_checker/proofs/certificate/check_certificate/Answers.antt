@@ -26,7 +26,7 @@ check_steps-requires-clause-asked c =
     let property = c.args.property.now in
     let ids = c.args.instance.now.events in
     let same : c.problem-problem.result.now ≡ base_of window = c.problem-problem.ensures.problem in
-    let listed = is_listed c.laws.ensures.atoms window property c.name.ensures.property ids c.requires.instance in
+    let listed = is_listed c.laws.ensures.atoms window property c.keeps_rules.ensures ids c.requires.instance in
     let few : length (points_of window) ≤ 2048 = c.problem-problem.ensures.encodable.points in
     subst (λ (p : Problem). IsValidQuery p c.in_ok-asked.asked) (sym same)
     (subst (λ (q : Query). IsValidQuery (base_of window) q) (sym c.in_ok-asked.ensures) (c.laws.ensures.valid.query window property ids few listed.few c.requires.instance))

@@ -24,7 +24,7 @@ check_listed-requires-clause-few c =
     let property = c.args.property.now in
     let due : ◌≡◌ {A = Result (List Instance) InstancesFault} (Ok c.in-Ok.listed) (due_instances window property c.args.number) =
     subst (λ (w : WindowForm). ◌≡◌ {A = Result (List Instance) InstancesFault} (Ok c.in-Ok.listed) (due_instances w property c.args.number)) c.window.ensures.window (c.in-Ok.ensures (λ e. cc)) in
-    let all = subst (AreListed window property) (sym due) (are_listed c.laws.ensures.atoms window property c.args.number c.name.ensures.property) in
+    let all = subst (AreListed window property) (sym due) (are_listed c.laws.ensures.atoms window property c.args.number c.keeps_rules.ensures) in
     subst (λ (found : List Instance). length found ≤ 10000) (sym c.as_slice.ensures) all.0
 
 pub returns-in-Ok-clause-found : goal.returns-in-Ok-clause-found

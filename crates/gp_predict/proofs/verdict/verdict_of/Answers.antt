@@ -8,5 +8,5 @@ use Rattle.gp_predict.proofs.verdict.verdict_of.Goals as goal
 
 pub returns : goal.returns
 returns c =
-    is_verdict c.accepted_is_true.ensures c.args.submission.now c.manifest.ensures.rules c.requires.valid c.check_report.result
+    is_verdict c.accepted_is_true.ensures c.args.submission.now c.keeps_rules.ensures c.requires.valid c.check_report.result
     (subst (λ (properties : List PropertyForm). IfOk c.check_report.result (IsChecked c.args.submission.now.listing.recording properties c.args.submission.now.report)) c.as_slice.ensures c.check_report.ensures)

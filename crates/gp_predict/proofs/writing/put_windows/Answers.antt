@@ -6,7 +6,7 @@ use Rattle.gp_predict.proofs.writing.put_windows.Goals as goal
 
 pub loop-windows-init : goal.loop-windows-init
 loop-windows-init g c =
-    (omega arith, none_put c.args.recording.now c.args.properties.now (g.S.Sink.written c.args.sink.now) c.in_ok-windows.windows c.manifest.ensures.rules.manifest.epochs.1 c.in_ok-windows.ensures)
+    (omega arith, none_put c.args.recording.now c.args.properties.now (g.S.Sink.written c.args.sink.now) c.in_ok-windows.windows c.keeps_rules.ensures.manifest.epochs.1 c.in_ok-windows.ensures)
 
 pub returns-in_err-window-clause-err : goal.returns-in_err-window-clause-err
 returns-in_err-window-clause-err g c =

@@ -4,4 +4,4 @@ use Rattle.gp_witness.proofs.encoded_laws.law_base.Goals as goal
 
 pub returns : goal.returns
 returns c =
-    c.schedules_are_complete.ensures.base c.args.encoded.now c.args.schedule.now.events (subst IsWindow c.window.ensures.window c.number.ensures.window) c.requires
+    c.schedules_are_complete.ensures.base c.args.encoded.now c.args.schedule.now.events (subst IsWindow c.window.ensures.window c.comes_from_recording.ensures) c.requires

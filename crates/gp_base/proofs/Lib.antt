@@ -1,2 +1,1 @@
-pub mod Fillings
 pub mod Removals

@@ -1,6 +1,7 @@
 pub mod Table
 pub mod Results
 pub mod TableLaws
+pub mod OrderLaws
 pub mod ResultLaws
 pub mod ListLaws
 pub mod CountLaws

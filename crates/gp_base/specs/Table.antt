@@ -1,5 +1,5 @@
 -- A finite map as the list of its entries, in the order of their keys.
-use Rattle.std.specs.Prelude.{◌≡◌, ℕ, List, [], ◌∷◌, Option, filter, not, take}
+use Rattle.std.specs.Prelude.{List, [], ◌∷◌, Option, filter, not}
 use Rattle.std.specs.declared.cmp.Ordering.{Ordering}
 use Rattle.std.specs.BTreeMap.{insert_entry, is_at}
 use Rattle.std.specs.Map.{lookup}
@@ -20,7 +20,3 @@ without_entry cmp entries key = filter (λ entry. not (is_at (cmp key) entry.0))
 abbrev pub with_entries : {K V : Type 0} → (K → K → Ordering) → List (K × V) → List (K × V) → List (K × V)
 with_entries cmp entries [] = entries
 with_entries cmp entries (more ∷ rest) = with_entries cmp (with_entry cmp entries more.0 more.1) rest
-
--- the entries with some of the further ones put into them: the first so many, one after another
-abbrev pub IsPartlyFilled : {K V : Type 0} → (K → K → Ordering) → List (K × V) → List (K × V) → List (K × V) → Type 0
-IsPartlyFilled cmp entries more filled = (n : ℕ) × (filled ≡ with_entries cmp entries (take n more))

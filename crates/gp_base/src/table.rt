@@ -1,14 +1,16 @@
-ghost use Rattle.std.specs.Prelude.{◌≡◌, [], OnOk, OnErr, option_copied, map, IfOk};
+ghost use Rattle.std.specs.Prelude.{◌≡◌, ◌==◌, [], length, OnOk, OnErr, option_copied, IfOk};
 ghost use Rattle.std.specs.List.Sorted.{IsStrictlySortedBy};
-ghost use Rattle.gp_base.specs.Table.{IsPartlyFilled, value_at, with_entries, with_entry, without_entry};
+ghost use Rattle.std.specs.Map.{keys_of};
+ghost use Rattle.gp_base.specs.Table.{value_at, with_entry, without_entry};
 
 use crate::row::Row;
 use std::alloc::{AllocError, Global};
 use std::collections::BTreeMap;
+use std::collections::btree_map::Iter;
 use std::marker::Model;
 
 /// A finite map, which contracts see as the list of its entries in the order of their keys.
-#[derive(Drop)]
+#[derive(Debug, Drop)]
 pub struct Table<K: Ord, V> {
     map: BTreeMap<K, V>,
 }
@@ -37,6 +39,20 @@ impl<K: Ord, V> Table<K, V> {
     {
         self.map.get(key)
     }
+
+    pub fn is_empty(&self) -> bool
+        ensures { result ≡ (length self.now == 0) }
+    {
+        self.map.is_empty()
+    }
+
+    /// A walk over the entries, in the order of their keys, none of which comes twice.
+    pub fn iter(&self) -> Iter<'_, K, V>
+        ensures entries { result ≡ self.now }
+        ensures ordered { IsStrictlySortedBy K.cmp (keys_of self.now) }
+    {
+        self.map.iter()
+    }
 }
 
 impl<K: Ord + Drop, V: Drop> Table<K, V> {
@@ -59,7 +75,7 @@ impl<K: Ord + Drop, V: Drop> Table<K, V> {
     /// The entries, in the order of their keys, none of which comes twice.
     pub fn into_row(self, alloc: Global) -> Result<Row<(K, V)>, AllocError>
         ensures entries { IfOk result (λ row. row ≡ self) }
-        ensures ordered { IsStrictlySortedBy K.cmp (map (λ entry. entry.0) self) }
+        ensures ordered { IsStrictlySortedBy K.cmp (keys_of self) }
     {
         let _ = self.map.len();
         let entries: Vec<(K, V)> = self.map.into_iter().collect(alloc)?;
@@ -68,21 +84,21 @@ impl<K: Ord + Drop, V: Drop> Table<K, V> {
 }
 
 impl<K: Ord + Copy + Drop, V: Copy + Drop> Table<K, V> {
-    /// Sets the value at each of these keys, one after another. After want of memory the first so
-    /// many are set.
-    pub fn put_all(&mut self, entries: &[(K, V)]) -> Result<(), AllocError>
-        ensures ok { OnOk result (self.new ≡ with_entries K.cmp self.old entries.now) }
-        ensures err { OnErr result (IsPartlyFilled K.cmp self.old entries.now self.new) }
+    /// A table of the same entries.
+    pub fn copy(&self, alloc: Global) -> Result<Table<K, V>, AllocError>
+        ensures { IfOk result (λ copy. copy ≡ self.now) }
     {
-        for (key, value) in entries {
-            self.put(*key, *value)?;
+        let mut copy = Table::new(alloc);
+        for (key, value) in self.iter() {
+            copy.put(*key, *value)?;
         }
-        Ok(())
+        Ok(copy)
     }
+
     /// A copy of the entries, in the order of their keys, none of which comes twice.
     pub fn to_row(&self, alloc: Global) -> Result<Row<(K, V)>, AllocError>
         ensures entries { IfOk result (λ row. row ≡ self.now) }
-        ensures ordered { IsStrictlySortedBy K.cmp (map (λ entry. entry.0) self.now) }
+        ensures ordered { IsStrictlySortedBy K.cmp (keys_of self.now) }
     {
         let _ = self.map.len();
         let entries: Vec<(K, V)> = self

@@ -29,7 +29,8 @@ use Rattle.gp_window.specs.WindowForm.{exited_of, has_exited, IsWindow, numbers_
 use Rattle.gp_window.proofs.Happening.{in_window, OfEach, segments_short}
 use Rattle.gp_window.proofs.HeldRising.{mode_among, over_rises, readers_rise}
 use Rattle.gp_window.proofs.OwnLocks.{held_by, none_by, over_tells, segment_well}
-use Rattle.gp_window.proofs.Rising.{each, start_values_rise}
+use Rattle.gp_base.specs.OrderLaws.{each}
+use Rattle.gp_window.proofs.Rising.{start_values_rise}
 use Rattle.gp_window.proofs.StartCounts.{in_all, one, started_now, started_once}
 use Rattle.gp_window.proofs.Uncontested.{holder_alone, holders_rise, uncontested}
 use Rattle.gp_window.proofs.Walked.{IsKnown, traces_walk}

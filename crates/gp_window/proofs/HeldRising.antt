@@ -7,6 +7,7 @@ use Rattle.std.specs.List.{AllByRecursion, list_any}
 use Rattle.std.specs.List.Sorted.{IsStrictlySortedBy}
 use Rattle.std.specs.Map.{keys_of, lookup}
 use Rattle.std.specs.Ordering.{is_eq}
+use Rattle.gp_base.specs.OrderLaws.{filter_rises, put_rises}
 use Rattle.gp_base.specs.Table.{value_at, with_entry, without_entry}
 use Rattle.gp_base.specs.TableLaws.{value_after_put}
 use Rattle.gp_trace.specs.declared.event.Event.{Event}
@@ -17,31 +18,26 @@ use Rattle.gp_trace.specs.declared.lock_use.LockUse.TheVariants.{Take, GiveBack}
 use Rattle.gp_trace.specs.LockUse.{lock_use_of}
 use Rattle.gp_trace.specs.Trace.{LocalTraceForm}
 use Rattle.gp_window.specs.FormedLaws.{mode_by}
-use Rattle.gp_window.specs.Holders.{Holdings, held_after, held_after_events, held_after_window, held_over, holder_cmp, holders_among, is_exclusive, readers_among, segment_after}
+use Rattle.gp_window.specs.Holders.{AreOrdered, Holdings, held_after, held_after_events, held_after_window, held_over, holder_cmp, holders_among, is_exclusive, readers_among, segment_after}
 use Rattle.gp_window.specs.HoldersLaws.{found_itself, found_pair, holder_total, not_found}
-use Rattle.gp_window.proofs.Rising.{filter_rises, put_rises}
 
--- the holdings stand in the order of their locks and threads
-abbrev pub Rise : Holdings → Type 0
-Rise held = IsStrictlySortedBy holder_cmp (keys_of held)
-
-use_rises : (thread : ℕ) (held : Holdings) (how : Option LockUse) → Rise held → Rise (held_after thread held how)
+use_rises : (thread : ℕ) (held : Holdings) (how : Option LockUse) → AreOrdered held → AreOrdered (held_after thread held how)
 use_rises thread held None rise = rise
 use_rises thread held (Some (Take mode lock)) rise = put_rises holder_total held (lock, thread) mode rise
 use_rises thread held (Some (GiveBack mode lock)) rise = filter_rises holder_cmp (λ entry. not (is_at (holder_cmp (lock, thread)) entry.0)) held rise
 
-events_rise : (thread : ℕ) (events : List Event) (held : Holdings) → Rise held → Rise (held_after_events thread held events)
+events_rise : (thread : ℕ) (events : List Event) (held : Holdings) → AreOrdered held → AreOrdered (held_after_events thread held events)
 events_rise thread [] held rise = rise
 events_rise thread (event ∷ events) held rise =
     events_rise thread events (held_after thread held (lock_use_of event)) (use_rises thread held (lock_use_of event) rise)
 
-window_rises : (before : ℕ) (traces : List LocalTraceForm) (held : Holdings) → Rise held → Rise (held_after_window before held traces)
+window_rises : (before : ℕ) (traces : List LocalTraceForm) (held : Holdings) → AreOrdered held → AreOrdered (held_after_window before held traces)
 window_rises before [] held rise = rise
 window_rises before (trace ∷ traces) held rise =
     window_rises before traces (held_after_events trace.thread held (segment_after before trace)) (events_rise trace.thread (segment_after before trace) held rise)
 
 -- over each mark
-pub over_rises : (traces : List LocalTraceForm) (before : ℕ) → Rise (held_over traces before)
+pub over_rises : (traces : List LocalTraceForm) (before : ℕ) → AreOrdered (held_over traces before)
 unfolding IsStrictlySortedBy
 over_rises traces zero = tt
 over_rises traces (suc before) = window_rises before traces (held_over traces before) (over_rises traces before)
@@ -113,7 +109,7 @@ mode_first Exclusive place key held false is above more = rw is more
 mode_first Shared place key held false is above more = rw is more
 
 -- the holdings tell how a thread holds a lock, as those that hold it alone and those that read it do
-pub mode_among : (held : Holdings) (place : List ℕ × ℕ) → Rise held
+pub mode_among : (held : Holdings) (place : List ℕ × ℕ) → AreOrdered held
     → value_at holder_cmp held place ≡ mode_by (list_any (is_at (holder_cmp place)) (holders_among held)) (list_any (is_at (holder_cmp place)) (readers_among held))
 unfolding IsStrictlySortedBy
 mode_among [] place rise = refl
@@ -121,5 +117,5 @@ mode_among (one ∷ held) place rise =
     mode_first one.1 place one.0 held (is_at (holder_cmp place) one.0) refl (λ here. rise.0) (mode_among held place rise.1)
 
 -- the readers stand in the order of their locks and threads
-pub readers_rise : (held : Holdings) → Rise held → IsStrictlySortedBy holder_cmp (readers_among held)
+pub readers_rise : (held : Holdings) → AreOrdered held → IsStrictlySortedBy holder_cmp (readers_among held)
 readers_rise held rise = filter_rises holder_cmp (λ one. not (is_exclusive one.1)) held rise

@@ -6,6 +6,7 @@ pub mod Followed
 pub mod Formed
 pub mod Happening
 pub mod Heads
+pub mod HeldAtStart
 pub mod HeldRising
 pub mod ManifestGrammar
 pub mod ManifestLines

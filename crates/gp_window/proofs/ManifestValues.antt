@@ -25,7 +25,7 @@ use Rattle.gp_window.specs.Grammar.{IsStartValue, value_words}
 use Rattle.gp_window.specs.Manifest.{Values, start_value, value_of, values_after, values_from, with_value}
 use Rattle.gp_window.specs.ManifestForm.{IsInside, place_cmp, place_of}
 use Rattle.gp_window.proofs.ManifestLines.{value_read, value_said}
-use Rattle.gp_window.proofs.Rising.{put_rises}
+use Rattle.gp_base.specs.OrderLaws.{put_rises}
 use Rattle.gp_window.proofs.Walked.{first_gave}
 
 place_total : IsTotalOrder place_cmp

@@ -21,11 +21,10 @@ use Rattle.gp_trace.specs.Trace.{LocalTraceForm}
 use Rattle.gp_window.specs.declared.fault.RecordingFault.{RecordingFault}
 use Rattle.gp_window.specs.declared.fault.RecordingFault.TheVariants.{TwoHolders}
 use Rattle.gp_window.specs.Contested.{first_contested, is_contested, is_held_beside}
-use Rattle.gp_window.specs.Holders.{held_over, Holding, Holdings, holder_cmp, is_exclusive}
+use Rattle.gp_window.specs.Holders.{AreOrdered, held_over, Holding, Holdings, holder_cmp, is_exclusive}
 use Rattle.gp_window.specs.HoldersLaws.{holder_total}
 use Rattle.gp_window.specs.Marks.{after_marks, after_marks_from, unless_contested}
 use Rattle.gp_window.specs.MarksTold.{IsFirstHeld, TwoHold, TwoHoldBefore}
-use Rattle.gp_window.proofs.HeldRising.{Rise}
 
 -- a test that some element passes
 any_to : {A : Type 0} (p : A → Bool) (xs : List A) → list_any p xs ≡ true → (x : A) × Contains xs x × (p x ≡ true)
@@ -82,7 +81,7 @@ hold_contested held lock (one, other, mode, apart, first, second) =
     (ap (λ b. b && (true && is_held_beside held lock one)) on ∙ beside)
 
 -- what is found passes the test, and nothing that passes it is before
-found_first : (p : Holding → Bool) (held : Holdings) (found : Holding) → Rise held → find p held ≡ Some found
+found_first : (p : Holding → Bool) (held : Holdings) (found : Holding) → AreOrdered held → find p held ≡ Some found
     → (p found ≡ true) × Contains held found × ((other : Holding) → Contains held other → p other ≡ true → holder_cmp other.0 found.0 ≡ Less → ⊥)
 unfolding IsStrictlySortedBy
 found_first p [] found rise is = absurd (cc)
@@ -132,7 +131,7 @@ none_found p (first ∷ held) other is holds passes = by_cases (none_found p hel
         ]
 
 -- the least lock that two threads hold is told
-pub told_least : (held : Holdings) (lock : List ℕ) → Rise held → first_contested held ≡ Some lock
+pub told_least : (held : Holdings) (lock : List ℕ) → AreOrdered held → first_contested held ≡ Some lock
     → TwoHold held lock × ((other : List ℕ) → TwoHold held other → slice_cmp nat_cmp other lock ≡ Less → ⊥)
 told_least held lock rise is =
     let part = mapped (λ (one : Holding). one.0.0) (find (λ one. is_contested held one.0.0) held) lock is in
@@ -210,7 +209,7 @@ told_or_not epochs traces = by_cases (after_marks epochs traces) refl
     by_cases (Err fault) is = inl (fault, is)
 
 -- the first mark over which two threads hold a lock is told
-pub first_told : (epochs : ℕ) (traces : List LocalTraceForm) (fault : RecordingFault) → ((before : ℕ) → Rise (held_over traces before)) → after_marks epochs traces ≡ Err fault
+pub first_told : (epochs : ℕ) (traces : List LocalTraceForm) (fault : RecordingFault) → ((before : ℕ) → AreOrdered (held_over traces before)) → after_marks epochs traces ≡ Err fault
     → (lock : List ℕ) × (window : ℕ) × (fault ≡ TwoHolders lock window) × IsFirstHeld epochs traces lock window
 first_told epochs traces fault rise is =
     let found = marks_to traces 0 (epochs - 1) fault is in
@@ -234,7 +233,7 @@ pub none_held : (epochs : ℕ) (traces : List LocalTraceForm) → after_marks ep
 none_held epochs traces is window lock low high two =
     told_none (held_over traces (window - 1)) lock (marks_pass traces 0 (epochs - 1) is (window - 1) (omega (arith, low)) (omega (arith, low, high))) two
 
-pub held_none : (epochs : ℕ) (traces : List LocalTraceForm) → ((before : ℕ) → Rise (held_over traces before))
+pub held_none : (epochs : ℕ) (traces : List LocalTraceForm) → ((before : ℕ) → AreOrdered (held_over traces before))
     → ((window : ℕ) (lock : List ℕ) → 2 ≤ window → window ≤ epochs → TwoHoldBefore traces window lock → ⊥) → after_marks epochs traces ≡ Ok tt
 held_none epochs traces rise none =
     elim (told_or_not epochs traces) [
@@ -252,7 +251,7 @@ same_lock one other Less is not_less not_more = absurd (not_less is)
 same_lock one other Equal is not_less not_more = exact_bytes one other is
 same_lock one other Greater is not_less not_more = absurd (not_more (nat_list_cmp_total.antisymm other one ∙ ap ordering_reverse is))
 
-pub told_first : (epochs : ℕ) (traces : List LocalTraceForm) (fault : RecordingFault) → ((before : ℕ) → Rise (held_over traces before))
+pub told_first : (epochs : ℕ) (traces : List LocalTraceForm) (fault : RecordingFault) → ((before : ℕ) → AreOrdered (held_over traces before))
     → (lock : List ℕ) × (window : ℕ) × (fault ≡ TwoHolders lock window) × IsFirstHeld epochs traces lock window → after_marks epochs traces ≡ Err fault
 told_first epochs traces fault rise (lock, window, is, one) =
     elim (told_or_not epochs traces) [

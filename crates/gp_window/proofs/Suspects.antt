@@ -1,5 +1,5 @@
 -- The users of the locks after a use of one, and the suspects among the locks.
-use Rattle.std.proofs.Common.{◌≡◌, refl, ℕ, ◌+◌, ◌-◌, ◌≤◌, Bool, true, false, List, [], ◌∷◌, ◌∙◌, ap, sym, subst, inl, inr, arith}
+use Rattle.std.proofs.Common.{◌≡◌, refl, ℕ, ◌+◌, ◌≤◌, Bool, true, false, List, [], ◌∷◌, ◌∙◌, ap, sym, subst, inl, inr, arith}
 use Rattle.std.specs.Prelude.{◌&&◌, ◌==◌, not, cond, if◌then◌else◌, nat_lt, Option, Some, None, is_some, option_map, unwrap_or}
 use Rattle.std.specs.List.{count_by, find}
 use Rattle.std.specs.Cmp.Lexicographic.{slice_cmp}

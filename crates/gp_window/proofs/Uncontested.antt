@@ -21,10 +21,9 @@ use Rattle.gp_trace.specs.Trace.{LocalTraceForm}
 use Rattle.gp_window.specs.declared.fault.RecordingFault.{RecordingFault}
 use Rattle.gp_window.specs.Contested.{first_contested, is_contested, is_held_beside}
 use Rattle.gp_window.specs.Formed.{HasRisingNames, stands_at}
-use Rattle.gp_window.specs.Holders.{Holding, Holdings, held_over, holder_cmp, holders_among, is_exclusive, readers_among}
+use Rattle.gp_window.specs.Holders.{AreOrdered, Holding, Holdings, held_over, holder_cmp, holders_among, is_exclusive, readers_among}
 use Rattle.gp_window.specs.HoldersLaws.{found_itself, found_pair}
 use Rattle.gp_window.specs.Marks.{after_marks, after_marks_from, unless_contested}
-use Rattle.gp_window.proofs.HeldRising.{Rise}
 
 -- a mark that was passed contests no lock
 not_told : (k : ℕ) (lock : Option (List ℕ)) (later : Result (Unit {0}) RecordingFault) → unless_contested k lock later ≡ Ok tt → (lock ≡ None) × (later ≡ Ok tt)
@@ -136,7 +135,7 @@ names_above held (other ∷ part) one none has alone inside above =
     at true rest = (name_below held one other none has (inside other (here _ _)) alone above.0, rest)
     at false rest = rest
 
-part_rises : (held part : Holdings) → first_contested held ≡ None → Within part held → Rise part → HasRisingNames (holders_among part)
+part_rises : (held part : Holdings) → first_contested held ≡ None → Within part held → AreOrdered part → HasRisingNames (holders_among part)
 unfolding IsStrictlySortedBy
 part_rises held [] none inside rise = tt
 part_rises held (one ∷ part) none inside rise = at (is_exclusive one.1) refl (part_rises held part none (λ x among. inside x (there _ _ _ among)) rise.1)
@@ -147,7 +146,7 @@ part_rises held (one ∷ part) none inside rise = at (is_exclusive one.1) refl (
     at false is rest = rest
 
 -- the names of the locks that are held alone rise, where no lock is contested
-pub holders_rise : (held : Holdings) → first_contested held ≡ None → Rise held → HasRisingNames (holders_among held)
+pub holders_rise : (held : Holdings) → first_contested held ≡ None → AreOrdered held → HasRisingNames (holders_among held)
 holders_rise held none rise = part_rises held held none (λ one has. has) rise
 
 -- a holding at a place that is found among those that pass a test of their modes
@@ -177,7 +176,7 @@ found [] place p e = absurd (false≢true e)
 found (first ∷ held) place p e = found_at held first place p (p first.1) refl (found held place p) e
 
 -- a holding among holdings in order is told at its place
-told_at : (held : Holdings) (one : Holding) → Rise held → Contains held one → value_at holder_cmp held one.0 ≡ Some one.1
+told_at : (held : Holdings) (one : Holding) → AreOrdered held → Contains held one → value_at holder_cmp held one.0 ≡ Some one.1
 unfolding IsStrictlySortedBy
 told_at [] one rise has = absurd (nothing_in one has)
 told_at (first ∷ held) one rise has =
@@ -200,7 +199,7 @@ both_ways Exclusive first second = false≢true second
 both_ways Shared first second = false≢true first
 
 -- a lock that has a holder has no reader, where no lock is contested
-pub holder_alone : (held : Holdings) → first_contested held ≡ None → Rise held → (lock : List ℕ) (one other : ℕ)
+pub holder_alone : (held : Holdings) → first_contested held ≡ None → AreOrdered held → (lock : List ℕ) (one other : ℕ)
     → stands_at (holders_among held) lock one ≡ true → stands_at (readers_among held) lock other ≡ true → ⊥
 holder_alone held none rise lock one other holds reads =
     let first = found held (lock, one) is_exclusive holds in

@@ -1,6 +1,8 @@
 -- Which threads hold which locks after the segments of a recording, and how.
 use Rattle.std.specs.Prelude.{ℕ, zero, suc, Bool, true, false, not, List, [], ◌∷◌, Option, Some, None, filter, map, slice_get, unwrap_or}
 use Rattle.std.specs.Cmp.Lexicographic.{slice_cmp}
+use Rattle.std.specs.List.Sorted.{IsStrictlySortedBy}
+use Rattle.std.specs.Map.{keys_of}
 use Rattle.std.specs.Ordering.{nat_cmp, ordering_then}
 use Rattle.std.specs.declared.cmp.Ordering.{Ordering}
 use Rattle.gp_base.specs.Table.{with_entry, without_entry}
@@ -23,6 +25,10 @@ Holdings = List Holding
 -- a lock before another, and at one lock a thread before another
 abbrev pub holder_cmp : List ℕ × ℕ → List ℕ × ℕ → Ordering
 holder_cmp one other = ordering_then (slice_cmp nat_cmp one.0 other.0) (nat_cmp one.1 other.1)
+
+-- the holdings stand in that order, each lock and thread once
+abbrev pub AreOrdered : Holdings → Type 0
+AreOrdered held = IsStrictlySortedBy holder_cmp (keys_of held)
 
 -- who holds which lock after a thread's use of one
 abbrev pub held_after : ℕ → Holdings → Option LockUse → Holdings
@@ -62,3 +68,7 @@ holders_among held = map (λ one. one.0) (filter (λ one. is_exclusive one.1) he
 -- the locks that are held by a racquire, with their threads
 abbrev pub readers_among : Holdings → List (List ℕ × ℕ)
 readers_among held = map (λ one. one.0) (filter (λ one. not (is_exclusive one.1)) held)
+
+-- locks and threads, with the way in which the threads hold them
+abbrev pub held_as : LockMode → List (List ℕ × ℕ) → Holdings
+held_as mode pairs = map (λ pair. (pair, mode)) pairs

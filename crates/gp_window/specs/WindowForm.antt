@@ -6,10 +6,11 @@ use Rattle.gp_trace.specs.declared.event.Event.{Event}
 use Rattle.gp_trace.specs.declared.event.Event.TheVariants.{Start}
 use Rattle.gp_trace.specs.Trace.{LocalTraceForm}
 use Rattle.gp_window.specs.declared.manifest.StartValue.{StartValue}
-use Rattle.gp_window.specs.Holders.{held_over, holders_among, readers_among, segment_after}
+use Rattle.gp_trace.specs.declared.lock_use.LockMode.TheVariants.{Exclusive, Shared}
+use Rattle.gp_window.specs.Holders.{Holdings, held_as, held_over, holder_cmp, holders_among, readers_among, segment_after}
 use Rattle.gp_window.specs.RecordingForm.{RecordingForm, IsRecording}
 use Rattle.gp_window.specs.Starts.{is_among}
-use Rattle.gp_base.specs.Table.{value_at, with_entry}
+use Rattle.gp_base.specs.Table.{value_at, with_entries, with_entry}
 
 -- a window: its number, the events of each thread in it, and what holds when it begins
 pub record WindowForm : Type 0 where
@@ -95,6 +96,10 @@ window_of r k = record {
 -- the value of a variable when a window begins
 abbrev pub start_value : WindowForm → List ℕ → ℤ
 start_value window variable = value_in window.start_values variable
+
+-- who holds which lock when a window begins, in the order of the locks' names and then of the threads
+abbrev pub held_at_start : WindowForm → Holdings
+held_at_start window = with_entries holder_cmp [] (held_as Exclusive window.holders ++ held_as Shared window.readers)
 
 -- a window is one of the windows of some recording
 pub record IsWindow (w : WindowForm) : Type 0 where

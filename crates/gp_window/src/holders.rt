@@ -1,12 +1,12 @@
-ghost use Rattle.std.specs.Prelude.{◌≡◌, ◌∷◌, ◌++◌, [], if◌then◌else◌, IfOk, OnOk};
+ghost use Rattle.std.specs.Prelude.{◌≡◌, [], IfOk};
 ghost use Rattle.gp_base.specs.Table.{with_entry, without_entry};
 ghost use Rattle.gp_trace.specs.LockUse.{lock_use_of};
-ghost use Rattle.gp_window.specs.Holders.{held_after, held_after_events, held_after_window, holder_cmp, holders_among, is_exclusive, readers_among, segment_after};
+ghost use Rattle.gp_window.specs.Holders.{held_after, held_after_events, held_after_window, holder_cmp, segment_after};
 ghost use Rattle.gp_window.specs.Contested.{first_contested, is_contested};
 
-use crate::contested::{is_contested, is_exclusive};
+use crate::contested::is_contested;
 use crate::users::{Users, suspect, users_at};
-use gp_base::{Row, Table};
+use gp_base::Table;
 use gp_text::Name;
 use gp_trace::{Event, LocalTrace, LockMode, LockUse};
 use std::alloc::{AllocError, Global};
@@ -123,8 +123,7 @@ impl Holders {
     pub fn first_contested(&self, alloc: Global) -> Result<Option<Name>, AllocError>
         ensures { IfOk result (λ found. found ≡ first_contested self.now) }
     {
-        let suspects = self.suspects.to_row(alloc)?;
-        if suspects.as_slice().is_empty() {
+        if self.suspects.is_empty() {
             return Ok(None);
         }
         let held = self.held.to_row(alloc)?;
@@ -156,42 +155,11 @@ impl Holders {
     }
 
     /// Who holds which lock, in order.
-    pub fn to_row(&self, alloc: Global) -> Result<Row<Holding>, AllocError>
-        ensures { IfOk result (λ row. row ≡ self.now) }
+    pub fn held(&self) -> &Table<(Name, u32), LockMode>
+        ensures { result.now ≡ self.now }
     {
-        self.held.to_row(alloc)
+        &self.held
     }
-}
-
-/// The locks that are held by an acquire, with their threads.
-pub fn holders_among(alloc: Global, held: &[Holding]) -> Result<Row<(Name, u32)>, AllocError>
-    ensures { IfOk result (λ row. row ≡ holders_among held.now) }
-{
-    let mut holders = Row::new(alloc);
-    for one in held {
-        keep_where(&mut holders, is_exclusive(one.1), one.0)?;
-    }
-    Ok(holders)
-}
-
-/// The locks that are held by a racquire, with their threads.
-pub fn readers_among(alloc: Global, held: &[Holding]) -> Result<Row<(Name, u32)>, AllocError>
-    ensures { IfOk result (λ row. row ≡ readers_among held.now) }
-{
-    let mut readers = Row::new(alloc);
-    for one in held {
-        keep_where(&mut readers, !is_exclusive(one.1), one.0)?;
-    }
-    Ok(readers)
-}
-
-fn keep_where(row: &mut Row<(Name, u32)>, keep: bool, one: (Name, u32)) -> Result<(), AllocError>
-    ensures { OnOk result (row.new ≡ row.old ++ (if keep then one ∷ [] else [])) }
-{
-    if !keep {
-        return Ok(());
-    }
-    row.push(one)
 }
 
 /// The segment of a trace that has so many before it; no events where there is none.

@@ -2,7 +2,7 @@ ghost use Rattle.std.specs.Prelude.{◌≡◌, ◌≤◌, ◌<◌, ◌+◌, ◌-
 ghost use Rattle.gp_window.specs.Walk.{GoesOn, after_given, past_given};
 ghost use Rattle.gp_window.specs.WindowForm.{started_by, started_in, window_of};
 
-use crate::holders::{Holders, holders_among, readers_among, segment_after};
+use crate::holders::{Holders, segment_after};
 use crate::manifest::StartValue;
 use crate::recording::Recording;
 use crate::window::{Window, exited_of, segments_of, start_values_of, started_of};
@@ -82,13 +82,11 @@ impl<'a> WindowWalk<'a> {
     {
         let traces = self.recording.traces();
         let manifest = self.recording.manifest();
-        let held = self.holders.to_row(alloc)?;
         Ok(Window {
             number: self.number,
             segments: segments_of(alloc, traces, self.number as usize - 1)?,
             start_values: start_values_of(alloc, &self.values)?,
-            holders: holders_among(alloc, held.as_slice())?,
-            readers: readers_among(alloc, held.as_slice())?,
+            held: self.holders.held().copy(alloc)?,
             started: started_of(alloc, manifest, self.started.as_slice())?,
             exited: exited_of(alloc, traces, self.number)?,
         })

@@ -1,8 +1,11 @@
 ghost use Rattle.std.specs.Prelude.{ℕ, ◌≡◌, ◌<◌, ◌-◌, ◌^◌, ◌++◌, ◌∷◌, ◌||◌, [], map, filter, if◌then◌else◌, IfOk, OnOk, option_copied};
+ghost use Rattle.std.specs.Cmp.Lexicographic.{slice_cmp};
+ghost use Rattle.std.specs.Ordering.{nat_cmp};
+ghost use Rattle.gp_base.specs.Table.{with_entries};
 ghost use Rattle.gp_window.specs.Events.{event_at, has_thread, segment_of};
-ghost use Rattle.gp_window.specs.Holders.{segment_after};
+ghost use Rattle.gp_window.specs.Holders.{holders_among, readers_among, segment_after};
 ghost use Rattle.gp_window.specs.Starts.{is_among};
-ghost use Rattle.gp_window.specs.WindowForm.{IsWindow, chosen, exited_of, has_exited, is_kept, numbers_from};
+ghost use Rattle.gp_window.specs.WindowForm.{IsWindow, chosen, exited_of, has_exited, held_at_start, is_kept, numbers_from, start_value};
 
 use crate::holders::segment_after;
 use crate::manifest::Manifest;
@@ -10,7 +13,7 @@ use crate::schedule::EventId;
 use crate::starts::is_among;
 use gp_base::{Row, Table};
 use gp_text::Name;
-use gp_trace::{Event, LocalTrace};
+use gp_trace::{Event, LocalTrace, LockMode};
 use std::alloc::{AllocError, Global};
 use std::marker::Model;
 
@@ -20,21 +23,21 @@ use std::marker::Model;
 pub struct Window {
     pub(crate) number: u32,
     pub(crate) segments: Row<Row<Event>>,
-    pub(crate) start_values: Row<(Name, i64)>,
-    pub(crate) holders: Row<(Name, u32)>,
-    pub(crate) readers: Row<(Name, u32)>,
+    pub(crate) start_values: Table<Name, i64>,
+    pub(crate) held: Table<(Name, u32), LockMode>,
     pub(crate) started: Row<u32>,
     pub(crate) exited: Row<u32>,
 }
 
 impl Model for Window {
+    ghost use Rattle.gp_window.specs.Holders.{AreOrdered, holders_among, readers_among};
     ghost use Rattle.gp_window.specs.WindowForm.{IsWindow, WindowForm};
 
     ghost Value = { WindowForm };
 
-    ghost view = { λ w. record { number = w.number; segments = w.segments; start_values = w.start_values; holders = w.holders; readers = w.readers; started = w.started; exited = w.exited } };
+    ghost view = { λ w. record { number = w.number; segments = w.segments; start_values = w.start_values; holders = holders_among w.held; readers = readers_among w.held; started = w.started; exited = w.exited } };
 
-    ghost invariant = { λ w. IsWindow (record { number = w.number; segments = w.segments; start_values = w.start_values; holders = w.holders; readers = w.readers; started = w.started; exited = w.exited }) };
+    ghost invariant = { λ w. IsWindow (record { number = w.number; segments = w.segments; start_values = w.start_values; holders = holders_among w.held; readers = readers_among w.held; started = w.started; exited = w.exited }) × AreOrdered w.held };
 }
 
 impl Window {
@@ -89,28 +92,29 @@ impl Window {
     }
 
     /// The variables whose value is not 0 when the window begins, by name.
-    pub fn start_values(&self) -> &[(Name, i64)]
+    pub fn start_values(&self) -> &Table<Name, i64>
         ensures value { result.now ≡ self.now.start_values }
         ensures window { IsWindow self.now }
     {
-        self.start_values.as_slice()
+        &self.start_values
     }
 
-    /// The locks that are held by an acquire when the window begins, by name, with their holders.
-    pub fn holders(&self) -> &[(Name, u32)]
-        ensures value { result.now ≡ self.now.holders }
-        ensures window { IsWindow self.now }
+    /// The value of a variable when the window begins.
+    pub fn start_value(&self, variable: &Name) -> i64
+        ensures { result ≡ start_value self.now variable.now }
     {
-        self.holders.as_slice()
+        self.start_values.get(variable).copied().unwrap_or(0)
     }
 
-    /// The locks that are held by a racquire when the window begins, with their readers, by name and
+    /// Who holds which lock when the window begins, and how, by the names of the locks and then by
     /// thread.
-    pub fn readers(&self) -> &[(Name, u32)]
-        ensures value { result.now ≡ self.now.readers }
+    pub fn held(&self) -> &Table<(Name, u32), LockMode>
+        ensures value { result.now ≡ held_at_start self.now }
+        ensures holders { holders_among result.now ≡ self.now.holders }
+        ensures readers { readers_among result.now ≡ self.now.readers }
         ensures window { IsWindow self.now }
     {
-        self.readers.as_slice()
+        &self.held
     }
 
     /// The threads that were started before the window begins, rising.
@@ -155,31 +159,23 @@ fn copied_events(alloc: Global, events: &[Event]) -> Result<Row<Event>, AllocErr
 pub fn start_values_of(
     alloc: Global,
     values: &Table<Name, i64>,
-) -> Result<Row<(Name, i64)>, AllocError>
+) -> Result<Table<Name, i64>, AllocError>
     ensures { IfOk result (λ kept. kept ≡ filter is_kept values.now) }
 {
-    let values = values.to_row(alloc)?;
-    kept_values(alloc, values.as_slice())
-}
-
-fn kept_values(alloc: Global, values: &[(Name, i64)]) -> Result<Row<(Name, i64)>, AllocError>
-    ensures { IfOk result (λ kept. kept ≡ filter is_kept values.now) }
-{
-    let mut kept = Row::new(alloc);
-    for value in values {
-        keep_value(&mut kept, value)?;
+    let mut kept = Table::new(alloc);
+    for (variable, value) in values.iter() {
+        keep_value(&mut kept, *variable, *value)?;
     }
     Ok(kept)
 }
 
-fn keep_value(kept: &mut Row<(Name, i64)>, value: &(Name, i64)) -> Result<(), AllocError>
-    ensures { OnOk result (kept.new ≡ kept.old ++ filter is_kept (value.now ∷ [])) }
+fn keep_value(kept: &mut Table<Name, i64>, variable: Name, value: i64) -> Result<(), AllocError>
+    ensures { OnOk result (kept.new ≡ with_entries (slice_cmp nat_cmp) kept.old (filter is_kept ((variable, value) ∷ []))) }
 {
-    let (name, number) = value;
-    if *number == 0 {
+    if value == 0 {
         return Ok(());
     }
-    kept.push((*name, *number))
+    kept.put(variable, value)
 }
 
 /// The roots and those that were started, rising.

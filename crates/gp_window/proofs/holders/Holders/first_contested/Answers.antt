@@ -8,7 +8,6 @@ use Rattle.gp_window.proofs.holders.Holders.first_contested.Goals as goal
 
 pub returns-then-is_empty : goal.returns-then-is_empty
 returns-then-is_empty c =
-    let none : c.self.inside.suspects ≡ [] =
-    sym (c.as_slice.ensures ∙ c.in_ok-suspects.ensures.entries) ∙ nil_from_length _ ((Decides-eqb _ 0).0 (sym c.if-is_empty.ensures)) in
+    let none : c.self.inside.suspects ≡ [] = nil_from_length _ ((Decides-eqb _ 0).0 (sym c.if-is_empty.ensures)) in
     no_suspects c.self.inside.held c.self.inside.users c.self.inside.suspects c.self.invariant.0 c.self.invariant.1 none
     ∙ ap first_contested c.self.view_is

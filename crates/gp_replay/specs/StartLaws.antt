@@ -6,11 +6,9 @@ use Rattle.std.specs.declared.cmp.Ordering.TheVariants.{Less, Greater}
 use Rattle.std.specs.Cmp.Lexicographic.{slice_cmp}
 use Rattle.std.specs.Ordering.{nat_cmp, ordering_reverse}
 use Rattle.std.specs.Cmp.{IsTotalOrder}
-use Rattle.std.specs.BTreeMap.{insert_entry}
 use Rattle.std.specs.BTreeSet.{insert_key}
 use Rattle.std.specs.List.{AllByRecursion}
 use Rattle.std.specs.List.Sorted.{IsStrictlySortedBy}
-use Rattle.std.specs.Map.{keys_of}
 use Rattle.std.proofs.lemmas.Cmp.{nat_list_cmp_total}
 use Rattle.std.proofs.lemmas.List.{append-nil}
 use Rattle.std.proofs.lemmas.Map.Lookups.{exact_bytes}
@@ -24,45 +22,8 @@ use Rattle.gp_window.specs.WindowForm.{WindowForm}
 use Rattle.gp_replay.specs.Readers.{is_reader, with_readers}
 use Rattle.gp_replay.specs.Step.{holder_of, start_state}
 use Rattle.gp_replay.specs.ExclusionLaws.{HoldersAreAlone}
-use Rattle.gp_base.specs.Table.{value_at, with_entries}
-
--- an entry above all others goes to their end
-put_last : {K V : Type 0} {R : K → K → Ordering} (o : IsTotalOrder R) (prefix : List (K × V)) (k : K) (v : V)
-    → AllByRecursion (λ entry. R entry.0 k ≡ Less) prefix → insert_entry R prefix k v ≡ prefix ++ (k, v) ∷ []
-put_last o [] k v below = refl
-put_last {R = R} o (e ∷ prefix) k v below =
-    let above : R k e.0 ≡ Greater = o.antisymm k e.0 ∙ ap ordering_reverse below.0 in
-    rw above (ap (λ rest. e ∷ rest) (put_last o prefix k v below.1))
-
--- what holds of all keys holds of the one in the middle
-in_middle : {K V : Type 0} (P : K → Type 0) (prefix : List (K × V)) (e : K × V) (back : List (K × V))
-    → AllByRecursion P (keys_of (prefix ++ e ∷ back)) → P e.0
-in_middle P [] e back all = all.0
-in_middle P (first ∷ prefix) e back all = in_middle P prefix e back all.1
-
--- in an order the entries before one are below it
-below_middle : {K V : Type 0} (R : K → K → Ordering) (prefix : List (K × V)) (e : K × V) (back : List (K × V))
-    → IsStrictlySortedBy R (keys_of (prefix ++ e ∷ back)) → AllByRecursion (λ entry. R entry.0 e.0 ≡ Less) prefix
-unfolding IsStrictlySortedBy
-below_middle R [] e back sorted = tt
-below_middle R (first ∷ prefix) e back sorted =
-    (in_middle (λ k. R first.0 k ≡ Less) prefix e back sorted.0, below_middle R prefix e back sorted.1)
-
--- entries in the order of their keys, after others that are all before them, stay as they are
-put_in_order : {K V : Type 0} {R : K → K → Ordering} (o : IsTotalOrder R) (prefix back : List (K × V))
-    → IsStrictlySortedBy R (keys_of (prefix ++ back)) → with_entries R prefix back ≡ prefix ++ back
-put_in_order o prefix [] sorted = sym (append-nil prefix)
-put_in_order {R = R} o prefix (e ∷ back) sorted =
-    let moved : (prefix ++ e ∷ []) ++ back ≡ prefix ++ e ∷ back = append_assoc prefix (e ∷ []) back in
-    let last : insert_entry R prefix e.0 e.1 ≡ prefix ++ e ∷ [] = put_last o prefix e.0 e.1 (below_middle R prefix e back sorted) in
-    ap (λ entries. with_entries R entries back) last
-    ∙ put_in_order o (prefix ++ e ∷ []) back (subst (λ entries. IsStrictlySortedBy R (keys_of entries)) (sym moved) sorted)
-    ∙ moved
-
--- entries in the order of their keys are the table into which they are put
-pub put_all_in_order : {K V : Type 0} {R : K → K → Ordering} (o : IsTotalOrder R) (entries : List (K × V))
-    → IsStrictlySortedBy R (keys_of entries) → with_entries R [] entries ≡ entries
-put_all_in_order o entries sorted = put_in_order o [] entries sorted
+use Rattle.gp_base.specs.OrderLaws.{put_all_in_order}
+use Rattle.gp_base.specs.Table.{value_at}
 
 -- a key above all others goes to their end
 add_last : {K : Type 0} {R : K → K → Ordering} (o : IsTotalOrder R) (prefix : List K) (k : K)

@@ -1,5 +1,5 @@
 ghost use Rattle.std.specs.Prelude.{◌≡◌, [], IfOk, OnOk, OnErr};
-ghost use Rattle.gp_replay.specs.Readers.{has_reader, is_reader, with_reader, with_readers, without_reader};
+ghost use Rattle.gp_replay.specs.Readers.{has_reader, is_reader, with_reader, without_reader};
 
 use gp_base::Row;
 use gp_text::Name;
@@ -38,16 +38,6 @@ impl Readers {
         ensures err { OnErr result (self.new ≡ self.old) }
     {
         self.set.insert((lock, thread))?;
-        Ok(())
-    }
-
-    /// Adds each of these.
-    pub fn add_all(&mut self, readers: &[(Name, u32)]) -> Result<(), AllocError>
-        ensures { OnOk result (self.new ≡ with_readers self.old readers.now) }
-    {
-        for (lock, thread) in readers {
-            self.add(*lock, *thread)?;
-        }
         Ok(())
     }
 

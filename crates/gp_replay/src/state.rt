@@ -1,8 +1,14 @@
 ghost use Rattle.std.specs.Prelude.{◌≡◌, ◌<◌, ◌-◌, ◌^◌, Some, Ok, Err, IfOk, IfErr, OnOk, OnErr, OnSome, length, option_copied};
+ghost use Rattle.std.specs.Cmp.Lexicographic.{slice_cmp};
+ghost use Rattle.std.specs.Ordering.{nat_cmp};
+ghost use Rattle.gp_base.specs.Table.{with_entries};
 ghost use Rattle.gp_window.specs.Events.{event_at};
+ghost use Rattle.gp_window.specs.Holders.{holders_among, readers_among};
+ghost use Rattle.gp_replay.specs.Readers.{with_readers};
 ghost use Rattle.gp_replay.specs.Step.{allowed_in, allowed_use, count_of, counted, effect, has_ended, holder_of, holders_after, is_held_against, next, readers_after, start_state, turn_of, value_of};
 ghost use Rattle.gp_replay.specs.StepFault.{BreaksRule};
 
+use crate::laws::begins_as_told;
 use crate::readers::Readers;
 use crate::rule::{Rule, StepFault};
 use gp_base::{Row, Table};
@@ -31,20 +37,30 @@ impl State {
     pub fn new(alloc: Global, window: &Window) -> Result<State, AllocError>
         ensures { IfOk result (λ state. state ≡ start_state window.now) }
     {
+        begins_as_told();
         let counts = vec![in alloc; 0u32; window.segments().len()]?;
-        let mut values = Table::new(alloc);
-        values.put_all(window.start_values())?;
-        let mut holders = Table::new(alloc);
-        holders.put_all(window.holders())?;
-        let mut readers = Readers::new(alloc);
-        readers.add_all(window.readers())?;
-        Ok(State {
+        let mut state = State {
             counts: Row::from_vec(counts),
-            values,
-            holders,
-            readers,
+            values: window.start_values().copy(alloc)?,
+            holders: Table::new(alloc),
+            readers: Readers::new(alloc),
             started: Row::from_vec(Vec::from_slice(alloc, window.started())?),
-        })
+        };
+        state.take_all(window.held())?;
+        Ok(state)
+    }
+
+    /// Each of these threads takes its lock in its way.
+    fn take_all(&mut self, held: &Table<(Name, u32), LockMode>) -> Result<(), AllocError>
+        ensures { OnOk result (self.new ≡ record self.old {
+          holders = with_entries (slice_cmp nat_cmp) self.old.holders (holders_among held.now);
+          readers = with_readers self.old.readers (readers_among held.now);
+        }) }
+    {
+        for (holder, mode) in held.iter() {
+            self.use_lock(holder.1, &LockUse::Take(*mode, holder.0))?;
+        }
+        Ok(())
     }
 
     /// Does one event. Where it may not happen, or memory is wanting, the state is as before.

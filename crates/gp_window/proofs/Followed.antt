@@ -17,6 +17,7 @@ use Rattle.gp_window.specs.RecordingForm.{IsRecording, RecordingForm}
 use Rattle.gp_window.specs.Starts.{is_among, is_thread}
 use Rattle.gp_window.specs.WindowForm.{numbers_from, started_before, started_by, started_in, started_of, window_of}
 use Rattle.gp_window.proofs.Formed.{mode_told, segment_used_well}
+use Rattle.gp_window.proofs.GivenValues.{values_follow}
 use Rattle.gp_window.proofs.OwnLocks.{held_by}
 
 passes_locks : (r : RecordingForm) (k : ℕ) → IsRecording r → (thread : ℕ) → suc k - 1 ≡ suc (k - 1) → PassesLocks (window_of r k) (window_of r (suc k)) thread
@@ -131,11 +132,12 @@ started_follow r k rules formed on thread = (forth, back)
         kept (suc k - 1) ∙ and_from _ _ (or_right _ _ (now ∙ or_right _ _ here)) (numbered (formed.starts by.0 thread by.1).0)
 
 -- a window of a recording passes on to the next one
-pub window_passes_on : (r : RecordingForm) (k : ℕ) → IsRecording r → IsFormed (window_of r k) → 1 ≤ k → PassesOn (window_of r k) (window_of r (suc k))
+pub window_passes_on : (r : RecordingForm) (k : ℕ) → IsRecording r → IsFormed (window_of r k) → 1 ≤ k → PassesOn r.manifest.values (window_of r k) (window_of r (suc k))
 window_passes_on r k rules formed first =
     let on : suc k - 1 ≡ suc (k - 1) = omega (arith, first) in
     record {
       threads = length-map r.traces (segment_after (suc k - 1)) ∙ sym (length-map r.traces (segment_after (k - 1)));
       locks = λ thread. passes_locks r k rules thread on;
       started = started_follow r k rules formed on;
+      values = values_follow r.manifest k rules.manifest.ordered;
     }

@@ -4,6 +4,7 @@ pub mod Counts
 pub mod EventIds
 pub mod Followed
 pub mod Formed
+pub mod GivenValues
 pub mod Happening
 pub mod Heads
 pub mod HeldAtStart

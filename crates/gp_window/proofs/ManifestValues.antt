@@ -186,7 +186,7 @@ permuted_room given values permuted rises =
 all_has : {X : Type 0} (key : X → ℕ × List ℕ) (P : ℕ × List ℕ → Type 0) (xs : List X) (x : X) → Contains xs x → AllByRecursion P (map key xs) → P (key x)
 all_has key P xs x has all = recursion_at P (map key xs) (key x) all (contains_map key xs x has)
 
-not_below_itself : (place : ℕ × List ℕ) → place_cmp place place ≡ Less → ⊥
+pub not_below_itself : (place : ℕ × List ℕ) → place_cmp place place ≡ Less → ⊥
 not_below_itself place less = false≢true (ap is_eq (sym less) ∙ ap is_eq (tied_itself place_total place))
 
 not_both_below : (one other : ℕ × List ℕ) → place_cmp one other ≡ Less → place_cmp other one ≡ Less → ⊥

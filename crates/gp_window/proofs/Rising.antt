@@ -16,7 +16,8 @@ given_rise [] values rise = rise
 given_rise (one ∷ more) values rise =
     given_rise more (with_entry (slice_cmp nat_cmp) values one.variable one.value) (put_rises nat_list_cmp_total values one.variable one.value rise)
 
-values_rise : (given : List StartValue) (k : ℕ) → HasRisingNames (values_at given k)
+-- the names of the variables with a value at the start of a window, 0 or not, rise
+pub values_rise : (given : List StartValue) (k : ℕ) → HasRisingNames (values_at given k)
 unfolding IsStrictlySortedBy
 values_rise given zero = tt
 values_rise given (suc k) = given_rise (filter (λ value. value.window == suc k) given) (values_at given k) (values_rise given k)

@@ -19,7 +19,7 @@ pub fn manifests_are_spelled()
     one_spelling();
 }
 
-/// Each window of a recording begins with what the one before it leaves.
+/// Each window of a recording begins with what the one before it leaves, and with the values that are given for it.
 pub fn windows_follow()
     ensures { WindowsFollow }
 {

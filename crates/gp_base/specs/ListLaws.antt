@@ -1,5 +1,5 @@
 -- Laws of plain lists: what stands in them, what each element keeps, what stands at a place.
-use Rattle.std.specs.Prelude.{ℕ, zero, suc, ◌+◌, ◌<◌, ◌≡◌, ◌≢◌, ◌⊎◌, Bool, true, false, Option, None, Some, List, [], ◌∷◌, ◌++◌, if◌then◌else◌, All, Contains, length, map, flat_map, take, drop, find}
+use Rattle.std.specs.Prelude.{ℕ, zero, suc, ◌+◌, ◌<◌, ◌≡◌, ◌≢◌, ◌⊎◌, Bool, true, false, Option, None, Some, List, [], ◌∷◌, ◌++◌, if◌then◌else◌, All, Any, Contains, length, map, flat_map, take, drop, find}
 use Rattle.std.specs.List.{AllByRecursion, AllPairs, slice_get}
 use Rattle.std.specs.Option.{option_map}
 use Rattle.std.proofs.Common.{inl, inr, refl, ap, sym, subst, ◌∙◌, arith}
@@ -23,6 +23,26 @@ there x xs y (k, within, is) = (suc k, omega arith, is)
 pub first_or_rest : {X : Type 0} (x : X) (xs : List X) (y : X) → Contains (x ∷ xs) y → (x ≡ y) ⊎ Contains xs y
 first_or_rest x xs y (zero, within, is) = inl is
 first_or_rest x xs y (suc k, within, is) = inr (k, omega arith, is)
+
+-- what stands between a front and a back stands in the whole list
+pub contains_middle : {X : Type 0} (x : X) (front back : List X) → Contains (front ++ x ∷ back) x
+contains_middle x front back = Contains-append_right front (x ∷ back) x (here x back)
+
+-- what stands in such a list stands in the front, is what stands between, or stands in the back
+pub contains_parts : {X : Type 0} (x middle : X) (front back : List X) → Contains (front ++ middle ∷ back) x → Contains front x ⊎ ((middle ≡ x) ⊎ Contains back x)
+contains_parts x middle front back i =
+    elim (Contains-append_cases front (middle ∷ back) x i) [
+      | inl early ↦ inl early
+      | inr rest ↦ inr (first_or_rest middle back x rest)
+    ]
+
+-- nothing holds of some element of the empty list, and what holds of some element of a list holds of its first, or of some of the rest
+pub any_nothing : {X : Type 0} (P : X → Type 0) → Any P [] → ⊥
+any_nothing P (k, x, within, is, holds) = absurd (omega (arith, within))
+
+pub any_first_or_rest : {X : Type 0} (P : X → Type 0) (x : X) (xs : List X) → Any P (x ∷ xs) → P x ⊎ Any P xs
+any_first_or_rest P x xs (zero, y, within, is, holds) = inl (subst P (sym is) holds)
+any_first_or_rest P x xs (suc k, y, within, is, holds) = inr (k, y, omega (arith, within), is, holds)
 
 pub contains_got : {X : Type 0} (xs : List X) (k : ℕ) (x : X) → slice_get xs k ≡ Some x → Contains xs x
 contains_got xs k x is = (k, slice_get_within xs k x is, get_or_from_slice_get xs k x x is)

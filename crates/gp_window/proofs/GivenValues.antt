@@ -1,5 +1,5 @@
 -- The value of a variable at the start of a window: what is given for that window, or what it was at the start of the one before.
-use Rattle.std.proofs.Common.{◌≡◌, ◌∙◌, refl, ap, sym, subst, inl, inr, true, cond, ℕ, suc, ℤ, pos, List, [], ◌∷◌, map, eqb-true}
+use Rattle.std.proofs.Common.{◌≡◌, ◌∙◌, refl, ap, sym, subst, inl, inr, cond, ℕ, suc, ℤ, pos, List, [], ◌∷◌, map, eqb-true}
 use Rattle.std.specs.Prelude.{◌==◌, ◌&&◌, None, Some, filter, unwrap_or}
 use Rattle.std.specs.BTreeMap.{is_at}
 use Rattle.std.specs.Cmp.Lexicographic.{slice_cmp}

@@ -1,33 +1,20 @@
 -- What holds of each event of each trace holds of each event of a window.
-use Rattle.std.proofs.Common.{◌≡◌, subst, ℕ, zero, suc, ◌+◌, ◌<◌, ◌≤◌, List, [], ◌∷◌, ◌++◌, length, length-append, map, arith}
-use Rattle.std.specs.Prelude.{Option, Some, slice_get, unwrap_or}
+use Rattle.std.proofs.Common.{◌≡◌, subst, ℕ, zero, suc, ◌+◌, ◌<◌, ◌≤◌, List, [], ◌∷◌, length, length-append, map, arith}
+use Rattle.std.specs.Prelude.{Some, slice_get, unwrap_or}
 use Rattle.std.specs.List.{AllByRecursion}
 use Rattle.gp_trace.specs.declared.event.Event.{Event}
 use Rattle.gp_trace.specs.Trace.{in_order, LocalTraceForm}
+use Rattle.gp_base.specs.ListLaws.{contains_got, recursion_at, recursion_parts}
 use Rattle.gp_window.specs.declared.schedule.EventId.{EventId}
 use Rattle.gp_window.specs.Events.{event_in, segment_in}
 use Rattle.gp_window.specs.Holders.{segment_after}
 use Rattle.gp_window.specs.RecordingForm.{AreNumbered}
 
--- what holds of all of two lists holds of all of them in one, and the other way round
-pub all_append : {X : Type 0} (P : X → Type 0) (xs ys : List X) → AllByRecursion P xs → AllByRecursion P ys → AllByRecursion P (xs ++ ys)
-all_append P [] ys first second = second
-all_append P (x ∷ xs) ys first second = (first.0, all_append P xs ys first.1 second)
-
-all_parts : {X : Type 0} (P : X → Type 0) (xs ys : List X) → AllByRecursion P (xs ++ ys) → AllByRecursion P xs × AllByRecursion P ys
-all_parts P [] ys all = (tt, all)
-all_parts P (x ∷ xs) ys all = let rest = all_parts P xs ys all.1 in ((all.0, rest.0), rest.1)
-
-in_list : {X : Type 0} (P : X → Type 0) (xs : List X) (i : ℕ) (x : X) → AllByRecursion P xs → slice_get xs i ≡ Some x → P x
-in_list P [] i x all e = cc
-in_list {X = X} P (y ∷ ys) zero x all e = subst P (let is : ◌≡◌ {A = Option X} (Some y) (Some x) = e in cc) all.0
-in_list P (y ∷ ys) (suc i) x all e = in_list P ys i x all.1 e
-
 in_segment : (P : Event → Type 0) (segments : List (List Event)) (before : ℕ) → AllByRecursion P (in_order segments)
     → AllByRecursion P (unwrap_or (slice_get segments before) [])
 in_segment P [] before all = tt
-in_segment P (segment ∷ segments) zero all = (all_parts P segment (in_order segments) all).0
-in_segment P (segment ∷ segments) (suc before) all = in_segment P segments before (all_parts P segment (in_order segments) all).1
+in_segment P (segment ∷ segments) zero all = (recursion_parts P segment (in_order segments) all).0
+in_segment P (segment ∷ segments) (suc before) all = in_segment P segments before (recursion_parts P segment (in_order segments) all).1
 
 -- what holds of each event of a trace, by the number of its thread
 abbrev pub OfEach : (ℕ → Event → Type 0) → List LocalTraceForm → Type 0
@@ -56,7 +43,8 @@ in_thread P epochs before (suc place) traces numbered all =
 pub in_window : (P : ℕ → Event → Type 0) (epochs before : ℕ) (traces : List LocalTraceForm) (id : EventId) (event : Event) → AreNumbered epochs 1 traces
     → OfEach P traces → event_in (map (segment_after before) traces) id ≡ Some event → P id.thread event
 in_window P epochs before traces id event numbered all e =
-    in_list (P id.thread) (segment_in (map (segment_after before) traces) id.thread) id.index event (in_thread P epochs before id.thread traces numbered all) e
+    let segment : List Event = segment_in (map (segment_after before) traces) id.thread in
+    recursion_at (P id.thread) segment event (in_thread P epochs before id.thread traces numbered all) (contains_got segment id.index event e)
 
 -- a segment is no longer than the whole trace
 segment_short : (segments : List (List Event)) (before : ℕ) → length (unwrap_or (slice_get segments before) []) ≤ length (in_order segments)

@@ -5,6 +5,7 @@ use Rattle.std.specs.Prelude.{◌==◌, ◌||◌, Result, Ok, Err, if◌then◌e
 use Rattle.std.specs.List.{AllByRecursion}
 use Rattle.std.proofs.lemmas.Bool.{cases_Bool}
 use Rattle.std.proofs.lemmas.Bool.Decides.{nat_tests}
+use Rattle.gp_base.specs.ListLaws.{recursion_append}
 use Rattle.gp_base.specs.Results.{and_then}
 use Rattle.gp_trace.specs.declared.event.Event.{Event}
 use Rattle.gp_trace.specs.declared.event.Event.TheVariants.{Start, Join}
@@ -12,7 +13,7 @@ use Rattle.gp_trace.specs.Trace.{in_order, LocalTraceForm}
 use Rattle.gp_window.specs.declared.fault.RecordingFault.{RecordingFault}
 use Rattle.gp_window.specs.declared.fault.RecordingFault.TheVariants.{UnknownThread, StartsRoot, TwoStarts}
 use Rattle.gp_window.specs.Starts.{after_event, after_events, after_segments, after_traces, is_among, is_thread}
-use Rattle.gp_window.proofs.Happening.{OfEach, all_append}
+use Rattle.gp_window.proofs.Happening.{OfEach}
 use Rattle.gp_window.proofs.StartCounts.{in_all, in_events, in_segments, one, starts}
 
 -- a start or a join names a thread that is there, and a start no root
@@ -117,7 +118,7 @@ segments_walk threads roots started more (segment ∷ segments) e =
     let step = first_gave (after_events threads roots started segment) (λ middle. after_segments threads roots middle segments) more e in
     let first = events_walk threads roots started step.0 segment step.1 in
     let rest = segments_walk threads roots step.0 more segments step.2 in (
-      all_append (IsKnown threads roots) segment (in_order segments) first.0 rest.0,
+      recursion_append (IsKnown threads roots) segment (in_order segments) first.0 rest.0,
       adds_both started step.0 more (λ thread. in_events thread segment) (λ thread. in_segments thread segments) first.1 rest.1,
     )
 

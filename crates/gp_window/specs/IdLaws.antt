@@ -1,7 +1,8 @@
 -- Laws: the tests of ids say what they are to say.
-use Rattle.std.specs.Prelude.{◌≡◌, ◌↔◌, ◌==◌, ◌&&◌, ◌||◌, nat_lt, zero, suc, Bool, true, false, List, [], ◌∷◌, Contains}
+use Rattle.std.specs.Prelude.{◌≡◌, ◌↔◌, ◌⊎◌, ◌==◌, ◌&&◌, ◌||◌, ◌++◌, nat_lt, zero, suc, Bool, true, false, List, [], ◌∷◌, Contains}
 use Rattle.std.proofs.Common.{refl, sym, ap, subst, ◌∙◌, inl, inr, arith, eqb-true, eq-eqb}
-use Rattle.std.proofs.lemmas.Bool.{and_parts, false≢true, lt-ltb, ltb-true, or_cases, or_right}
+use Rattle.std.proofs.lemmas.Bool.{and_parts, false≢true, lt-ltb, ltb-true, or_cases, or_left, or_right}
+use Rattle.std.proofs.lemmas.List.Folds.{list_any-append}
 use Rattle.gp_base.specs.ListLaws.{here, there}
 use Rattle.gp_window.specs.declared.schedule.EventId.{EventId}
 use Rattle.gp_window.specs.Ids.{contains_event, IsLess, is_less, is_same}
@@ -54,3 +55,29 @@ contained_back (first ∷ events) id (suc k, below, is) =
 -- the test of an event among others says that it is one of them
 pub contains_means : (events : List EventId) (id : EventId) → (contains_event events id ≡ true) ↔ Contains events id
 contains_means events id = (contained events id, contained_back events id)
+
+-- an event is among those that it stands before, and is still among them where others stand before these
+pub is_head : (events : List EventId) (id : EventId) → contains_event (id ∷ events) id ≡ true
+is_head events id = or_left (is_same id id) (contains_event events id) (same_itself id)
+
+pub is_later : (first : EventId) (events : List EventId) (id : EventId) → contains_event events id ≡ true → contains_event (first ∷ events) id ≡ true
+is_later first events id is = or_right (is_same first id) (contains_event events id) is
+
+pub in_back : (front back : List EventId) (id : EventId) → contains_event back id ≡ true → contains_event (front ++ back) id ≡ true
+in_back front back id is =
+    list_any-append (λ other. is_same other id) front back ∙ or_right (contains_event front id) (contains_event back id) is
+
+pub in_middle : (front back : List EventId) (id : EventId) → contains_event (front ++ id ∷ back) id ≡ true
+in_middle front back id = in_back front (id ∷ back) id (is_head back id)
+
+-- an event among some is the first of them, or among the rest; of two lists it is among one
+pub in_cases : (first : EventId) (events : List EventId) (id : EventId) → contains_event (first ∷ events) id ≡ true → (first ≡ id) ⊎ (contains_event events id ≡ true)
+in_cases first events id is =
+    elim (or_cases (is_same first id) (contains_event events id) is) [
+      | inl same ↦ inl (same_id first id same)
+      | inr rest ↦ inr rest
+    ]
+
+pub in_parts : (front back : List EventId) (id : EventId) → contains_event (front ++ back) id ≡ true → (contains_event front id ≡ true) ⊎ (contains_event back id ≡ true)
+in_parts front back id is =
+    or_cases (contains_event front id) (contains_event back id) (sym (list_any-append (λ other. is_same other id) front back) ∙ is)

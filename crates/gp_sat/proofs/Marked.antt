@@ -1,14 +1,13 @@
 -- Marks, levels and the places of a trail.
-use Rattle.std.proofs.Common.{◌≡◌, refl, sym, ◌∙◌, ap, subst, ℕ, ◌+◌, ◌<◌, ◌≤◌, Bool, true, false, Some, List, [], ◌∷◌, ◌++◌, length, get_or, take, inl, inr, arith}
+use Rattle.std.proofs.Common.{◌≡◌, refl, sym, ◌∙◌, ap, subst, ℕ, ◌+◌, ◌<◌, ◌≤◌, Bool, true, false, Some, List, [], ◌∷◌, ◌++◌, length, get_or, inl, inr, arith}
 use Rattle.std.specs.Prelude.{slice_set, Contains}
-use Rattle.std.proofs.lemmas.List.{length-set, get_or-set_same, get_or-set_other, take_more, get_or_default}
+use Rattle.std.proofs.lemmas.List.{length-set, get_or-set_same, get_or-set_other, get_or_default}
 use Rattle.std.proofs.lemmas.List.Elements.{Contains-push, Contains-push_cases, Contains-append_left}
 use Rattle.std.proofs.lemmas.Bool.{cases_eq}
 use Rattle.gp_clause.specs.declared.lit.Lit.{Lit}
 use Rattle.gp_sat.specs.declared.assigned.Assigned.{Assigned}
 use Rattle.gp_sat.specs.State.{SolverForm, assigned}
 use Rattle.gp_sat.specs.Sound.{IsSound, true_lit}
-use Rattle.gp_sat.specs.Standing.{Each}
 use Rattle.gp_sat.specs.Learning.{IsHighestBelow}
 use Rattle.gp_sat.specs.Marking.{IsMarked, Marks}
 
@@ -93,23 +92,6 @@ one_at s sound v w a b va wb same =
     let there : assigned s v ≡ Some b = ap (assigned s) (sym variables) ∙ wb in
     (lits, variables, cc)
 
--- the literal of a place is that of its assignment
-pub at_place : (s : SolverForm) → IsSound s → (place : ℕ) (lit : Lit) → place < length s.trail → ((d : Lit) → get_or s.trail place d ≡ lit)
-    → (a : Assigned) × (assigned s lit.variable ≡ Some a) × (a.place ≡ place) × (true_lit lit.variable a ≡ lit)
-at_place s sound place lit within is =
-    let d : Lit = record { variable = 0; positive = false } in
-    let there : (a : Assigned) × (assigned s (get_or s.trail place d).variable ≡ Some a) × (a.place ≡ place) = sound.ordered.off_trail place d within in
-    let holds : assigned s lit.variable ≡ Some there.0 = ap (λ (l : Lit). assigned s l.variable) (sym (is d)) ∙ there.1 in
-    (there.0, holds, there.2, sym (sound.ordered.on_trail lit.variable there.0 d holds) ∙ ap (λ (p : ℕ). get_or s.trail p d) there.2 ∙ is d)
-
 -- what a read of the trail gives, at any default
 pub read_place : (s : SolverForm) (trail : List Lit) (place : ℕ) (lit : Lit) → trail ≡ s.trail → place < length s.trail → lit ≡ get_or trail place lit → (d : Lit) → get_or s.trail place d ≡ lit
 read_place s trail place lit same within is = λ d. sym (is ∙ ap (λ (t : List Lit). get_or t place lit) same ∙ get_or_default s.trail place lit d within)
-
--- one literal more of a list has a property
-pub each_more : (P : Lit → Type 0) (lits : List Lit) (i : ℕ) (d : Lit) → i < length lits → Each P (take i lits) → P (get_or lits i d) → Each P (take (i + 1) lits)
-each_more P lits i d within each here =
-    subst (λ (xs : List Lit). Each P xs) (sym (take_more lits i d within)) (λ lit is. elim (Contains-push_cases (take i lits) (get_or lits i d) lit is) [
-      | inl before ↦ each lit before
-      | inr same ↦ subst P same here
-    ])

@@ -1,41 +1,38 @@
-use Rattle.std.proofs.Common.{◌≡◌, ℕ, ◌+◌, ◌^◌, ◌<◌, ◌≤◌, ◌⊎◌, inl, inr, suc, zero, List, [], ◌∷◌, length, Some, None, ◌∙◌, arith, ℤ, pos, ◌+ℤ◌, ◌-ℤ◌, ◌≤ℤ◌, ◌<ℤ◌}
+use Rattle.std.proofs.Common.{◌≡◌, ℕ, ◌+◌, ◌^◌, ◌<◌, ◌≤◌, ◌⊎◌, inl, inr, List, length, cond, set, Some, None, ◌∙◌, arith, ℤ, pos, ◌+ℤ◌, ◌-ℤ◌, ◌≤ℤ◌, ◌<ℤ◌}
 use Rattle.std.specs.Int.{int_min}
+use Rattle.std.specs.Int.Signed.{lt_z}
 use Rattle.std.proofs.lemmas.Int.{ints, clamps, by_lt_z}
 use Rattle.std.proofs.lemmas.List.Elements.{All-from_get_or}
+use Rattle.std.proofs.lemmas.List.Sums.{count_by-le-length, sum_by-le-sum_by, sum_by-set}
 use Rattle.gp_difference.specs.Places.{place_at}
 use Rattle.gp_difference.specs.Anew.{below_count, IsNextBelow, AreSpaced, IsLevelled, AreSqueezed, KeepsLike, AreAnew}
 use Rattle.gp_difference.proofs.CountLemmas.{lt_z_true, lt_z_false}
 
-below_count_le : (places : List ℤ) (value : ℤ) → below_count places value ≤ length places
-below_count_le [] value = omega arith
-below_count_le (p ∷ ps) value =
-    let rest : below_count ps value ≤ length ps = below_count_le ps value in
-    by_lt_z p value (λ lt. rw (lt_z_true p value lt) (omega (arith, rest))) (λ ge. rw (lt_z_false p value ge) (omega (arith, rest)))
+-- whether a place counts that is below a value
+abbrev counts_below : ℤ → ℤ → ℕ
+counts_below value place = cond (lt_z place value) 1 0
 
-below_count_mono : (places : List ℤ) (next value : ℤ) → next <ℤ value → below_count places next ≤ below_count places value
-below_count_mono [] next value lt = omega arith
-below_count_mono (p ∷ ps) next value lt =
-    let rest : below_count ps next ≤ below_count ps value = below_count_mono ps next value lt in
-    by_lt_z p next
-    (λ a. rw (lt_z_true p next a, lt_z_true p value (omega (arith, ints, a, lt))) (omega (arith, rest)))
-    (λ a. by_lt_z p value
-    (λ b. rw (lt_z_false p next a, lt_z_true p value b) (omega (arith, rest)))
-    (λ b. rw (lt_z_false p next a, lt_z_false p value b) (omega (arith, rest))))
+-- a place that counts below a value counts below a higher one
+below_higher : (next value place : ℤ) → next <ℤ value → counts_below next place ≤ counts_below value place
+below_higher next value place lt =
+    by_lt_z place next
+    (λ a. rw (lt_z_true place next a, lt_z_true place value (omega (arith, ints, a, lt))) (omega arith))
+    (λ a. rw (lt_z_false place next a) (omega arith))
 
 -- fewer places are below a place that is below the value
 pub below_count_falls : (places : List ℤ) (next value : ℤ) (v : ℕ) → v < length places → place_at places v ≡ next → next <ℤ value →
     below_count places next + 1 ≤ below_count places value
-below_count_falls [] next value v v_in e lt = absurd (omega arith)
-below_count_falls (p ∷ ps) next value zero v_in e lt =
-    let rest : below_count ps next ≤ below_count ps value = below_count_mono ps next value lt in
-    rw (lt_z_false p next (omega (arith, ints, e)), lt_z_true p value (omega (arith, ints, e, lt))) (omega (arith, rest))
-below_count_falls (p ∷ ps) next value (suc v) v_in e lt =
-    let rest : below_count ps next + 1 ≤ below_count ps value = below_count_falls ps next value v (omega arith) e lt in
-    by_lt_z p next
-    (λ a. rw (lt_z_true p next a, lt_z_true p value (omega (arith, ints, a, lt))) (omega (arith, rest)))
-    (λ a. by_lt_z p value
-    (λ b. rw (lt_z_false p next a, lt_z_true p value b) (omega (arith, rest)))
-    (λ b. rw (lt_z_false p next a, lt_z_false p value b) (omega (arith, rest))))
+below_count_falls places next value v v_in e lt =
+    let place = place_at places v in
+    let rest : below_count (set places v value) next ≤ below_count (set places v value) value =
+    sum_by-le-sum_by (counts_below next) (counts_below value) (set places v value) (λ other. below_higher next value other lt) in
+    let low : below_count (set places v value) next + 0 ≡ below_count places next + 0 =
+    rw (lt_z_false place next (omega (arith, ints, e)), lt_z_false value next (omega (arith, ints, lt)))
+    at (sum_by-set (counts_below next) places v value (pos 0) v_in) in
+    let high : below_count (set places v value) value + 1 ≡ below_count places value + 0 =
+    rw (lt_z_true place value (omega (arith, ints, e, lt)), lt_z_false value value (omega (arith, ints)))
+    at (sum_by-set (counts_below value) places v value (pos 0) v_in) in
+    omega (arith, rest, low, high)
 
 -- at the top value all labels of points there are zero
 pub squeezed_first : (places labels after : List ℤ) → length labels ≡ length places → ((v : ℕ) → place_at places v ≤ℤ pos 0) →
@@ -48,7 +45,7 @@ squeezed_first places labels after size top levelled =
     record {
       size = levelled.size ∙ size;
       top = omega (arith, ints);
-      room = omega (arith, ints, below_count_le places (pos 0));
+      room = omega (arith, ints, count_by-le-length (λ place. lt_z place (pos 0)) places);
       value_top = omega (arith, ints);
       high = λ v v_in up. let b = at v v_in up in omega (arith, ints, b.1);
       near = λ v v_in up. let b = at v v_in up in inl (omega (arith, ints, b.0, b.1));

@@ -73,7 +73,7 @@ pub fallen_lowered : (p : PlacementForm) (ranks : List ℕ) (done t number : ℕ
     place_at p.labels t <ℤ place_at p.places t → x <ℤ place_at p.labels t → IsFallen (lowered p t x number) ranks done
 fallen_lowered p ranks done t number x size t_in few was free fell broken =
     let lower : x <ℤ place_at p.places t = omega (arith, ints, fell, broken) in
-    let count = still_fell p.places p.labels t x fell lower in
+    let count = still_fell p.places p.labels t x size t_in fell lower in
     let here : StandsFrom p.fallen 0 t = elim (was.listed t t_in) [
       | inl same ↦ absurd (omega (arith, ints, same, fell))
       | inr listed ↦ listed

@@ -1,14 +1,13 @@
-use Rattle.std.proofs.Common.{◌≡◌, ◌≢◌, ℕ, ◌+◌, ◌<◌, ◌≤◌, ◌⊎◌, inl, inr, List, length, get_or, set, replicate, sym, ap, subst, ◌∙◌, arith, ℤ, pos}
+use Rattle.std.proofs.Common.{◌≡◌, ℕ, ◌<◌, ◌≤◌, inl, inr, List, length, get_or, replicate, sym, ap, subst, ◌∙◌, arith, ℤ, pos}
 use Rattle.std.proofs.lemmas.Int.{ints}
 use Rattle.std.specs.List.{All}
-use Rattle.std.proofs.lemmas.Bool.{cases_eq, cases_lt}
-use Rattle.std.proofs.lemmas.List.{length-set, length-replicate, get_or-replicate, get_or_past, ext_get_or}
+use Rattle.std.proofs.lemmas.Bool.{cases_lt}
+use Rattle.std.proofs.lemmas.List.{length-replicate, get_or-replicate, get_or_past, ext_get_or}
 use Rattle.gp_clause.specs.declared.edge.Edge.{Edge}
 use Rattle.gp_difference.specs.declared.bound.Bound.{Bound}
 use Rattle.gp_difference.specs.Places.{place_at}
-use Rattle.gp_difference.specs.Placement.{PlacementForm, StandsFrom, IsUntidy, IsAtRest, ListsMoved}
+use Rattle.gp_difference.specs.Placement.{PlacementForm, IsUntidy, IsAtRest, ListsMoved}
 use Rattle.gp_difference.specs.Lower.{IsWork, IsFallen, Closing, IsLowered}
-use Rattle.gp_difference.proofs.RunLemmas.{read_set}
 
 -- after a run only the fallen points are untidy
 pub run_untidy : (bounds : List Bound) (new : Edge) (p : PlacementForm) (ranks : List ℕ) (done : ℕ) →
@@ -30,58 +29,6 @@ run_untidy bounds new p ranks done work fallen =
         )
       ];
     }
-
--- a point that stands from an index on is the one there or stands later
-stands_on : (points : List ℕ) (index v : ℕ) → StandsFrom points index v → (get_or points index 0 ≡ v) ⊎ StandsFrom points (index + 1) v
-stands_on points index v (k, le, lt, e) = elim (cases_eq k index) [
-  | inl q ↦ inl (sym (ap (λ j. get_or points j 0) q) ∙ e)
-  | inr n ↦ let far : k ≢ index = n in inr (k, omega arith, lt, e)
-]
-
--- the point at an index was tidied, and the others are as before
-tidied : (p q : PlacementForm) (index : ℕ) → IsUntidy p index → index < length p.fallen → q.fallen ≡ p.fallen → length q.places ≡ length p.places →
-    length q.labels ≡ length p.labels → length q.via ≡ length p.via → length q.falls ≡ length p.falls →
-    ((v : ℕ) → ((v ≡ get_or p.fallen index 0) × (place_at q.labels v ≡ place_at q.places v) × (place_at q.falls v ≡ pos 0))
-    ⊎ ((v ≢ get_or p.fallen index 0) × (place_at q.labels v ≡ place_at p.labels v) × (place_at q.places v ≡ place_at p.places v) × (place_at q.falls v ≡ place_at p.falls v))) →
-    IsUntidy q (index + 1)
-tidied p q index was lt list places labels via falls each =
-    record {
-      labels_size = labels ∙ was.labels_size ∙ sym places;
-      via_size = via ∙ was.via_size ∙ sym places;
-      falls_size = falls ∙ was.falls_size ∙ sym places;
-      small = subst (λ n. (k : ℕ) (d : ℕ) → k < length q.fallen → get_or q.fallen k d < n) (sym places)
-          (subst (λ (ps : List ℕ). (k : ℕ) (d : ℕ) → k < length ps → get_or ps k d < length p.places) (sym list) was.small);
-      tidy = λ v v_in. elim (each v) [
-        | inl here ↦ inr (here.1, here.2)
-        | inr far ↦ elim (was.tidy v (omega (arith, v_in, places))) [
-          | inl stands ↦ elim (stands_on p.fallen index v stands) [
-            | inl e ↦ absurd (far.0 (sym e))
-            | inr later ↦ inl (subst (λ (ps : List ℕ). StandsFrom ps (index + 1) v) (sym list) later)
-          ]
-          | inr rest ↦ inr (far.1 ∙ rest.0 ∙ sym far.2, far.3 ∙ rest.1)
-        ]
-      ];
-    }
-
--- the label at an index became the place
-pub keeps_on : (p : PlacementForm) (index : ℕ) → IsUntidy p index → index < length p.fallen →
-    IsUntidy (record p { places = set p.places (get_or p.fallen index 0) (place_at p.labels (get_or p.fallen index 0)); falls = set p.falls (get_or p.fallen index 0) (pos 0) }) (index + 1)
-keeps_on p index was lt =
-    let t = get_or p.fallen index 0 in
-    let t_in : t < length p.places = was.small index 0 lt in
-    let t_fall : t < length p.falls = omega (arith, t_in, was.falls_size) in
-    let x = place_at p.labels t in
-    tidied p (record p { places = set p.places t x; falls = set p.falls t (pos 0) }) index was lt (λ i. p.fallen) (length-set p.places t x) (λ i. length p.labels) (λ i. length p.via) (length-set p.falls t (pos 0))
-    (λ v. elim (read_set p.places t x v (pos 0) t_in) [
-      | inl h ↦ elim (read_set p.falls t (pos 0) v (pos 0) t_fall) [
-        | inl g ↦ inl (h.0, ap (place_at p.labels) h.0 ∙ sym h.1, g.1)
-        | inr g ↦ absurd (g.0 h.0)
-      ]
-      | inr h ↦ elim (read_set p.falls t (pos 0) v (pos 0) t_fall) [
-        | inl g ↦ absurd (h.0 g.0)
-        | inr g ↦ inr (h.0, (λ i. place_at p.labels v), h.1, g.1)
-      ]
-    ])
 
 -- once all fallen points are tidied the labels are the places, and no fall is kept
 tidy_labels : (p : PlacementForm) (index : ℕ) → IsUntidy p index → length p.fallen ≤ index → p.labels ≡ p.places

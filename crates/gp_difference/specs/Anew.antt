@@ -1,4 +1,4 @@
-use Rattle.std.specs.Prelude.{◌≡◌, ℕ, ◌+◌, ◌*◌, ◌<◌, ◌≤◌, ◌⊎◌, ℤ, pos, ◌+ℤ◌, ◌-ℤ◌, ◌≤ℤ◌, ◌<ℤ◌, List, [], ◌∷◌, Option, Some, None, length, cond}
+use Rattle.std.specs.Prelude.{◌≡◌, ℕ, ◌*◌, ◌<◌, ◌≤◌, ◌⊎◌, ℤ, pos, ◌+ℤ◌, ◌-ℤ◌, ◌≤ℤ◌, ◌<ℤ◌, List, Option, Some, None, length, count_by}
 use Rattle.std.specs.Int.Signed.{lt_z}
 use Rattle.gp_clause.specs.declared.edge.Edge.{Edge}
 use Rattle.gp_clause.specs.Edge.{Keeps}
@@ -6,8 +6,7 @@ use Rattle.gp_difference.specs.Places.{place_at, IsEdgeOf, AreFresh}
 
 -- how many places are below a value
 abbrev pub below_count : List ℤ → ℤ → ℕ
-below_count [] value = 0
-below_count (place ∷ places) value = cond (lt_z place value) 1 0 + below_count places value
+below_count places value = count_by (λ place. lt_z place value) places
 
 -- the highest of the first places that is below a value, if one is below it
 abbrev pub IsNextBelow : List ℤ → ℤ → ℕ → Option ℤ → Type 0

@@ -1,4 +1,4 @@
-use Rattle.std.specs.Prelude.{◌≡◌, ◌≢◌, ◌==◌, ℕ, ◌+◌, ◌*◌, ◌^◌, ◌<◌, ◌≤◌, ◌⊎◌, ℤ, pos, ◌+ℤ◌, ◌-ℤ◌, ◌≤ℤ◌, ◌<ℤ◌, Bool, true, false, Option, Some, None, List, [], ◌∷◌, length, map, cond, slice_index, slice_index_or, take, All}
+use Rattle.std.specs.Prelude.{◌≡◌, ◌≢◌, ◌==◌, ℕ, ◌+◌, ◌*◌, ◌^◌, ◌<◌, ◌≤◌, ◌⊎◌, ℤ, pos, ◌+ℤ◌, ◌-ℤ◌, ◌≤ℤ◌, ◌<ℤ◌, Bool, true, false, Option, Some, None, List, length, map, not, count_by, zip, slice_index, slice_index_or, take, All}
 use Rattle.std.specs.Int.Signed.{lt_z}
 use Rattle.gp_clause.specs.declared.edge.Edge.{Edge}
 use Rattle.gp_clause.specs.Edge.{Keeps}
@@ -59,14 +59,11 @@ pub record IsWork (bounds : List Bound) (new : Edge) (places labels : List ℤ) 
 
 -- how many points have their old place as label
 abbrev pub still_count : List ℤ → List ℤ → ℕ
-still_count [] labels = 0
-still_count (place ∷ places) [] = 0
-still_count (place ∷ places) (label ∷ labels) = cond (lt_z label place) 0 1 + still_count places labels
+still_count places labels = count_by (λ pair. not (lt_z pair.1 pair.0)) (zip places labels)
 
 -- how many points are open
 abbrev pub open_count : ℕ → List ℕ → ℕ
-open_count points [] = 0
-open_count points (rank ∷ ranks) = cond (rank == points) 1 0 + open_count points ranks
+open_count points ranks = count_by (λ rank. rank == points) ranks
 
 -- the points that fell are listed, and the falls are those of the open points
 pub record IsFallen (p : PlacementForm) (ranks : List ℕ) (done : ℕ) : Type 0 where

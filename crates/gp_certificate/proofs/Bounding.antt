@@ -1,6 +1,6 @@
 -- The loop that keeps the bounds of literals in a graph.
-use Rattle.std.proofs.Common.{◌≡◌, ℕ, ◌+◌, ◌-◌, ◌<◌, ◌≤◌, Option, None, Some, List, [], ◌∷◌, ◌++◌, length, take, drop, get_or, All, Contains, refl, ap, sym, ◌∙◌, subst, arith}
-use Rattle.std.proofs.lemmas.List.{map-append, take_more, take_all, append_assoc, append-nil, length_push, take-append-drop, get_or_default}
+use Rattle.std.proofs.Common.{◌≡◌, ℕ, ◌+◌, ◌-◌, ◌<◌, ◌≤◌, Option, None, Some, List, [], ◌∷◌, ◌++◌, length, take, drop, get_or, All, Contains, ap, sym, ◌∙◌, subst, arith}
+use Rattle.std.proofs.lemmas.List.{map-append, take_more, append_assoc, length_push, take-append-drop, get_or_default}
 use Rattle.std.proofs.lemmas.Option.{slice_get-get_or}
 use Rattle.gp_clause.specs.Clause.{NamesBelow}
 use Rattle.gp_clause.specs.Kind.{bound_of, bound_at, bound_in}
@@ -25,20 +25,6 @@ pub record IsBounded (kinds : List Kind) (lits : List Lit) (i : ℕ) (old now : 
 
 one_more : (lits : List Lit) (i : ℕ) (lit : Lit) → i < length lits → lit ≡ get_or lits i lit → take (i + 1) lits ≡ take i lits ++ lit ∷ []
 one_more lits i lit within is = take_more lits i lit within ∙ ap (λ l. take i lits ++ l ∷ []) (sym is)
-
-pub bounded_none : (kinds : List Kind) (lits : List Lit) (old : GraphForm) → old.kept ≡ [] → (HasNegativeCycle old.edges → ⊥) → IsBounded kinds lits 0 old old
-bounded_none kinds lits old none acyclic =
-    let bare : edges_of old.kept ≡ [] = ap edges_of none in
-    let zero_long : length old.kept ≡ 0 = ap (λ (bs : List Bound). length bs) none in
-    let P : List Edge → Type 0 = λ es. HasNegativeCycle es → ⊥ in
-    record {
-      points = refl;
-      edges = refl;
-      room = omega (arith, zero_long);
-      few = omega (arith, zero_long);
-      bounds = bare;
-      acyclic = subst P (sym (ap (λ es. old.edges ++ es) bare ∙ append-nil old.edges)) acyclic;
-    }
 
 pub bounded_skip : (kinds : List Kind) (lits : List Lit) (i : ℕ) (lit : Lit) (old now : GraphForm) → i < length lits → lit ≡ get_or lits i lit → bound_at kinds lit ≡ None
     → IsBounded kinds lits i old now → IsBounded kinds lits (i + 1) old now
@@ -80,12 +66,6 @@ bounded_cycle kinds lits i lit edge old now new within is some refused bounded =
     (let P : List Lit → Type 0 = λ ls. All (Contains (bounds_at kinds ls)) (bounds_at kinds (take (i + 1) lits)) in
     subst P (take-append-drop (i + 1) lits) (bounds_first kinds (take (i + 1) lits) (drop (i + 1) lits))) in
     cycle_beside old.edges (bounds_at kinds (take (i + 1) lits)) (bounds_at kinds lits) among part
-
-pub bounded_all : (kinds : List Kind) (lits : List Lit) (i : ℕ) (old now : GraphForm) → length lits ≤ i → IsBounded kinds lits i old now → HasNegativeCycle (old.edges ++ bounds_at kinds lits) → ⊥
-bounded_all kinds lits i old now end bounded cycle =
-    let same : now.edges ++ edges_of now.kept ≡ old.edges ++ bounds_at kinds lits =
-    ap (λ es. es ++ edges_of now.kept) bounded.edges ∙ ap (λ es. old.edges ++ es) (bounded.bounds ∙ ap (bounds_at kinds) (take_all i lits end)) in
-    bounded.acyclic (subst HasNegativeCycle (sym same) cycle)
 
 bound_read : (kinds : List Kind) (lit : Lit) (dk : Kind) (o : Option Edge) → lit.variable < length kinds → o ≡ bound_of (get_or kinds lit.variable dk) lit.positive → bound_at kinds lit ≡ o
 bound_read kinds lit dk o within is = ap (λ k. bound_in k lit.positive) (slice_get-get_or kinds lit.variable dk within) ∙ sym is

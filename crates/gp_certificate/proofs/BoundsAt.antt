@@ -1,19 +1,14 @@
 -- Bounds of literals beside fixed edges, and negative cycles among more edges.
-use Rattle.std.proofs.Common.{◌≡◌, ℕ, zero, suc, Bool, true, false, Option, None, Some, List, [], ◌∷◌, ◌++◌, map, All, Contains, refl, ap, ◌∙◌, subst, arith}
-use Rattle.std.proofs.lemmas.Int.{ints}
+use Rattle.std.proofs.Common.{◌≡◌, zero, suc, Option, None, Some, List, [], ◌∷◌, ◌++◌, map, All, Contains, refl, ap, ◌∙◌, arith}
 use Rattle.std.proofs.lemmas.List.{map-append, append-nil}
 use Rattle.std.proofs.lemmas.List.Elements.{All-contains, All-cons, All-append, All-weaker, Contains-append_left, Contains-append_right, All-contains_itself, filter_map-append}
-use Rattle.std.proofs.lemmas.Option.{same_Some, none-some}
 use Rattle.gp_clause.specs.declared.edge.Edge.{Edge}
 use Rattle.gp_clause.specs.declared.kind.Kind.{Kind}
-use Rattle.gp_clause.specs.declared.kind.Kind.TheVariants.{Free, Order, Span}
 use Rattle.gp_clause.specs.declared.lit.Lit.{Lit}
-use Rattle.gp_clause.specs.Kind.{bound_of, bound_at}
-use Rattle.gp_clause.specs.Problem.{IsValidKind, IsValidEdge}
+use Rattle.gp_clause.specs.Kind.{bound_at}
 use Rattle.gp_clause.specs.Walk.{IsAmong, HasNegativeCycle}
 use Rattle.gp_difference.specs.declared.bound.Bound.{Bound}
 use Rattle.gp_difference.specs.Bounds.{edges_of, untagged}
-use Rattle.gp_difference.specs.Places.{IsEdgeOf}
 use Rattle.gp_certificate.specs.Places.{bounds_at}
 use Rattle.gp_base.specs.ListLaws.{here, there}
 
@@ -38,21 +33,6 @@ untagged_edges (edge ∷ edges) = ap (λ es. edge ∷ es) (untagged_edges edges)
 
 pub whole_edges : (edges : List Edge) (kept : List Bound) → edges_of (map untagged edges ++ kept) ≡ edges ++ edges_of kept
 whole_edges edges kept = map-append (λ (b : Bound). b.edge) (map untagged edges) kept ∙ ap (λ es. es ++ edges_of kept) (untagged_edges edges)
-
--- the bound of a kind is an edge of its points
-pub edge_of_kind : (points : ℕ) (kind : Kind) (sign : Bool) (edge : Edge) → IsValidKind points kind → bound_of kind sign ≡ Some edge → IsEdgeOf points edge
-edge_of_kind points Free sign edge valid is = absurd (none-some edge is)
-edge_of_kind points (Order a b) true edge valid is =
-    subst (IsEdgeOf points) (same_Some _ edge is) (record { first = valid.0; second = valid.1; low = omega (arith, ints); high = omega (arith, ints) })
-edge_of_kind points (Order a b) false edge valid is =
-    subst (IsEdgeOf points) (same_Some _ edge is) (record { first = valid.1; second = valid.0; low = omega (arith, ints); high = omega (arith, ints) })
-edge_of_kind points (Span a b c) true edge valid is =
-    subst (IsEdgeOf points) (same_Some _ edge is) (record { first = valid.0; second = valid.1; low = omega (arith, ints, valid.2); high = omega (arith, ints, valid.2) })
-edge_of_kind points (Span a b c) false edge valid is =
-    subst (IsEdgeOf points) (same_Some _ edge is) (record { first = valid.1; second = valid.0; low = omega (arith, ints, valid.2); high = omega (arith, ints, valid.2) })
-
-pub edge_valid : (points : ℕ) (edge : Edge) → IsValidEdge points edge → IsEdgeOf points edge
-edge_valid points edge valid = record { first = valid.a; second = valid.b; low = omega (arith, ints, valid.low); high = omega (arith, ints, valid.high) }
 
 -- the bounds of one more literal
 pub bounds_none : (kinds : List Kind) (lits : List Lit) (lit : Lit) → bound_at kinds lit ≡ None → bounds_at kinds (lits ++ lit ∷ []) ≡ bounds_at kinds lits

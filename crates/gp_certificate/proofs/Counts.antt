@@ -2,57 +2,44 @@
 use Rattle.std.proofs.Common.{◌≡◌, ◌≢◌, ℕ, ◌+◌, ◌≤◌, zero, suc, Bool, true, false, not, ◌||◌, cond, None, List, [], ◌∷◌, ◌++◌, length, get_or, All, Any, Contains, ◌⊎◌, inl, inr, refl, ap, sym, ◌∙◌, subst, arith, ◌==◌, eq-eqb}
 use Rattle.std.proofs.lemmas.Bool.{false≢true}
 use Rattle.std.proofs.lemmas.List.Elements.{All-contains}
-use Rattle.std.proofs.lemmas.List.Sums.{sum_by-cons}
+use Rattle.std.proofs.lemmas.List.Folds.{Any-from_list_any, list_any-append, list_any_at}
+use Rattle.std.proofs.lemmas.List.Sums.{get_or-le-sum_by, sum_by-cons}
 use Rattle.gp_clause.specs.declared.lit.Lit.{Lit}
 use Rattle.gp_clause.specs.Clause.{NamesOnce, occurrences}
 use Rattle.gp_clause.specs.Closure.{IsTrueIn, IsFalseIn}
 use Rattle.gp_clause.specs.Lit.{lit_eq, opposite}
 use Rattle.gp_clause.specs.LitLaws.{lit_eq_decides}
 use Rattle.gp_base.specs.CountLaws.{twice_from_places}
+use Rattle.gp_base.specs.SumLaws.{count_cons}
 use Rattle.gp_certificate.specs.declared.assignment.Assignment.{Assignment}
 use Rattle.gp_certificate.specs.Assignment.{value_of, IsOpen, HasTwo, IsKept}
-use Rattle.gp_certificate.specs.Counting.{fell, spared, standing, IsCounted}
+use Rattle.gp_certificate.specs.Counting.{fell, standing, IsCounted}
 use Rattle.gp_base.specs.ListLaws.{here, there}
 use Rattle.gp_certificate.proofs.Standing.{same_or_not, some_clash, open_by_true, opposite_twice}
 
--- what fell before fell, and so did the new one
-fell_more : (fallen : List Lit) (one lit : Lit) → fell (fallen ++ one ∷ []) lit ≡ (fell fallen lit || lit_eq one (opposite lit))
-fell_more [] one lit = at (lit_eq one (opposite lit))
-  where
-    at : (b : Bool) → (b || false) ≡ (false || b)
-    at true = refl
-    at false = refl
-fell_more (other ∷ fallen) one lit = at (lit_eq other (opposite lit)) (fell (fallen ++ one ∷ []) lit) (fell fallen lit) (lit_eq one (opposite lit)) (fell_more fallen one lit)
-  where
-    at : (b x y z : Bool) → x ≡ (y || z) → (b || x) ≡ ((b || y) || z)
-    at true x y z is = refl
-    at false x y z is = is
-
 -- a literal fell exactly where its negation is among the fallen ones
 pub fell_contains : (fallen : List Lit) (lit : Lit) → fell fallen lit ≡ true → Contains fallen (opposite lit)
-fell_contains [] lit told = absurd (false≢true told)
-fell_contains (other ∷ fallen) lit told = at (lit_eq other (opposite lit)) refl told (λ later. fell_contains fallen lit later)
+fell_contains fallen lit told = at (Any-from_list_any (λ other. lit_eq other (opposite lit)) fallen told)
   where
-    at : (b : Bool) → lit_eq other (opposite lit) ≡ b → (b || fell fallen lit) ≡ true → (fell fallen lit ≡ true → Contains fallen (opposite lit)) → Contains (other ∷ fallen) (opposite lit)
-    at true is _ rest = let P : Lit → Type 0 = λ l. Contains (other ∷ fallen) l in subst P ((lit_eq_decides other (opposite lit)).0 is) (here other fallen)
-    at false is later rest = there other fallen (opposite lit) (rest later)
+    at : Any (λ other. lit_eq other (opposite lit) ≡ true) fallen → Contains fallen (opposite lit)
+    at (k, other, within, is, same) = let P : Lit → Type 0 = λ l. Contains fallen l in subst P ((lit_eq_decides other (opposite lit)).0 same) (k, within, is)
 
 pub contains_fell : (fallen : List Lit) (lit : Lit) → Contains fallen (opposite lit) → fell fallen lit ≡ true
-contains_fell [] lit (k, within, is) = absurd (omega arith)
-contains_fell (other ∷ fallen) lit (zero, within, is) = rw ((lit_eq_decides other (opposite lit)).1 is) refl
-contains_fell (other ∷ fallen) lit (suc k, within, is) = at (lit_eq other (opposite lit)) (fell fallen lit) (contains_fell fallen lit (k, omega arith, is))
-  where
-    at : (b x : Bool) → x ≡ true → (b || x) ≡ true
-    at true x is = refl
-    at false x is = is
+contains_fell fallen lit (k, within, is) =
+    list_any_at (λ other. lit_eq other (opposite lit)) fallen k (opposite lit) within ((lit_eq_decides (get_or fallen k (opposite lit)) (opposite lit)).1 is)
+
+-- one for a literal that did not fall
+abbrev spared : List Lit → Lit → ℕ
+spared fallen lit = cond (not (fell fallen lit)) 1 0
 
 standing_cons : (fallen : List Lit) (lit : Lit) (clause : List Lit) → standing fallen (lit ∷ clause) ≡ spared fallen lit + standing fallen clause
-standing_cons fallen lit clause = sum_by-cons (spared fallen) lit clause
+standing_cons fallen lit clause = count_cons (λ l. not (fell fallen l)) lit clause
 
 one_more : (fallen : List Lit) (one lit : Lit) → spared fallen lit ≤ spared (fallen ++ one ∷ []) lit + cond (lit_eq one (opposite lit)) 1 0
-one_more fallen one lit = rw (fell_more fallen one lit) (at (fell fallen lit) (lit_eq one (opposite lit)))
+one_more fallen one lit =
+    rw (list_any-append (λ other. lit_eq other (opposite lit)) fallen (one ∷ [])) (at (fell fallen lit) (lit_eq one (opposite lit)))
   where
-    at : (b c : Bool) → cond b 0 1 ≤ cond (b || c) 0 1 + cond c 1 0
+    at : (b c : Bool) → cond (not b) 1 0 ≤ cond (not (b || (c || false))) 1 0 + cond c 1 0
     at true true = omega arith
     at true false = omega arith
     at false true = omega arith
@@ -110,21 +97,18 @@ all_stand (lit ∷ clause) = omega (arith, standing_cons [] lit clause, all_stan
 
 -- a literal that did not fall counts
 one_stands : (fallen : List Lit) (clause : List Lit) (lit : Lit) → Contains clause lit → fell fallen lit ≡ false → 1 ≤ standing fallen clause
-one_stands fallen [] lit (k, within, is) stays = absurd (omega arith)
-one_stands fallen (first ∷ clause) lit (zero, within, is) stays =
-    let counts : spared fallen first ≡ 1 = ap (λ l. spared fallen l) is ∙ ap (λ b. cond b 0 1) stays in
-    omega (arith, standing_cons fallen first clause, counts)
-one_stands fallen (first ∷ clause) lit (suc k, within, is) stays =
-    omega (arith, standing_cons fallen first clause, one_stands fallen clause lit (k, omega arith, is) stays)
+one_stands fallen clause lit (k, within, is) stays =
+    let counts : spared fallen (get_or clause k lit) ≡ 1 = ap (λ l. spared fallen l) is ∙ ap (λ b. cond (not b) 1 0) stays in
+    omega (arith, counts, get_or-le-sum_by (spared fallen) clause k lit within)
 
 pub two_stand : (fallen : List Lit) (clause : List Lit) (a b : Lit) → a ≢ b → Contains clause a → Contains clause b → fell fallen a ≡ false → fell fallen b ≡ false → 2 ≤ standing fallen clause
 two_stand fallen [] a b apart (k, within, is) other stays stays_too = absurd (omega arith)
 two_stand fallen (first ∷ clause) a b apart (zero, within, is) (zero, within', is') stays stays_too = absurd (apart (sym is ∙ is'))
 two_stand fallen (first ∷ clause) a b apart (zero, within, is) (suc k, within', is') stays stays_too =
-    let counts : spared fallen first ≡ 1 = ap (λ l. spared fallen l) is ∙ ap (λ t. cond t 0 1) stays in
+    let counts : spared fallen first ≡ 1 = ap (λ l. spared fallen l) is ∙ ap (λ t. cond (not t) 1 0) stays in
     omega (arith, standing_cons fallen first clause, counts, one_stands fallen clause b (k, omega arith, is') stays_too)
 two_stand fallen (first ∷ clause) a b apart (suc k, within, is) (zero, within', is') stays stays_too =
-    let counts : spared fallen first ≡ 1 = ap (λ l. spared fallen l) is' ∙ ap (λ t. cond t 0 1) stays_too in
+    let counts : spared fallen first ≡ 1 = ap (λ l. spared fallen l) is' ∙ ap (λ t. cond (not t) 1 0) stays_too in
     omega (arith, standing_cons fallen first clause, counts, one_stands fallen clause a (k, omega arith, is) stays)
 two_stand fallen (first ∷ clause) a b apart (suc k, within, is) (suc j, within', is') stays stays_too =
     omega (arith, standing_cons fallen first clause, two_stand fallen clause a b apart (k, omega arith, is) (j, omega arith, is') stays stays_too)
@@ -137,7 +121,7 @@ stands_one fallen (first ∷ clause) some = at (fell fallen first) refl (λ rest
     at : (b : Bool) → fell fallen first ≡ b → (1 ≤ standing fallen clause → (lit : Lit) × Contains clause lit × (fell fallen lit ≡ false)) → (lit : Lit) × Contains (first ∷ clause) lit × (fell fallen lit ≡ false)
     at false is later = (first, here first clause, is)
     at true is later =
-        let none : spared fallen first ≡ 0 = ap (λ b. cond b 0 1) is in
+        let none : spared fallen first ≡ 0 = ap (λ b. cond (not b) 1 0) is in
         let rest = later (omega (arith, standing_cons fallen first clause, none, some)) in
         (rest.0, there first clause rest.0 rest.1, rest.2)
 
@@ -168,11 +152,11 @@ stand_two fallen (first ∷ clause) once some = at (fell fallen first) refl (λ 
         → (NamesOnce clause → 2 ≤ standing fallen clause → (a b : Lit) × Contains clause a × Contains clause b × (a.variable ≢ b.variable) × (fell fallen a ≡ false) × (fell fallen b ≡ false))
         → (a b : Lit) × Contains (first ∷ clause) a × Contains (first ∷ clause) b × (a.variable ≢ b.variable) × (fell fallen a ≡ false) × (fell fallen b ≡ false)
     at false is later =
-        let one : spared fallen first ≡ 1 = ap (λ b. cond b 0 1) is in
+        let one : spared fallen first ≡ 1 = ap (λ b. cond (not b) 1 0) is in
         let rest = stands_one fallen clause (omega (arith, standing_cons fallen first clause, one, some)) in
         (first, rest.0, here first clause, there first clause rest.0 rest.1, differ rest.0 rest.1, is, rest.2)
     at true is later =
-        let none : spared fallen first ≡ 0 = ap (λ b. cond b 0 1) is in
+        let none : spared fallen first ≡ 0 = ap (λ b. cond (not b) 1 0) is in
         let rest = later rest_once (omega (arith, standing_cons fallen first clause, none, some)) in
         (rest.0, rest.1, there first clause rest.0 rest.2, there first clause rest.1 rest.3, rest.4, rest.5, rest.6)
 

@@ -190,7 +190,3 @@ all_open assignment clauses left cursor kept once end counted =
     all_from_got (IsOpen assignment.values.items) clauses (λ number clause got.
     let P : List Lit → Type 0 = λ fallen. IsCounted fallen assignment.values.items clause (get_or left number 0) in
     open_counted assignment clause (get_or left number 0) kept (got_all NamesOnce clauses number clause once got) (subst P (take_all cursor assignment.trail.items end) (counted.each number clause got)))
-
--- what the trail began with is where it went on
-pub still_first : (old new : Assignment) (cursor : ℕ) → Extends old new → cursor ≤ length old.trail.items → take cursor new.trail.items ≡ take cursor old.trail.items
-still_first old new cursor extends within = ap (λ ls. take cursor ls) extends.trail.1 ∙ take-append-le cursor old.trail.items extends.trail.0 within

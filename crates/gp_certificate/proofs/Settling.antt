@@ -93,12 +93,6 @@ pub record IsClearing (old now : Assignment) (i : ℕ) : Type 0 where
   pub size : length now.values.items ≡ length old.values.items
   pub left : (lit : Lit) → IsTrueIn (value_of now.values.items) lit → (k : ℕ) × (i ≤ k) × (k < length old.trail.items) × ((get_or old.trail.items k lit).variable ≡ lit.variable)
 
-pub clearing_none : (old : Assignment) → IsKept old → IsClearing old old 0
-clearing_none old kept = record { trail = refl; size = refl; left = λ lit holds. at lit (kept.trailed lit holds) }
-  where
-    at : (lit : Lit) → Contains old.trail.items lit → (k : ℕ) × (0 ≤ k) × (k < length old.trail.items) × ((get_or old.trail.items k lit).variable ≡ lit.variable)
-    at lit (k, within, is) = (k, omega arith, within, ap (λ (l : Lit). l.variable) is)
-
 pub clearing_more : (old now new : Assignment) (i : ℕ) (d : Lit) → i < length old.trail.items → (get_or old.trail.items i d).variable < length now.values.items
     → new.values.items ≡ set now.values.items (get_or old.trail.items i d).variable None → new.trail ≡ now.trail → IsClearing old now i → IsClearing old new (i + 1)
 clearing_more old now new i d within inside values trail clearing = record {

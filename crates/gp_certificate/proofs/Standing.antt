@@ -31,14 +31,6 @@ some_clash o b some none = none-some b (sym none ∙ some)
 pub sign_clash : (o : Option Bool) (b : Bool) → o ≡ Some b → o ≡ Some (not b) → ⊥
 sign_clash o b some other = not_itself b (same_Some b (not b) (sym some ∙ other))
 
--- what holds of a literal by its value
-by_value : (P : Type 0) (o : Option Bool) (sign : Bool) → (o ≡ None → P) → (o ≡ Some sign → P) → (o ≡ Some (not sign) → P) → P
-by_value P None sign none same other = none refl
-by_value P (Some true) true none same other = same refl
-by_value P (Some true) false none same other = other refl
-by_value P (Some false) true none same other = other refl
-by_value P (Some false) false none same other = same refl
-
 -- two literals are the same, or they are not
 pub same_or_not : (P : Type 0) (a b : Lit) → (a ≡ b → P) → (a ≢ b → P) → P
 same_or_not P a b same apart = at (lit_eq a b) refl
@@ -54,33 +46,6 @@ open_by_true values clause (k, t, within, is, holds) = record {
       let apart : t ≢ lit = λ same. some_clash (value_of values t.variable) t.positive holds (ap (λ (l : Lit). value_of values l.variable) same ∙ due.unassigned) in
       sign_clash (value_of values t.variable) t.positive holds (due.others t (k, within, is) apart);
 }
-
-pub open_by_two : (values : List (Option Bool)) (clause : List Lit) (first : Lit) → Contains clause first → value_of values first.variable ≡ None
-    → Any (λ (lit : Lit). (lit ≢ first) × (value_of values lit.variable ≡ None)) clause → IsOpen values clause
-open_by_two values clause first within none (k, second, second_within, is, (apart, second_none)) = record {
-  no_false = λ all. some_clash (value_of values first.variable) (not first.positive) (All-contains (IsFalseIn (value_of values)) clause first all within) none;
-  no_due = λ lit due. same_or_not ⊥ first lit
-      (λ same. some_clash (value_of values second.variable) (not second.positive) (due.others second (k, second_within, is) (λ e. apart (e ∙ sym same))) second_none)
-      (λ other. some_clash (value_of values first.variable) (not first.positive) (due.others first within other) none);
-}
-
-pub false_by : (values : List (Option Bool)) (clause : List Lit) → (Any (IsTrueIn (value_of values)) clause → ⊥) → All (λ (lit : Lit). value_of values lit.variable ≢ None) clause
-    → All (IsFalseIn (value_of values)) clause
-false_by values clause none_true all = all_from_contains (IsFalseIn (value_of values)) clause each
-  where
-    each : (lit : Lit) → Contains clause lit → IsFalseIn (value_of values) lit
-    each lit (k, within, is) = by_value (IsFalseIn (value_of values) lit) (value_of values lit.variable) lit.positive
-        (λ none. absurd (All-contains (λ (lit : Lit). value_of values lit.variable ≢ None) clause lit all (k, within, is) none))
-        (λ holds. absurd (none_true (k, lit, within, is, holds))) (λ other. other)
-
-pub due_by : (values : List (Option Bool)) (clause : List Lit) (first : Lit) → (Any (IsTrueIn (value_of values)) clause → ⊥) → Contains clause first → value_of values first.variable ≡ None
-    → (Any (λ (lit : Lit). (lit ≢ first) × (value_of values lit.variable ≡ None)) clause → ⊥) → IsDue values clause first
-due_by values clause first none_true within none none_other = record { within = within; unassigned = none; others = each }
-  where
-    each : (lit : Lit) → Contains clause lit → lit ≢ first → IsFalseIn (value_of values) lit
-    each lit (k, inside, is) apart = by_value (IsFalseIn (value_of values) lit) (value_of values lit.variable) lit.positive
-        (λ empty. absurd (none_other (k, lit, inside, is, (apart, empty))))
-        (λ holds. absurd (none_true (k, lit, inside, is, holds))) (λ other. other)
 
 -- a literal that is true has a variable that there is
 pub true_within : (values : List (Option Bool)) (lit : Lit) → IsTrueIn (value_of values) lit → lit.variable < length values

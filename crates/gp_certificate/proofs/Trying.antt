@@ -1,5 +1,5 @@
 -- Where what is derived was made true, a negative cycle with its bounds is all that refutes.
-use Rattle.std.proofs.Common.{◌≡◌, ℕ, ◌<◌, ◌≤◌, Bool, Option, None, Some, List, ◌++◌, length, All, Contains, ◌↔◌, inl, inr, refl, ap, sym, ◌∙◌, subst, arith}
+use Rattle.std.proofs.Common.{◌≡◌, ℕ, Bool, Option, None, Some, List, ◌++◌, All, Contains, ◌↔◌, inl, inr, refl, ap, sym, ◌∙◌, subst, arith}
 use Rattle.std.specs.Prelude.{MatchBool}
 use Rattle.std.specs.List.{slice_get}
 use Rattle.gp_difference.specs.Graph.{GraphForm}
@@ -8,7 +8,6 @@ use Rattle.std.proofs.lemmas.Option.{none-some}
 use Rattle.gp_clause.specs.declared.edge.Edge.{Edge}
 use Rattle.gp_clause.specs.declared.kind.Kind.{Kind}
 use Rattle.gp_clause.specs.declared.lit.Lit.{Lit}
-use Rattle.gp_clause.specs.Clause.{NamesBelow}
 use Rattle.gp_clause.specs.Closure.{Derived, ClosureIsLeast, IsTrueIn}
 use Rattle.gp_clause.specs.Closure.Derived.{given}
 use Rattle.gp_clause.specs.Kind.{bound_of, bound_at, bound_in}
@@ -20,7 +19,7 @@ use Rattle.gp_certificate.specs.Places.{AreBare, bounds_at}
 use Rattle.gp_certificate.specs.Step.{IsDerivedBound, LeadsToConflict}
 use Rattle.gp_certificate.proofs.BoundsAt.{cycle_beside, bound_among, bounds_from}
 use Rattle.gp_base.specs.ListLaws.{all_from_contains}
-use Rattle.gp_certificate.proofs.Standing.{leaves_none, true_within}
+use Rattle.gp_certificate.proofs.Standing.{leaves_none}
 
 -- a start is on the way to its closure
 pub closing_start : (clauses : List (List Lit)) (assignment : Assignment) → IsKept assignment → IsClosing assignment.trail.items clauses assignment
@@ -29,19 +28,6 @@ closing_start clauses assignment kept = record {
   derived = all_from_contains (Derived assignment.trail.items clauses) assignment.trail.items (λ lit is. given lit is);
   starts = all_from_contains (Contains assignment.trail.items) assignment.trail.items (λ lit is. is);
 }
-
--- each literal that is true has a variable that there is, and there are no more of them than variables
-pub trail_within : (assignment : Assignment) (n : ℕ) → IsKept assignment → length assignment.values.items ≡ n → NamesBelow n assignment.trail.items
-trail_within assignment n kept size =
-    All-weaker (IsTrueIn (value_of assignment.values.items)) (λ (lit : Lit). lit.variable < n)
-    (λ lit holds. let within : lit.variable < length assignment.values.items = true_within assignment.values.items lit holds in omega (arith, within, size))
-    assignment.trail.items kept.noted
-
-pub trail_few : (assignment : Assignment) (n : ℕ) → IsKept assignment → length assignment.values.items ≡ n → length assignment.trail.items ≤ n
-trail_few assignment n kept size = omega (arith, kept.count, size)
-
-pub bare_fewer : (n m : ℕ) (places : Places) → m ≤ n → AreBare n places → AreBare m places
-bare_fewer n m places fewer bare = record { none = bare.none; room = omega (arith, fewer, bare.room); edges = bare.edges }
 
 -- what a bound of a literal is made of
 bound_parts : (P : Type 0) (kinds : List Kind) (lit : Lit) (edge : Edge) → bound_at kinds lit ≡ Some edge

@@ -1,8 +1,8 @@
 -- How many literals of a clause may still be true, counted down as the negations of literals become true.
-use Rattle.std.specs.Prelude.{ℕ, ◌≡◌, ◌⊎◌, ◌+◌, ◌*◌, ◌≤◌, Bool, false, ◌||◌, cond, List, [], ◌∷◌, ◌++◌, Option, Some, length, map, slice_get, slice_index_or, All, Any, Contains}
+use Rattle.std.specs.Prelude.{ℕ, ◌≡◌, ◌⊎◌, ◌+◌, ◌*◌, ◌≤◌, Bool, not, cond, List, [], ◌++◌, Option, Some, length, map, count_by, slice_get, slice_index_or, All, Any, Contains}
 use Rattle.std.specs.Global.{Global}
 use Rattle.std.specs.declared.vec.Vec.{Vec}
-use Rattle.std.specs.List.{sum_by}
+use Rattle.std.specs.List.{list_any}
 use Rattle.gp_clause.specs.declared.lit.Lit.{Lit}
 use Rattle.gp_clause.specs.Closure.{Conflicts, IsTrueIn}
 use Rattle.gp_clause.specs.Lit.{lit_eq, opposite}
@@ -11,16 +11,11 @@ use Rattle.gp_certificate.specs.Assignment.{value_of, IsKept, IsClosing}
 
 -- the negation of a literal is among some literals
 abbrev pub fell : List Lit → Lit → Bool
-fell [] lit = false
-fell (other ∷ fallen) lit = lit_eq other (opposite lit) || fell fallen lit
-
--- one for a literal that did not fall
-abbrev pub spared : List Lit → Lit → ℕ
-spared fallen lit = cond (fell fallen lit) 0 1
+fell fallen lit = list_any (λ other. lit_eq other (opposite lit)) fallen
 
 -- how many literals of a clause did not fall
 abbrev pub standing : List Lit → List Lit → ℕ
-standing fallen clause = sum_by (spared fallen) clause
+standing fallen clause = count_by (λ lit. not (fell fallen lit)) clause
 
 -- a clause needs no look where a literal of it is true, or where two did not fall and its count is no greater than of those
 abbrev pub IsCounted : List Lit → List (Option Bool) → List Lit → ℕ → Type 0

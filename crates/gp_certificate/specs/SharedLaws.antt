@@ -1,5 +1,5 @@
 -- The variables of a shared list that passes.
-use Rattle.std.proofs.Common.{◌+◌, ◌<◌, List, [], ◌∷◌, ◌++◌, length, get_or, All, arith}
+use Rattle.std.proofs.Common.{◌+◌, ◌<◌, List, length, get_or, All, arith}
 use Rattle.std.proofs.lemmas.List.Elements.{All-weaker}
 use Rattle.gp_clause.specs.declared.problem.Problem.{Problem}
 use Rattle.gp_clause.specs.declared.problem.Query.{Query}

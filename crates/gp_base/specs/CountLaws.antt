@@ -1,13 +1,15 @@
 -- Laws: how often a list has a number, and lists whose numbers rise.
-use Rattle.std.proofs.Common.{◌≡◌, ℕ, ◌+◌, ◌<◌, ◌≤◌, Bool, true, false, cond, nat_lt, ◌==◌, List, [], ◌∷◌, length, get_or, take, All, sum_by, count_by, MatchBool, IsPermutation, arith, zero, suc, refl, add-one}
+use Rattle.std.proofs.Common.{◌≡◌, ◌≢◌, ℕ, ◌+◌, ◌<◌, ◌≤◌, Bool, true, false, cond, nat_lt, ◌==◌, List, [], ◌∷◌, length, get_or, take, All, Contains, sum_by, count_by, MatchBool, IsPermutation, inl, inr, arith, zero, suc, refl, sym, ap, ◌∙◌, add-one}
 use native.Mathlib.Numerals.{unary_clauses}
-use Rattle.std.proofs.lemmas.Bool.{eqb-true}
+use Rattle.std.proofs.lemmas.Bool.{cases_Bool, eqb-true}
 use Rattle.std.specs.List.{AllAdjacentBelow, IsAllAdjacentAnswer}
 use Rattle.std.specs.List.Sorted.{IsNonDecreasingBy}
 use Rattle.std.proofs.lemmas.List.{get_or-take, length-take}
 use Rattle.std.proofs.lemmas.List.Sums.{sum_by-cons, sum_by-take-drop, sum_by-drop_more, get_or-le-sum_by, sum_by-le}
 use Rattle.std.proofs.lemmas.List.Sorted.{sum_by-IsPermutation}
 use Rattle.std.proofs.lemmas.Bool.Decides.{nat_tests}
+use Rattle.gp_base.specs.ListLaws.{first_or_rest, here, nothing_in, there}
+use Rattle.gp_base.specs.SumLaws.{count_cons}
 
 -- how often an element counts for a number
 abbrev counted : {X : Type 0} → (X → ℕ) → ℕ → X → ℕ
@@ -32,6 +34,49 @@ twice_from_places f xs i j d before within same =
     let at_first : counted f n (get_or (take j xs) i d) ≡ 1 = rw (get_or-take j xs i d before) (counted_one (f (get_or xs i d)) n same) in
     let at_second : counted f n (get_or xs j d) ≡ 1 = counted_one n n refl in
     omega (arith, first, at_first, at_second, sum_by-drop_more (counted f n) xs j d within, sum_by-take-drop (counted f n) xs j)
+
+-- an element that passes counts one
+passing_one : {X : Type 0} (test : X → Bool) (x y : X) → x ≡ y → test y ≡ true → ◌≡◌ {A = ℕ} (cond (test x) 1 0) 1
+passing_one test x y same passes = ap (λ z. cond {A = ℕ} (test z) 1 0) same ∙ ap (λ b. cond {A = ℕ} b 1 0) passes
+
+-- what stands in a list and passes a test counts
+pub count_one : {X : Type 0} (test : X → Bool) (xs : List X) (x : X) → Contains xs x → test x ≡ true → 1 ≤ count_by test xs
+count_one test xs x (k, within, is) passes =
+    omega (arith, passing_one test (get_or xs k x) x is passes, get_or-le-sum_by (λ y. cond (test y) 1 0) xs k x within)
+
+-- and two that differ count twice
+pub count_two : {X : Type 0} (test : X → Bool) (xs : List X) (x y : X) → x ≢ y → Contains xs x → Contains xs y → test x ≡ true → test y ≡ true → 2 ≤ count_by test xs
+count_two test [] x y apart i j passes too = absurd (nothing_in x i)
+count_two test (first ∷ xs) x y apart i j passes too =
+    let all = count_cons test first xs in
+    elim (first_or_rest first xs x i) [
+      | inl same ↦ elim (first_or_rest first xs y j) [
+        | inl other ↦ absurd (apart (sym same ∙ other))
+        | inr later ↦ omega (arith, all, passing_one test first x same passes, count_one test xs y later too)
+      ]
+      | inr later ↦ elim (first_or_rest first xs y j) [
+        | inl other ↦ omega (arith, all, passing_one test first y other too, count_one test xs x later passes)
+        | inr last ↦ omega (arith, all, count_two test xs x y apart later last passes too)
+      ]
+    ]
+
+-- where no element passes, none counts
+pub count_none : {X : Type 0} (test : X → Bool) (xs : List X) → ((x : X) → Contains xs x → test x ≡ false) → count_by test xs ≡ 0
+count_none test [] fails = refl
+count_none test (x ∷ xs) fails =
+    let none : ◌≡◌ {A = ℕ} (cond (test x) 1 0) 0 = ap (λ b. cond {A = ℕ} b 1 0) (fails x (here x xs)) in
+    omega (arith, count_cons test x xs, none, count_none test xs (λ y i. fails y (there x xs y i)))
+
+-- where something counts, an element passes
+pub count_passes : {X : Type 0} (test : X → Bool) (xs : List X) → 1 ≤ count_by test xs → (x : X) × Contains xs x × (test x ≡ true)
+count_passes test [] some = absurd (omega arith)
+count_passes test (x ∷ xs) some = elim (cases_Bool (test x)) [
+  | inl passes ↦ (x, here x xs, passes)
+  | inr fails ↦
+      let none : ◌≡◌ {A = ℕ} (cond (test x) 1 0) 0 = ap (λ b. cond {A = ℕ} b 1 0) fails in
+      let rest = count_passes test xs (omega (arith, some, count_cons test x xs, none)) in
+      (rest.0, there x xs rest.0 rest.1, rest.2)
+]
 
 -- a permutation has what passes a test as often
 pub count_permuted : {X : Type 0} (test : X → Bool) (xs others : List X) → IsPermutation xs others → count_by test others ≡ count_by test xs

@@ -1,15 +1,15 @@
 -- Counts of the literals of a clause that did not fall.
-use Rattle.std.proofs.Common.{◌≡◌, ◌≢◌, ℕ, ◌+◌, ◌≤◌, zero, suc, Bool, true, false, not, ◌||◌, cond, None, List, [], ◌∷◌, ◌++◌, length, get_or, All, Any, Contains, ◌⊎◌, inl, inr, refl, ap, sym, ◌∙◌, subst, arith, ◌==◌, eq-eqb}
-use Rattle.std.proofs.lemmas.Bool.{false≢true}
+use Rattle.std.proofs.Common.{◌≡◌, ◌≢◌, ℕ, ◌+◌, ◌≤◌, suc, Bool, true, false, not, ◌||◌, cond, None, List, [], ◌∷◌, ◌++◌, length, get_or, All, Any, Contains, ◌⊎◌, inl, inr, refl, ap, sym, ◌∙◌, subst, arith, ◌==◌, eq-eqb}
+use Rattle.std.proofs.lemmas.Bool.{false≢true, not_from_false}
 use Rattle.std.proofs.lemmas.List.Elements.{All-contains}
 use Rattle.std.proofs.lemmas.List.Folds.{Any-from_list_any, list_any-append, list_any_at}
-use Rattle.std.proofs.lemmas.List.Sums.{get_or-le-sum_by, sum_by-cons}
+use Rattle.std.proofs.lemmas.List.Sums.{sum_by-cons}
 use Rattle.gp_clause.specs.declared.lit.Lit.{Lit}
 use Rattle.gp_clause.specs.Clause.{NamesOnce, occurrences}
 use Rattle.gp_clause.specs.Closure.{IsTrueIn, IsFalseIn}
 use Rattle.gp_clause.specs.Lit.{lit_eq, opposite}
 use Rattle.gp_clause.specs.LitLaws.{lit_eq_decides}
-use Rattle.gp_base.specs.CountLaws.{twice_from_places}
+use Rattle.gp_base.specs.CountLaws.{count_passes, count_two, twice_from_places}
 use Rattle.gp_base.specs.SumLaws.{count_cons}
 use Rattle.gp_certificate.specs.declared.assignment.Assignment.{Assignment}
 use Rattle.gp_certificate.specs.Assignment.{value_of, IsOpen, HasTwo, IsKept}
@@ -95,35 +95,9 @@ pub all_stand : (clause : List Lit) → standing [] clause ≡ length clause
 all_stand [] = refl
 all_stand (lit ∷ clause) = omega (arith, standing_cons [] lit clause, all_stand clause)
 
--- a literal that did not fall counts
-one_stands : (fallen : List Lit) (clause : List Lit) (lit : Lit) → Contains clause lit → fell fallen lit ≡ false → 1 ≤ standing fallen clause
-one_stands fallen clause lit (k, within, is) stays =
-    let counts : spared fallen (get_or clause k lit) ≡ 1 = ap (λ l. spared fallen l) is ∙ ap (λ b. cond (not b) 1 0) stays in
-    omega (arith, counts, get_or-le-sum_by (spared fallen) clause k lit within)
-
-pub two_stand : (fallen : List Lit) (clause : List Lit) (a b : Lit) → a ≢ b → Contains clause a → Contains clause b → fell fallen a ≡ false → fell fallen b ≡ false → 2 ≤ standing fallen clause
-two_stand fallen [] a b apart (k, within, is) other stays stays_too = absurd (omega arith)
-two_stand fallen (first ∷ clause) a b apart (zero, within, is) (zero, within', is') stays stays_too = absurd (apart (sym is ∙ is'))
-two_stand fallen (first ∷ clause) a b apart (zero, within, is) (suc k, within', is') stays stays_too =
-    let counts : spared fallen first ≡ 1 = ap (λ l. spared fallen l) is ∙ ap (λ t. cond (not t) 1 0) stays in
-    omega (arith, standing_cons fallen first clause, counts, one_stands fallen clause b (k, omega arith, is') stays_too)
-two_stand fallen (first ∷ clause) a b apart (suc k, within, is) (zero, within', is') stays stays_too =
-    let counts : spared fallen first ≡ 1 = ap (λ l. spared fallen l) is' ∙ ap (λ t. cond (not t) 1 0) stays_too in
-    omega (arith, standing_cons fallen first clause, counts, one_stands fallen clause a (k, omega arith, is) stays)
-two_stand fallen (first ∷ clause) a b apart (suc k, within, is) (suc j, within', is') stays stays_too =
-    omega (arith, standing_cons fallen first clause, two_stand fallen clause a b apart (k, omega arith, is) (j, omega arith, is') stays stays_too)
-
--- where one counts, one stands
-stands_one : (fallen clause : List Lit) → 1 ≤ standing fallen clause → (lit : Lit) × Contains clause lit × (fell fallen lit ≡ false)
-stands_one fallen [] some = absurd (omega arith)
-stands_one fallen (first ∷ clause) some = at (fell fallen first) refl (λ rest. stands_one fallen clause rest)
-  where
-    at : (b : Bool) → fell fallen first ≡ b → (1 ≤ standing fallen clause → (lit : Lit) × Contains clause lit × (fell fallen lit ≡ false)) → (lit : Lit) × Contains (first ∷ clause) lit × (fell fallen lit ≡ false)
-    at false is later = (first, here first clause, is)
-    at true is later =
-        let none : spared fallen first ≡ 0 = ap (λ b. cond (not b) 1 0) is in
-        let rest = later (omega (arith, standing_cons fallen first clause, none, some)) in
-        (rest.0, there first clause rest.0 rest.1, rest.2)
+false_from_not : (b : Bool) → not b ≡ true → b ≡ false
+false_from_not true is = absurd (false≢true is)
+false_from_not false is = refl
 
 two_in_one : (n : ℕ) → 2 ≤ n → n ≤ 1 → ⊥
 two_in_one n more less = omega arith
@@ -153,8 +127,8 @@ stand_two fallen (first ∷ clause) once some = at (fell fallen first) refl (λ 
         → (a b : Lit) × Contains (first ∷ clause) a × Contains (first ∷ clause) b × (a.variable ≢ b.variable) × (fell fallen a ≡ false) × (fell fallen b ≡ false)
     at false is later =
         let one : spared fallen first ≡ 1 = ap (λ b. cond (not b) 1 0) is in
-        let rest = stands_one fallen clause (omega (arith, standing_cons fallen first clause, one, some)) in
-        (first, rest.0, here first clause, there first clause rest.0 rest.1, differ rest.0 rest.1, is, rest.2)
+        let rest = count_passes (λ lit. not (fell fallen lit)) clause (omega (arith, standing_cons fallen first clause, one, some)) in
+        (first, rest.0, here first clause, there first clause rest.0 rest.1, differ rest.0 rest.1, is, false_from_not (fell fallen rest.0) rest.2)
     at true is later =
         let none : spared fallen first ≡ 0 = ap (λ b. cond (not b) 1 0) is in
         let rest = later rest_once (omega (arith, standing_cons fallen first clause, none, some)) in
@@ -178,7 +152,9 @@ counted_open assignment clause fallen kept among (inl holds) = inl holds
 counted_open assignment clause fallen kept among (inr (first, within, none, (k, second, inside, is, (apart, second_none)))) =
     inr (
       omega arith,
-      two_stand fallen clause first second (λ same. apart (sym same)) within (k, inside, is) (stays assignment fallen first kept among none) (stays assignment fallen second kept among second_none),
+      count_two (λ lit. not (fell fallen lit)) clause first second (λ same. apart (sym same)) within (k, inside, is)
+          (not_from_false (fell fallen first) (stays assignment fallen first kept among none))
+          (not_from_false (fell fallen second) (stays assignment fallen second kept among second_none)),
     )
 
 -- where all that is true fell, a counted clause is open

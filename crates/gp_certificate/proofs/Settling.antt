@@ -3,14 +3,15 @@ use Rattle.std.proofs.Common.{Vec, Global, ◌≡◌, ℕ, ◌+◌, ◌<◌, ◌
 use Rattle.std.proofs.lemmas.Bool.{cases_eq, cases_lt}
 use Rattle.std.proofs.lemmas.List.{length-set, length-map, length-take, get_or-take, get_or-map, get_or-set_same, get_or-set_other, get_or_past, get_or_default}
 use Rattle.std.proofs.lemmas.List.Elements.{All-nil, All-append, All-take, All-replicate}
-use Rattle.std.proofs.lemmas.List.Sums.{sum_by-cons}
+use Rattle.std.specs.Option.{is_none}
 use Rattle.gp_clause.specs.declared.lit.Lit.{Lit}
 use Rattle.gp_clause.specs.Clause.{NamesOnce, occurrences}
 use Rattle.gp_clause.specs.Closure.{IsTrueIn}
 use Rattle.gp_clause.specs.Lit.{opposite, negations}
 use Rattle.gp_base.specs.CountLaws.{twice_from_places}
+use Rattle.gp_base.specs.SumLaws.{count_cons}
 use Rattle.gp_certificate.specs.declared.assignment.Assignment.{Assignment}
-use Rattle.gp_certificate.specs.Assignment.{value_of, spare, unassigned, IsKept}
+use Rattle.gp_certificate.specs.Assignment.{value_of, unassigned, IsKept}
 use Rattle.gp_certificate.proofs.Standing.{some_clash, true_within}
 
 -- while a start is taken, the variables to come have no value
@@ -43,7 +44,7 @@ not_yet assignment lits i d kept trail once within = at (value_of assignment.val
 all_unassigned : (values : List (Option Bool)) → ((variable : ℕ) (sign : Bool) → value_of values variable ≡ Some sign → ⊥) → unassigned values ≡ length values
 all_unassigned [] none = refl
 all_unassigned (None ∷ values) none =
-    omega (arith, sum_by-cons spare None values, all_unassigned values (λ variable sign is. none (suc variable) sign is))
+    omega (arith, count_cons is_none None values, all_unassigned values (λ variable sign is. none (suc variable) sign is))
 all_unassigned (Some sign ∷ values) none = absurd (none 0 sign refl)
 
 pub none_kept : (assignment : Assignment) → ((variable : ℕ) (sign : Bool) → value_of assignment.values.items variable ≡ Some sign → ⊥) → assignment.trail.items ≡ []

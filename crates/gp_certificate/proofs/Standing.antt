@@ -1,5 +1,6 @@
 -- How clauses stand under an assignment, and what making a literal true changes.
-use Rattle.std.proofs.Common.{◌≡◌, ◌≢◌, ℕ, ◌+◌, ◌<◌, ◌≤◌, Bool, true, false, not, Option, None, Some, List, [], ◌∷◌, ◌++◌, length, get_or, set, vec_capacity, All, Any, Contains, ◌⊎◌, inl, inr, refl, ap, sym, ◌∙◌, subst, arith}
+use Rattle.std.proofs.Common.{◌≡◌, ◌≢◌, ℕ, ◌+◌, ◌<◌, ◌≤◌, Bool, true, false, not, cond, Option, None, Some, List, [], ◌∷◌, ◌++◌, length, get_or, set, vec_capacity, All, Any, Contains, ◌⊎◌, inl, inr, refl, ap, sym, ◌∙◌, subst, arith}
+use Rattle.std.specs.Option.{is_none}
 use Rattle.std.proofs.lemmas.Bool.{cases_eq, cases_lt, false≢true}
 use Rattle.std.proofs.lemmas.List.{length-set, length_push, get_or-set_same, get_or-set_other, get_or_past}
 use Rattle.std.proofs.lemmas.List.Elements.{All-contains, All-weaker, All-push, Contains-push, Contains-append_left}
@@ -11,7 +12,7 @@ use Rattle.gp_clause.specs.Closure.Derived.{forced}
 use Rattle.gp_clause.specs.Lit.{lit_eq, opposite}
 use Rattle.gp_clause.specs.LitLaws.{lit_eq_decides}
 use Rattle.gp_certificate.specs.declared.assignment.Assignment.{Assignment}
-use Rattle.gp_certificate.specs.Assignment.{value_of, IsDue, IsOpen, spare, unassigned, IsKept, IsClosing}
+use Rattle.gp_certificate.specs.Assignment.{value_of, IsDue, IsOpen, unassigned, IsKept, IsClosing}
 use Rattle.gp_base.specs.ListLaws.{all_from_contains}
 
 not_itself : (b : Bool) → b ≡ not b → ⊥
@@ -59,8 +60,9 @@ true_within values lit holds = at (cases_lt lit.variable (length values))
 pub unassigned_less : (values : List (Option Bool)) (variable : ℕ) (sign : Bool) → variable < length values → value_of values variable ≡ None
     → unassigned (set values variable (Some sign)) + 1 ≡ unassigned values
 unassigned_less values variable sign within none =
-    let old : spare (value_of values variable) ≡ 1 = ap spare none in
-    omega (arith, sum_by-set spare values variable (Some sign) None within, old)
+    let one : Option Bool → ℕ = λ value. cond (is_none value) 1 0 in
+    let old : one (value_of values variable) ≡ 1 = ap one none in
+    omega (arith, sum_by-set one values variable (Some sign) None within, old)
 
 -- a literal that is true in more is the new one or was true before
 true_before : (values : List (Option Bool)) (lit : Lit) → lit.variable < length values → (other : Lit) → IsTrueIn (value_of (set values lit.variable (Some lit.positive))) other

@@ -1,6 +1,6 @@
 -- A partial assignment that is written down by variable, and how clauses stand under it.
-use Rattle.std.specs.Prelude.{ℕ, ◌≡◌, ◌≢◌, ◌+◌, ◌≤◌, ◌⊎◌, Bool, List, Option, None, Some, length, slice_index_or, vec_capacity, All, Any, Contains}
-use Rattle.std.specs.List.{sum_by}
+use Rattle.std.specs.Prelude.{ℕ, ◌≡◌, ◌≢◌, ◌+◌, ◌≤◌, ◌⊎◌, Bool, List, Option, None, length, count_by, slice_index_or, vec_capacity, All, Any, Contains}
+use Rattle.std.specs.Option.{is_none}
 use Rattle.gp_clause.specs.declared.lit.Lit.{Lit}
 use Rattle.gp_clause.specs.Closure.{Derived, IsTrueIn, IsFalseIn}
 use Rattle.gp_certificate.specs.declared.assignment.Assignment.{Assignment}
@@ -32,14 +32,9 @@ StandsAs values clause Open = Any (IsTrueIn (value_of values)) clause ⊎ HasTwo
 StandsAs values clause False = All (IsFalseIn (value_of values)) clause
 StandsAs values clause (Due lit) = IsDue values clause lit
 
--- one for a variable without a value
-abbrev pub spare : Option Bool → ℕ
-spare None = 1
-spare (Some value) = 0
-
 -- how many variables have no value
 abbrev pub unassigned : List (Option Bool) → ℕ
-unassigned values = sum_by spare values
+unassigned values = count_by is_none values
 
 -- the trail holds exactly the literals that are true, and has room for those to come
 pub record IsKept (assignment : Assignment) : Type 0 where

@@ -1,6 +1,6 @@
 -- The entries on which hints rest, from the last one on.
 use Rattle.std.proofs.Common.{◌≡◌, ℕ, ◌+◌, ◌-◌, ◌<◌, ◌≤◌, ◌↔◌, ◌⊎◌, inl, inr, Bool, true, false, cond, Some, List, [], ◌∷◌, ◌++◌, length, take, get_or, All, Contains, refl, sym, ◌∙◌, subst, ap, arith}
-use Rattle.std.specs.Prelude.{AllPairs, reverse, IsPermutation}
+use Rattle.std.specs.Prelude.{AllPairs, IsPermutation}
 use Rattle.std.specs.List.{slice_get}
 use Rattle.std.specs.BTreeSet.{BTreeSet, Updates}
 use Rattle.std.specs.BTreeSet as sorted
@@ -9,7 +9,7 @@ use Rattle.std.specs.Cmp.{nat_cmp_total}
 use Rattle.std.specs.Ordering.{nat_cmp}
 use Rattle.std.specs.declared.cmp.Ordering.TheVariants.{Less}
 use Rattle.std.proofs.lemmas.Cmp.{ranked}
-use Rattle.std.proofs.lemmas.List.{take_more, get_or-reverse, length-reverse}
+use Rattle.std.proofs.lemmas.List.{take_more}
 use Rattle.std.proofs.lemmas.List.Elements.{All-nil, All-contains, Contains-push, Contains-push_cases, Contains-append_left, Contains-get_or}
 use Rattle.std.proofs.lemmas.List.Sorted.{Contains-permutation, IsPermutation-sym}
 use Rattle.std.proofs.lemmas.List.Quantifiers.{all_pairs_push}
@@ -202,14 +202,6 @@ descended_all bases log hints bound places todo empty old place (through p other
 -- the numbers that come before the last one in a set are below it
 pub below_last : (rest : List ℕ) (place : ℕ) → All (λ q. nat_cmp q place ≡ Less) rest → (q : ℕ) → Contains rest q → q < place
 below_last rest place all q is = ranked q place Less (sym (All-contains (λ x. nat_cmp x place ≡ Less) rest q all is))
-
--- what falls rises from the other end
-pub turned_rises : (xs : List ℕ) → AllPairs (λ (a b : ℕ). b < a) xs → AllPairs (λ (a b : ℕ). a < b) (reverse xs)
-turned_rises xs falls = λ i j d before within.
-    let size : length (reverse xs) ≡ length xs = length-reverse xs in
-    let first : get_or (reverse xs) i d ≡ get_or xs (length xs - 1 - i) d = get_or-reverse xs i d (omega (arith, before, within, size)) in
-    let second : get_or (reverse xs) j d ≡ get_or xs (length xs - 1 - j) d = get_or-reverse xs j d (omega (arith, within, size)) in
-    omega (arith, first, second, falls (length xs - 1 - j) (length xs - 1 - i) d (omega (arith, before, within, size)) (omega (arith, before, within, size)))
 
 -- what is told of each element is told in another order
 pub told_in_order : (P : ℕ → Type 0) (xs ys : List ℕ) → IsPermutation xs ys → ((place : ℕ) → Contains xs place ↔ P place) → (place : ℕ) → Contains ys place ↔ P place

@@ -119,17 +119,6 @@ pub record IsDraft (bases : ℕ) (kept : ℕ → Bool) (log : List LogEntry) (pl
   pub before : (k : ℕ) → k < i → get_or places k 0 < from
   pub after : (k : ℕ) → i ≤ k → k < length places → from ≤ get_or places k 0
 
-pub draft_none : (bases : ℕ) (kept : ℕ → Bool) (log : List LogEntry) (places : List ℕ) (steps : List Step) (numbers : List ℕ) → steps ≡ [] → numbers ≡ [] → IsDraft bases kept log places 0 steps numbers
-draft_none bases kept log places steps numbers no_steps no_numbers = record {
-  from = 0;
-  inside = omega arith;
-  steps_are = no_steps;
-  size = ap (λ (xs : List ℕ). length xs) no_numbers;
-  each = λ k below. absurd (omega (arith, below));
-  before = λ k below. absurd (omega (arith, below));
-  after = λ k least below. omega arith;
-}
-
 -- up to the next place nothing is kept
 draft_gap : (bases : ℕ) (kept : ℕ → Bool) (log : List LogEntry) (places : List ℕ) (i : ℕ) (steps : List Step) (numbers : List ℕ) → AreKept kept log places → i < length places → IsDraft bases kept log places i steps numbers
     → steps ≡ cone_steps bases kept log (get_or places i 0)

@@ -1,6 +1,6 @@
 -- A greedy walk over the literals of a clause, which leaves out what can be left out.
 use Rattle.std.proofs.Common.{◌≡◌, ◌≢◌, ℕ, ◌+◌, ◌-◌, ◌<◌, ◌≤◌, zero, suc, Bool, true, false, not, cond, ◌==◌, List, [], ◌∷◌, length, get_or, All, Contains, ◌⊎◌, inl, inr, refl, ap, sym, ◌∙◌, subst, arith, IsPermutation}
-use Rattle.std.specs.List.{filter, remove, insert}
+use Rattle.std.specs.List.{filter, remove}
 use Rattle.std.proofs.lemmas.Bool.{cases_eq, cases_lt, false≢true}
 use Rattle.std.proofs.lemmas.List.{get_or_default}
 use Rattle.std.proofs.lemmas.List.Edits.{length-remove, get_or-remove_below, get_or-remove_above}
@@ -17,12 +17,6 @@ use Rattle.gp_certificate.specs.Step.{Passes}
 use Rattle.gp_derivation.specs.Tight.{IsTight, left_out}
 use Rattle.gp_base.specs.ListLaws.{all_from_contains, there}
 use Rattle.gp_certificate.specs.PassingLaws.{more_pass}
-
--- what was taken out and put back
-pub put_back : {X : Type 0} (xs : List X) (i : ℕ) (x : X) → i < length xs → x ≡ get_or xs i x → insert (remove xs i) i x ≡ xs
-put_back [] i x within is = absurd (omega arith)
-put_back (y ∷ xs) zero x within is = ap (λ z. z ∷ xs) is
-put_back (y ∷ xs) (suc i) x within is = ap (λ zs. y ∷ zs) (put_back xs i x (omega arith) is)
 
 -- what passes a test stays
 filter_contains : {X : Type 0} (test : X → Bool) (xs : List X) (x : X) → Contains xs x → test x ≡ true → Contains (filter test xs) x

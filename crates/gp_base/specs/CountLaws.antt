@@ -67,6 +67,12 @@ count_none test (x ∷ xs) fails =
     let none : ◌≡◌ {A = ℕ} (cond (test x) 1 0) 0 = ap (λ b. cond {A = ℕ} b 1 0) (fails x (here x xs)) in
     omega (arith, count_cons test x xs, none, count_none test xs (λ y i. fails y (there x xs y i)))
 
+-- where each element passes, all count
+pub count_all : {X : Type 0} (test : X → Bool) (xs : List X) → ((x : X) → Contains xs x → test x ≡ true) → count_by test xs ≡ length xs
+count_all test [] passes = refl
+count_all test (x ∷ xs) passes =
+    omega (arith, count_cons test x xs, passing_one test x x refl (passes x (here x xs)), count_all test xs (λ y i. passes y (there x xs y i)))
+
 -- where something counts, an element passes
 pub count_passes : {X : Type 0} (test : X → Bool) (xs : List X) → 1 ≤ count_by test xs → (x : X) × Contains xs x × (test x ≡ true)
 count_passes test [] some = absurd (omega arith)

@@ -1,11 +1,12 @@
-use Rattle.std.specs.Prelude.{◌≡◌, Bool, true, false, not, ◌&&◌, refl, List}
+use Rattle.std.specs.Prelude.{◌≡◌, ◌≢◌, ◌⊎◌, Bool, true, false, not, ◌&&◌, refl, List}
 use Rattle.std.specs.Bool.{Decides}
 use Rattle.std.specs.Cmp.{IsEquivalence, decided, unsigned_Decides}
 use Rattle.std.specs.Cmp.Lexicographic.{pointwise, pointwise_decides, lists_equiv}
-use Rattle.std.proofs.Common.{sym, ap}
+use Rattle.std.proofs.Common.{sym, ap, ◌∙◌, inl, inr}
+use Rattle.std.proofs.Math.Bool.{not-not}
 use Rattle.std.proofs.lemmas.Bool.{false≢true}
 use Rattle.gp_clause.specs.declared.lit.Lit.{Lit}
-use Rattle.gp_clause.specs.Lit.{lit_eq, same_sign}
+use Rattle.gp_clause.specs.Lit.{lit_eq, opposite, same_sign}
 
 signs_same : (a b : Bool) → Decides (same_sign a b) (a ≡ b)
 signs_same true true = (λ _. refl, λ _. refl)
@@ -17,7 +18,8 @@ both_true : (a b : Bool) → (a && b) ≡ true → (a ≡ true) × (b ≡ true)
 both_true true b h = (refl, h)
 both_true false b h = absurd (false≢true h)
 
-lits_same : (a b : Lit) → a.variable ≡ b.variable → a.positive ≡ b.positive → a ≡ b
+-- two literals of one variable and of one sign are the same
+pub lits_same : (a b : Lit) → a.variable ≡ b.variable → a.positive ≡ b.positive → a ≡ b
 lits_same a b variables signs = λ i. record { variable = variables i; positive = signs i }
 
 -- the test of literals tells which are the same
@@ -41,3 +43,15 @@ lits_equivalence = lists_equiv (decided lit_eq lit_eq_decides)
 pub not_both : (sign : Bool) → sign ≡ not sign → ⊥
 not_both true e = cc
 not_both false e = cc
+
+-- the negation of the negation is the literal
+pub opposite_twice : (lit : Lit) → opposite (opposite lit) ≡ lit
+opposite_twice lit = λ i. record { variable = lit.variable; positive = not-not lit.positive i }
+
+-- two literals are the same, or they differ
+pub lits_cases : (a b : Lit) → (a ≡ b) ⊎ (a ≢ b)
+lits_cases a b = at (lit_eq a b) refl
+  where
+    at : (same : Bool) → lit_eq a b ≡ same → (a ≡ b) ⊎ (a ≢ b)
+    at true is = inl ((lit_eq_decides a b).0 is)
+    at false is = inr (λ e. let clash : false ≡ true = sym is ∙ (lit_eq_decides a b).1 e in false≢true clash)

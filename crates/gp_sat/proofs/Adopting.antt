@@ -24,10 +24,10 @@ use Rattle.gp_sat.specs.Choosing.{IsHighest, IsOpen, Holds, IsMore, IsShorter, l
 use Rattle.gp_sat.proofs.Linking.{put_here, put_other, pushed, pushed_cases}
 use Rattle.gp_sat.proofs.Relinking.{code_not_work, code_below, partner_back, partner_within}
 use Rattle.gp_sat.proofs.Watched.{watched_more}
-use Rattle.gp_sat.proofs.Stepping.{safe_open, true_not_false}
+use Rattle.gp_sat.proofs.Stepping.{safe_open}
 use Rattle.gp_sat.proofs.Choosing.{unit_safe, lone_settled}
 use Rattle.gp_sat.proofs.Shorts.{looked_over, looked_dropped, looked_passed}
-use Rattle.gp_sat.specs.SolverLaws.{added, adds_literal, added_stays}
+use Rattle.gp_sat.specs.SolverLaws.{added, added_stays, adds_literal, true_not_false}
 
 -- a literal is forced between walks
 pub idle_more : (s t : SolverForm) (w : WatchesForm) (lit : Lit) (reason : Option ℕ) → t ≡ with_literal s lit s.level reason → IsSound t → lit.variable < length s.values → assigned s lit.variable ≡ None

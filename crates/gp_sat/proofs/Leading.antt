@@ -14,8 +14,9 @@ use Rattle.gp_sat.specs.Learning.{IsBelowLevel, LeadsTo, IsUniquePoint, HasPrese
 use Rattle.gp_sat.specs.Learning.LeadsTo.{in_conflict, in_reason}
 use Rattle.gp_sat.specs.Marking.{IsMarked, HasMarked, IsLowest, IsLower, IsLowestOf, GoesOn, Marks}
 use Rattle.gp_sat.specs.Walking.{IsWalked, IsStopped, IsSearched}
-use Rattle.gp_sat.proofs.Marked.{one_at, none_in_nil}
+use Rattle.gp_sat.proofs.Marked.{one_at}
 use Rattle.gp_sat.proofs.Visiting.{Stands, before_or_here, walked_down}
+use Rattle.gp_base.specs.ListLaws.{nothing_in}
 
 -- one assignment at most is of a variable
 one_value : (s : SolverForm) (v : ℕ) (a b : Assigned) → assigned s v ≡ Some a → assigned s v ≡ Some b → a ≡ b
@@ -147,7 +148,7 @@ lowest_tells s marks lowest place within old = (
 )
 
 pub lowest_none : (s : SolverForm) (lowest : ℕ) → IsLowestOf s [] lowest lowest
-lowest_none s lowest = record { below = omega arith; least_of = λ lit a among. absurd (none_in_nil lit among); reached = inl refl }
+lowest_none s lowest = record { below = omega arith; least_of = λ lit a among. absurd (nothing_in lit among); reached = inl refl }
 
 pub lowest_more : (s : SolverForm) (lits : List Lit) (lit : Lit) (lowest mid least : ℕ) → IsLowestOf s lits lowest mid → IsLower s lit mid least → IsLowestOf s (lits ++ lit ∷ []) lowest least
 lowest_more s lits lit lowest mid least old lower = record {

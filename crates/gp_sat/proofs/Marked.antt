@@ -1,6 +1,6 @@
 -- Marks, levels and the places of a trail.
-use Rattle.std.proofs.Common.{◌≡◌, refl, sym, ◌∙◌, ap, subst, ℕ, ◌+◌, ◌<◌, ◌≤◌, Bool, true, false, Some, List, [], ◌∷◌, ◌++◌, length, get_or, inl, inr, arith}
-use Rattle.std.specs.Prelude.{slice_set, Contains}
+use Rattle.std.proofs.Common.{◌≡◌, refl, sym, ◌∙◌, ap, subst, ℕ, ◌<◌, ◌≤◌, Bool, true, false, Some, List, [], ◌∷◌, ◌++◌, length, get_or, inl, inr, arith}
+use Rattle.std.specs.Prelude.{slice_set}
 use Rattle.std.proofs.lemmas.List.{length-set, get_or-set_same, get_or-set_other, get_or_default}
 use Rattle.std.proofs.lemmas.List.Elements.{Contains-push, Contains-push_cases, Contains-append_left}
 use Rattle.std.proofs.lemmas.Bool.{cases_eq}
@@ -10,17 +10,14 @@ use Rattle.gp_sat.specs.State.{SolverForm, assigned}
 use Rattle.gp_sat.specs.Sound.{IsSound, true_lit}
 use Rattle.gp_sat.specs.Learning.{IsHighestBelow}
 use Rattle.gp_sat.specs.Marking.{IsMarked, Marks}
-
--- the empty list has no element
-pub none_in_nil : (lit : Lit) → Contains [] lit → ⊥
-none_in_nil lit (k, below, is) = omega (arith, below)
+use Rattle.gp_base.specs.ListLaws.{nothing_in}
 
 -- nothing is marked
 pub marks_none : (marks : List Bool) → Marks marks marks []
 marks_none marks = record {
   size = refl;
   kept = λ v is. is;
-  all = λ lit is. absurd (none_in_nil lit is);
+  all = λ lit is. absurd (nothing_in lit is);
   only = λ v is. inl is;
 }
 
@@ -47,13 +44,6 @@ marks_more old new lits lit within marks = record {
       | inl same ↦ subst (λ (n : ℕ). IsMarked (slice_set new lit.variable true) n) (sym same) (get_or-set_same new lit.variable true false within)
       | inr differ ↦ get_or-set_other new lit.variable v true false differ ∙ is
     ]
-
--- the level of no literal
-pub highest_none : (s : SolverForm) → IsHighestBelow s [] 0
-highest_none s = record {
-  highest = λ lit a is _ _. absurd (none_in_nil lit is);
-  reached = inl refl;
-}
 
 -- a literal of a higher level
 pub highest_new : (s : SolverForm) (lits : List Lit) (lit : Lit) (level : ℕ) (a : Assigned) → assigned s lit.variable ≡ Some a → level < a.level → a.level < s.level

@@ -1,7 +1,6 @@
 -- The clause of a finished walk follows from its hints and the conflict.
-use Rattle.std.proofs.Common.{◌≡◌, refl, ◌∙◌, ap, subst, ℕ, ◌+◌, ◌<◌, Bool, true, false, zero, suc, Some, List, [], ◌∷◌, map, inl, inr, not, arith}
+use Rattle.std.proofs.Common.{◌≡◌, refl, ap, subst, ℕ, ◌+◌, ◌<◌, Bool, zero, suc, Some, List, [], ◌∷◌, inl, inr, arith}
 use Rattle.std.specs.Prelude.{Contains, IsPermutation}
-use Rattle.std.proofs.lemmas.List.{length-map, get_or-map}
 use Rattle.std.proofs.lemmas.List.Sorted.{Contains-permutation, IsPermutation-sym}
 use Rattle.gp_clause.specs.declared.lit.Lit.{Lit}
 use Rattle.gp_clause.specs.Lit.{opposite, negations}
@@ -16,24 +15,8 @@ use Rattle.gp_sat.specs.Sound.{IsSound, true_lit}
 use Rattle.gp_sat.specs.Learning.{hinted, IsLearned, HasOnePresent, IsHighestBelow, IsDecided, IsUniquePoint, HasPresentFrom}
 use Rattle.gp_sat.specs.Marking.{IsMarked}
 use Rattle.gp_sat.specs.Walking.{IsStopped, IsWalked, IsSearched}
-
--- the image of an element is an element of the images
-contains_map : {X Y : Type 0} (f : X → Y) (xs : List X) (x : X) → Contains xs x → Contains (map f xs) (f x)
-contains_map f xs x (k, below, is) = (k, omega (arith, below, length-map xs f), get_or-map f xs k x (f x) below ∙ ap f is)
-
-contains_first : {X : Type 0} (x : X) (xs : List X) → Contains (x ∷ xs) x
-contains_first x xs = (0, omega arith, refl)
-
-contains_later : {X : Type 0} (x : X) (xs : List X) (y : X) → Contains xs y → Contains (x ∷ xs) y
-contains_later x xs y (k, below, is) = (suc k, omega (arith, below), is)
-
-not_not : (b : Bool) → not (not b) ≡ b
-not_not true = refl
-not_not false = refl
-
--- twice the negation of a literal is the literal
-opposite_twice : (lit : Lit) → opposite (opposite lit) ≡ lit
-opposite_twice lit = λ i. record { variable = lit.variable; positive = not_not lit.positive i }
+use Rattle.gp_base.specs.ListLaws.{contains_map, here, there}
+use Rattle.gp_clause.specs.LitLaws.{opposite_twice}
 
 -- each marked literal of the trail is derived
 derives : (s : SolverForm) (stop : Stop) (conflict clause : List Lit) (marks : List Bool) (lits : List Lit) (hints : List ℕ) → IsSound s → IsWalked s stop 0 marks lits hints
@@ -46,7 +29,7 @@ derives s stop conflict clause marks lits hints sound walked among (suc bound) v
   | inr followed ↦
       let forcing : IsForcing (assigned s) (clause_at s.clauses followed.number) (true_lit v a) a.place = (sound.explained.forced v a followed.number is followed.reason).1 in
       forced (clause_at s.clauses followed.number) (true_lit v a)
-      (contains_later conflict (hinted s hints) (clause_at s.clauses followed.number) (contains_map (clause_at s.clauses) hints followed.number followed.hint))
+      (there conflict (hinted s hints) (clause_at s.clauses followed.number) (contains_map (clause_at s.clauses) hints followed.number followed.hint))
       forcing.within
       (λ other within apart.
       let fell : IsFalseBefore a.place (assigned s) other = forcing.others other within apart in
@@ -60,7 +43,7 @@ pub learned : (s : SolverForm) (stop : Stop) (conflict clause : List Lit) (marks
 learned s stop conflict clause marks lits hints sound walked all_false started sorted = record {
   passes = (
     conflict,
-    contains_first conflict (hinted s hints),
+    here conflict (hinted s hints),
     λ lit is.
         let fell : IsFalse (assigned s) lit = all_false lit is in
         subst (λ (l : Lit). Derived (negations clause) (conflict ∷ hinted s hints) l) (λ i. record { variable = lit.variable; positive = fell.2 i })
@@ -104,7 +87,7 @@ decided s clause marks lits hints walked sorted = λ lit is.
 pub none_decided : (s : SolverForm) (clause : List Lit) → IsSound s → s.level ≡ 0 → Each (IsDecided s) clause → clause ≡ []
 none_decided s [] sound bottom all = refl
 none_decided s (lit ∷ clause) sound bottom all =
-    let first : IsDecided s lit = all lit (contains_first lit clause) in
+    let first : IsDecided s lit = all lit (here lit clause) in
     absurd (omega (arith, bottom, (sound.explained.first lit.variable first.0 first.1 first.2).0, (sound.ordered.present lit.variable first.0 first.1).0))
 
 -- the first unique implication point is the same in another order

@@ -14,7 +14,8 @@ use Rattle.gp_sat.specs.State.{SolverForm, assigned}
 use Rattle.gp_sat.specs.Sound.{IsSound}
 use Rattle.gp_sat.specs.Marking.{IsMarked, Marks}
 use Rattle.gp_sat.specs.Queueing.{AreListed, AreQueued, IsAdded, IsMarkedAt}
-use Rattle.gp_sat.proofs.Marked.{one_at, none_in_nil, marks_more}
+use Rattle.gp_sat.proofs.Marked.{one_at, marks_more}
+use Rattle.gp_base.specs.ListLaws.{nothing_in}
 
 -- one, where a number is a place
 abbrev one_at_place : ℕ → ℕ → ℕ
@@ -118,7 +119,7 @@ added_marks old new before after lit place within (inl was) = record {
   size = ap (λ (ms : List Bool). length ms) was.1;
   kept = λ v is. subst (λ (ms : List Bool). IsMarked ms v) (sym was.1) is;
   all = λ other is. elim (Contains-push_cases [] lit other is) [
-    | inl none ↦ absurd (none_in_nil other none)
+    | inl none ↦ absurd (nothing_in other none)
     | inr here ↦ subst (λ (ms : List Bool). IsMarked ms other.variable) (sym was.1) (subst (λ (l : Lit). IsMarked old l.variable) here was.0)
   ];
   only = λ v is. inl (subst (λ (ms : List Bool). IsMarked ms v) was.1 is);
@@ -126,7 +127,7 @@ added_marks old new before after lit place within (inl was) = record {
 added_marks old new before after lit place within (inr more) = subst (λ (ms : List Bool). Marks old ms (lit ∷ [])) (sym more.1) (marks_more old old [] lit within (record {
   size = refl;
   kept = λ v is. is;
-  all = λ other is. absurd (none_in_nil other is);
+  all = λ other is. absurd (nothing_in other is);
   only = λ v is. inl is;
 }))
 
@@ -159,7 +160,7 @@ marks_join old mid new lits lit first next = record {
       | inr there ↦ inr (there.0, Contains-append_left lits (lit ∷ []) there.0 there.1, there.2)
     ]
     | inr there ↦ elim (Contains-push_cases [] lit there.0 there.1) [
-      | inl none ↦ absurd (none_in_nil there.0 none)
+      | inl none ↦ absurd (nothing_in there.0 none)
       | inr here ↦ inr (lit, Contains-push lits lit, ap (λ (l : Lit). l.variable) here ∙ there.2)
     ]
   ];

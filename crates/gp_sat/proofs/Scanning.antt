@@ -1,11 +1,12 @@
 -- What a look at a clause finds.
-use Rattle.std.proofs.Common.{◌≡◌, ◌≢◌, sym, ◌∙◌, ap, Bool, true, false, Some, None, List, ◌⊎◌, inl, inr, not, arith}
+use Rattle.std.proofs.Common.{◌≡◌, ◌≢◌, sym, ◌∙◌, ap, Some, None, List, ◌⊎◌, inl, inr, arith}
 use Rattle.gp_clause.specs.declared.lit.Lit.{Lit}
 use Rattle.gp_sat.specs.declared.assigned.Assigned.{Assigned}
 use Rattle.gp_sat.specs.State.{SolverForm, assigned}
 use Rattle.gp_sat.specs.Standing.{IsFalseTo, IsQuiet}
 use Rattle.gp_sat.specs.Sound.{IsSound}
 use Rattle.gp_sat.specs.Looking.{HasTrue, HasTwoFree}
+use Rattle.gp_clause.specs.LitLaws.{not_both}
 
 -- a clause with a true literal is quiet
 quiet_true : (s : SolverForm) (clause : List Lit) → IsSound s → HasTrue (assigned s) clause → IsQuiet s.level (assigned s) clause
@@ -18,10 +19,6 @@ quiet_true s clause sound (lit, within, (a, is, sign)) = record {
       not_false_lit (others lit within apart);
 }
   where
-    not_both : (b : Bool) → b ≡ not b → ⊥
-    not_both true e = cc
-    not_both false e = cc
-
     not_false_lit : IsFalseTo s.level (assigned s) lit → ⊥
     not_false_lit (b, is_b, opposite, _) =
         let same : b ≡ a = cc in

@@ -1,6 +1,5 @@
 -- The start of a walk at the end of the trail.
 use Rattle.std.proofs.Common.{◌≡◌, refl, sym, ◌∙◌, ap, ℕ, ◌<◌, Bool, List, [], length, inl, inr, arith}
-use Rattle.std.specs.Prelude.{Contains}
 use Rattle.gp_clause.specs.declared.lit.Lit.{Lit}
 use Rattle.gp_sat.specs.declared.analysis.Stop.{Stop}
 use Rattle.gp_sat.specs.declared.analysis.Stop.TheVariants.{FirstPoint}
@@ -11,10 +10,7 @@ use Rattle.gp_sat.specs.Sound.{IsSound}
 use Rattle.gp_sat.specs.Changes.{HasPresent}
 use Rattle.gp_sat.specs.Marking.{IsMarked, Marks}
 use Rattle.gp_sat.specs.Walking.{IsWalked}
-use Rattle.gp_sat.proofs.Marked.{none_in_nil}
-
-none_number : (n : ℕ) → Contains {X = ℕ} [] n → ⊥
-none_number n (k, below, is) = omega (arith, below)
+use Rattle.gp_base.specs.ListLaws.{nothing_in}
 
 -- only the variables of the conflict are marked at the start
 pub walk_start : (s : SolverForm) (stop : Stop) (conflict : List Lit) (old marks : List Bool) → IsSound s → length old ≡ length s.values → ((v : ℕ) → IsMarked old v → ⊥) → Marks old marks conflict
@@ -26,8 +22,8 @@ walk_start s stop conflict old marks sound size blank started all_false present 
     | inr there ↦ let fell : IsFalse (assigned s) there.0 = all_false there.0 there.1 in (fell.0, ap (assigned s) (sym there.2) ∙ fell.1)
   ];
   handled = λ v a is _ past. absurd (omega (arith, past, sound.ordered.within v a is));
-  reasons = λ n is. absurd (none_number n is);
-  stopped = λ lit is. absurd (none_in_nil lit is);
+  reasons = λ n is. absurd (nothing_in n is);
+  stopped = λ lit is. absurd (nothing_in lit is);
   once = λ v. omega arith;
   absent = λ v _. refl;
   pointing = λ first.
@@ -46,6 +42,6 @@ walk_start s stop conflict old marks sound size blank started all_false present 
             present = there.2.2;
           },
         ),
-        λ lit is. absurd (none_in_nil lit is),
+        λ lit is. absurd (nothing_in lit is),
       );
 }

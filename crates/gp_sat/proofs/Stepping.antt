@@ -1,5 +1,5 @@
 -- One step of the walk along the slots that watch a literal which fell.
-use Rattle.std.proofs.Common.{◌≡◌, ◌≢◌, refl, sym, ◌∙◌, ap, subst, ℕ, ◌+◌, ◌-◌, ◌<◌, ◌≤◌, Bool, true, false, not, Option, Some, None, List, [], ◌∷◌, length, get_or, ◌⊎◌, inl, inr, arith}
+use Rattle.std.proofs.Common.{◌≡◌, ◌≢◌, refl, sym, ◌∙◌, ap, subst, ℕ, ◌+◌, ◌-◌, ◌<◌, ◌≤◌, false, Option, Some, None, List, [], ◌∷◌, length, get_or, inl, inr, arith}
 use Rattle.std.specs.Prelude.{Contains}
 use Rattle.std.proofs.lemmas.Bool.{cases_eq}
 use Rattle.std.proofs.lemmas.List.{get_or-set_same, get_or-set_other, length-set, length_push}
@@ -19,8 +19,9 @@ use Rattle.gp_sat.specs.Stepping.{IsPick, HasFallen, IsWalking, IsReturning, Goe
 use Rattle.gp_sat.proofs.Lengths.{once_few, steps_is}
 use Rattle.gp_sat.proofs.Watched.{watched_more}
 use Rattle.gp_sat.proofs.Linking.{put_here}
-use Rattle.gp_sat.proofs.Relinking.{chain_first, same_partner, partner_within, taken, at_front, dropped, relinked, relisted, work_left, rewatched, code_not_work, code_same, code_below, partner_back}
-use Rattle.gp_sat.specs.SolverLaws.{within_values, added, adds_literal, added_stays}
+use Rattle.gp_sat.proofs.Relinking.{chain_first, same_partner, partner_within, taken, at_front, dropped, relinked, relisted, work_left, rewatched, code_not_work, code_below, partner_back}
+use Rattle.gp_sat.specs.SolverLaws.{added, added_stays, adds_literal, true_not_false, within_values}
+use Rattle.gp_clause.specs.LitLaws.{lits_cases}
 
 -- a fallen literal is false, at the present level
 fell_once : (s : SolverForm) (cursor : ℕ) (fallen : Lit) (a : Assigned) → HasFallen s cursor fallen → assigned s fallen.variable ≡ Some a → (a.level ≡ s.level) × (a.place + 1 ≡ cursor)
@@ -28,16 +29,6 @@ fell_once s cursor fallen a fell is =
     let there : assigned s fallen.variable ≡ Some fell.value = fell.is in
     let same : fell.value ≡ a = cc in
     (ap (λ (x : Assigned). x.level) (sym same) ∙ fell.present, ap (λ (x : Assigned). x.place + 1) (sym same) ∙ fell.there)
-
-not_both : (b : Bool) → b ≡ not b → ⊥
-not_both true e = cc
-not_both false e = cc
-
--- no literal is true and false
-pub true_not_false : (values : ℕ → Option Assigned) (lit : Lit) → IsTrueLit values lit → IsFalse values lit → ⊥
-true_not_false values lit (a, is, sign) (b, there, opposite) =
-    let same : a ≡ b = cc in
-    not_both lit.positive (sym sign ∙ ap (λ (x : Assigned). x.positive) same ∙ opposite)
 
 -- where the other literal is true, the pair of a fallen literal is safe
 pub safe_true : (s : SolverForm) (cursor : ℕ) (fallen other : Lit) → IsSound s → HasFallen s cursor fallen → IsTrueLit (assigned s) other
@@ -282,16 +273,9 @@ is_unit s w fallen x number y walking first partners attached free others =
       others = others;
     }
 
--- two literals are the same or not
-pub lit_cases : (p q : Lit) → (p ≡ q) ⊎ (p ≢ q)
-lit_cases p q = elim (cases_eq (code p) (code q)) [
-  | inl same ↦ inl (code_same p q same)
-  | inr differ ↦ inr (λ e. differ (ap code e))
-]
-
 -- a clause of which one literal and all others are false is false
 pub all_false : (values : ℕ → Option Assigned) (clause : List Lit) (lit : Lit) → IsFalse values lit → EachOther (IsFalse values) clause lit → Each (IsFalse values) clause
-all_false values clause lit fell others = λ other among. elim (lit_cases other lit) [
+all_false values clause lit fell others = λ other among. elim (lits_cases other lit) [
   | inl same ↦ subst (λ (l : Lit). IsFalse values l) (sym same) fell
   | inr differ ↦ others other among differ
 ]

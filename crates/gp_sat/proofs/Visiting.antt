@@ -1,5 +1,5 @@
 -- One step of the walk along the trail.
-use Rattle.std.proofs.Common.{◌≡◌, ◌≢◌, refl, sym, ◌∙◌, ap, subst, ℕ, ◌+◌, ◌<◌, ◌≤◌, Bool, true, false, Some, None, List, [], ◌∷◌, ◌++◌, length, get_or, cond, ◌==◌, ◌⊎◌, inl, inr, not, arith}
+use Rattle.std.proofs.Common.{◌≡◌, ◌≢◌, refl, sym, ◌∙◌, ap, subst, ℕ, ◌+◌, ◌<◌, ◌≤◌, Bool, true, false, Some, None, List, [], ◌∷◌, ◌++◌, length, get_or, cond, ◌==◌, ◌⊎◌, inl, inr, arith}
 use Rattle.std.specs.Prelude.{Contains}
 use Rattle.std.proofs.lemmas.List.Elements.{Contains-push, Contains-push_cases, Contains-append_left}
 use Rattle.std.proofs.lemmas.List.Sums.{sum_by-append}
@@ -18,6 +18,7 @@ use Rattle.gp_sat.specs.Marking.{IsMarked, IsPresentAt, HasMarked, StopsAt, Goes
 use Rattle.gp_sat.specs.Queueing.{IsAssigned, IsMarkedAt, IsMarkedOrBefore}
 use Rattle.gp_sat.specs.Walking.{IsFollowed, IsStopped, IsPointing, IsWalked}
 use Rattle.gp_sat.proofs.Marked.{one_at}
+use Rattle.std.proofs.Math.Bool.{not-not}
 
 -- an assigned variable at a place of the trail
 pub record Stands (s : SolverForm) (place variable : ℕ) (a : Assigned) : Type 0 where
@@ -83,10 +84,6 @@ occurrences_more variable lits lit = omega (arith, sum_by-append (λ (x : Lit). 
 counted_few : (b : Bool) → one_if b ≤ 1
 counted_few true = omega arith
 counted_few false = omega arith
-
-not_not : (b : Bool) → b ≡ not (not b)
-not_not true = refl
-not_not false = refl
 
 below_push : (s : SolverForm) (lits : List Lit) (lit : Lit) → Each (IsBelowLevel s s.level) lits → IsBelowLevel s s.level lit → Each (IsBelowLevel s s.level) (lits ++ lit ∷ [])
 below_push s lits lit each here = λ other is. elim (Contains-push_cases lits lit other is) [
@@ -155,7 +152,7 @@ visit_stops s stop place marks lits hints v a sound stands marked stops old = re
     | inr same ↦ subst (λ (l : Lit). IsStopped s stop place l) same (record {
       value = a;
       is = stands.is;
-      opposes = not_not a.positive;
+      opposes = sym (not-not a.positive);
       from = omega (arith, stands.there);
       decided = λ final. subst (λ (t : Stop). StopsAt s t marks a) final stops;
       above = λ first. above_bottom (subst (λ (t : Stop). StopsAt s t marks a) first stops).1;

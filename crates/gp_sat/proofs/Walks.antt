@@ -1,5 +1,5 @@
 -- A walk from its begin to its end.
-use Rattle.std.proofs.Common.{◌≡◌, refl, sym, ◌∙◌, ap, subst, ℕ, ◌+◌, ◌<◌, Bool, true, false, not, Some, List, [], length, get_or, inl, inr, arith, Contains}
+use Rattle.std.proofs.Common.{◌≡◌, refl, sym, ◌∙◌, ap, subst, ℕ, ◌+◌, ◌<◌, not, Some, List, [], length, get_or, inl, inr, arith, Contains}
 use Rattle.std.proofs.lemmas.Bool.{cases_eq}
 use Rattle.gp_clause.specs.declared.lit.Lit.{Lit}
 use Rattle.gp_clause.specs.Lit.{opposite}
@@ -19,13 +19,8 @@ use Rattle.std.proofs.lemmas.List.{get_or_default}
 use Rattle.gp_base.specs.ListLaws.{nothing_in}
 use Rattle.gp_sat.proofs.Steps.{propagates_none, propagates_more}
 use Rattle.gp_sat.specs.SolverLaws.{within_values, trail_counts}
-
-lit_is : (p q : Lit) → p.variable ≡ q.variable → p.positive ≡ q.positive → p ≡ q
-lit_is p q v sign = λ i. record { variable = v i; positive = sign i }
-
-not_not : (b : Bool) → not (not b) ≡ b
-not_not true = refl
-not_not false = refl
+use Rattle.std.proofs.Math.Bool.{not-not}
+use Rattle.gp_clause.specs.LitLaws.{lits_same}
 
 -- the literal whose opposite stands at the cursor fell
 pub fallen_at : (s : SolverForm) (cursor : ℕ) (lit : Lit) (skipped : ℕ → Type 0) (watch : ℕ → Lit) (linked : ℕ) → IsSound s → cursor < length s.trail → get_or s.trail cursor lit ≡ lit → AreWatched s watch linked cursor skipped
@@ -38,7 +33,7 @@ fallen_at s cursor lit skipped watch linked sound within is watched =
     record {
       value = there.0;
       is = holds;
-      opposes = ap (λ (l : Lit). l.positive) (sym mine) ∙ sym (not_not lit.positive);
+      opposes = ap (λ (l : Lit). l.positive) (sym mine) ∙ sym (not-not lit.positive);
       present = watched.fresh lit.variable there.0 holds (omega (arith, there.2));
       there = omega (arith, there.2);
     }
@@ -84,7 +79,7 @@ walk_begins s w lit idle within is =
         let on : get_or s.trail before.0.place lit ≡ true_lit (watch_at w.slots z).variable before.0 = idle.sound.ordered.on_trail (watch_at w.slots z).variable before.0 lit before.1 in
         let mine : lit ≡ true_lit (watch_at w.slots z).variable before.0 = sym is ∙ ap (λ (p : ℕ). get_or s.trail p lit) (sym here) ∙ on in
         let sign : lit.positive ≡ not (watch_at w.slots z).positive = ap (λ (l : Lit). l.positive) mine ∙ before.2 in
-        let same : watch_at w.slots z ≡ opposite lit = lit_is (watch_at w.slots z) (opposite lit) (ap (λ (l : Lit). l.variable) (sym mine)) (sym (ap not sign ∙ not_not (watch_at w.slots z).positive)) in
+        let same : watch_at w.slots z ≡ opposite lit = lits_same (watch_at w.slots z) (opposite lit) (ap (λ (l : Lit). l.variable) (sym mine)) (sym (ap not sign ∙ not-not (watch_at w.slots z).positive)) in
         let none : begun_lists idle.lists (opposite lit) (code (opposite lit)) ≡ [] = put_other (put idle.lists (code (opposite lit)) []) 0 (idle.lists (code (opposite lit))) (code (opposite lit)) (code_not_work (opposite lit))
         ∙ put_here idle.lists (code (opposite lit)) [] (code (opposite lit)) refl in
         nothing_in _ (subst (λ (ys : List ℕ). Contains ys z) none (subst (λ (l : Lit). Contains (begun_lists idle.lists (opposite lit) (code l)) z) same there))

@@ -1,15 +1,23 @@
 -- Laws of solvers that the layer above uses.
-use Rattle.std.specs.Prelude.{◌≡◌, ◌≢◌, ℕ, ◌+◌, ◌<◌, ◌≤◌, ◌⊎◌, Bool, true, false, zero, suc, Option, Some, None, List, [], ◌∷◌, ◌++◌, length, map, replicate, slice_set, refl, nat_lt, IsPermutation, Result, Ok, Err, IsOk, IsErr, IfOk}
+use Rattle.std.specs.Prelude.{◌≡◌, ◌≢◌, ℕ, ◌+◌, ◌<◌, ◌≤◌, ◌⊎◌, Bool, true, false, zero, suc, Option, Some, None, List, [], ◌∷◌, ◌++◌, length, cond, count_by, map, replicate, slice_set, Contains, refl, nat_lt, IsPermutation, Result, Ok, Err, IsOk, IsErr, IfOk}
 use Rattle.std.proofs.Common.{sym, ◌∙◌, ap, subst, inl, inr, get_or, arith}
-use Rattle.std.proofs.lemmas.List.{length-set, get_or-set_same, get_or-set_other, get_or_past}
+use Rattle.std.proofs.lemmas.List.{get_or_default, length-set, get_or-set_same, get_or-set_other, get_or_past}
 use Rattle.std.proofs.lemmas.Bool.{cases_eq, cases_lt, ltb-false, le-ltb}
+use Rattle.std.proofs.lemmas.List.Sums.{get_or-le-sum_by, sum_by-set}
+use Rattle.std.specs.Option.{is_none}
+use Rattle.gp_base.specs.CountLaws.{count_all}
+use Rattle.gp_base.specs.ListLaws.{nothing_in}
 use Rattle.gp_clause.specs.declared.lit.Lit.{Lit}
+use Rattle.gp_clause.specs.LitLaws.{not_both}
 use Rattle.gp_clause.specs.declared.clause.BadClause.{BadClause}
 use Rattle.gp_clause.specs.Clause.{NamesTwice, occurrences}
 use Rattle.gp_sat.specs.declared.assigned.Assigned.{Assigned}
 use Rattle.gp_sat.specs.Stored.{Stored}
 use Rattle.gp_sat.specs.State.{SolverForm, assigned, no_clause, IsAttached, kept_to, with_literal}
+use Rattle.gp_sat.specs.Learning.{IsHighestBelow}
+use Rattle.gp_sat.specs.Looking.{IsTrueLit}
 use Rattle.gp_sat.specs.Sound.{IsOrdered}
+use Rattle.gp_sat.specs.Standing.{IsFalse}
 
 -- an attached clause has a number that was given
 pub attached_within : (clauses : List Stored) (number : ℕ) → IsAttached clauses number → number < length clauses
@@ -103,11 +111,22 @@ makes_clause (Err e) lits twice once = let both : NamesTwice lits = twice refl i
 pub clause_sorted : (r : Result (List Lit) BadClause) (lits clause : List Lit) → IfOk r (λ c. IsPermutation lits c) → r ≡ Ok clause → IsPermutation lits clause
 clause_sorted r lits clause sorted is = let P : Result (List Lit) BadClause → Type 0 = λ x. IfOk x (λ c. IsPermutation lits c) in subst P is sorted
 
+-- a true literal is not false
+pub true_not_false : (values : ℕ → Option Assigned) (lit : Lit) → IsTrueLit values lit → IsFalse values lit → ⊥
+true_not_false values lit (a, is, sign) (b, there, opposite) =
+    let same : a ≡ b = cc in
+    not_both lit.positive (sym sign ∙ ap (λ (x : Assigned). x.positive) same ∙ opposite)
+
+-- of no literals the highest level below the present one is 0
+pub highest_none : (s : SolverForm) → IsHighestBelow s [] 0
+highest_none s = record {
+  highest = λ lit a is _ _. absurd (nothing_in lit is);
+  reached = inl refl;
+}
+
 -- how many variables are unassigned
 abbrev pub unassigned : List (Option Assigned) → ℕ
-unassigned [] = 0
-unassigned (None ∷ values) = unassigned values + 1
-unassigned (Some a ∷ values) = unassigned values
+unassigned values = count_by is_none values
 
 -- a variable that is assigned is one of the solver
 pub within_values : (values : List (Option Assigned)) (variable : ℕ) (a : Assigned) → get_or values variable None ≡ Some a → variable < length values
@@ -117,27 +136,30 @@ within_values values variable a is =
       | inr past ↦ let none : get_or values variable None ≡ None = get_or_past values variable None past in let clash : ⊥ = cc in absurd clash
     ]
 
+-- one for a variable that is unassigned
+abbrev spare : Option Assigned → ℕ
+spare value = cond (is_none value) 1 0
+
 -- taking back one assignment leaves one more variable unassigned
 one_more : (values : List (Option Assigned)) (variable : ℕ) (a : Assigned) → get_or values variable None ≡ Some a
     → unassigned (slice_set values variable None) ≡ unassigned values + 1
-one_more [] variable a is = let clash : ⊥ = cc in absurd clash
-one_more (None ∷ values) zero a is = let clash : ⊥ = cc in absurd clash
-one_more (Some b ∷ values) zero a is = refl
-one_more (None ∷ values) (suc variable) a is = ap (λ n. n + 1) (one_more values variable a is)
-one_more (Some b ∷ values) (suc variable) a is = one_more values variable a is
+one_more values variable a is =
+    let was : spare (get_or values variable None) ≡ 0 = ap spare is in
+    omega (arith, was, sum_by-set spare values variable None None (within_values values variable a is))
 
 -- one variable that is unassigned counts
 some_free : (values : List (Option Assigned)) (variable : ℕ) → get_or values variable None ≡ None → variable < length values → 0 < unassigned values
-some_free [] variable is within = omega arith
-some_free (None ∷ values) zero is within = omega arith
-some_free (Some b ∷ values) zero is within = let clash : ⊥ = cc in absurd clash
-some_free (None ∷ values) (suc variable) is within = omega arith
-some_free (Some b ∷ values) (suc variable) is within = some_free values variable is (omega arith)
+some_free values variable is within =
+    let counts : spare (get_or values variable None) ≡ 1 = ap spare is in
+    omega (arith, counts, get_or-le-sum_by spare values variable None within)
 
+-- where none is assigned, all count
 all_free : (values : List (Option Assigned)) → ((variable : ℕ) (a : Assigned) → get_or values variable None ≡ Some a → ⊥) → unassigned values ≡ length values
-all_free [] none = refl
-all_free (None ∷ values) none = let rest : unassigned values ≡ length values = all_free values (λ variable a is. none (suc variable) a is) in omega (arith, rest)
-all_free (Some a ∷ values) none = absurd (none 0 a refl)
+all_free values none = count_all is_none values each
+  where
+    each : (value : Option Assigned) → Contains values value → is_none value ≡ true
+    each None at = refl
+    each (Some a) (k, within, is) = absurd (none k a (get_or_default values k None (Some a) within ∙ is))
 
 -- the variables at the first places of a trail are assigned, each at its place, and no other variable is
 record Fills (values : List (Option Assigned)) (variable_at : ℕ → ℕ) (places : ℕ) : Type 0 where

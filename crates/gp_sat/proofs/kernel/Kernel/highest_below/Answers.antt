@@ -4,8 +4,9 @@ use Rattle.gp_sat.specs.declared.assigned.Assigned.{Assigned}
 use Rattle.gp_sat.specs.State.{SolverForm, assigned}
 use Rattle.std.proofs.lemmas.List.{take_more, take_all}
 use Rattle.gp_sat.specs.Learning.{IsHighestBelow}
-use Rattle.gp_sat.proofs.Marked.{highest_none, highest_new, highest_same}
+use Rattle.gp_sat.proofs.Marked.{highest_new, highest_same}
 use Rattle.gp_sat.proofs.kernel.Kernel.highest_below.Goals.{in-Some+then-level-a+then-a-self, in-Some+else-level-a, else-level-a-via-then-level-a+else-a-self, else-level-a-via-else-level-a, in_default}
+use Rattle.gp_sat.specs.SolverLaws.{highest_none}
 use Rattle.gp_sat.proofs.kernel.Kernel.highest_below.Goals as goal
 
 abbrev d : Lit

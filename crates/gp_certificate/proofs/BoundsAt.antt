@@ -11,6 +11,7 @@ use Rattle.gp_difference.specs.declared.bound.Bound.{Bound}
 use Rattle.gp_difference.specs.Bounds.{edges_of, untagged}
 use Rattle.gp_certificate.specs.Places.{bounds_at}
 use Rattle.gp_base.specs.ListLaws.{here, there}
+use Rattle.gp_difference.specs.BoundsLaws.{edges_of-untagged}
 
 among_more : (edges more : List Edge) → All (Contains more) edges → (walk : List Edge) → IsAmong edges walk → IsAmong more walk
 among_more edges more all [] among = among
@@ -27,12 +28,8 @@ cycle_beside edges bounds more all = cycle_more (edges ++ bounds) (edges ++ more
     (All-weaker (Contains more) (Contains (edges ++ more)) (λ e is. Contains-append_right edges more e is) bounds all))
 
 -- all edges of a graph are the fixed ones and those of the kept bounds
-untagged_edges : (edges : List Edge) → edges_of (map untagged edges) ≡ edges
-untagged_edges [] = refl
-untagged_edges (edge ∷ edges) = ap (λ es. edge ∷ es) (untagged_edges edges)
-
 pub whole_edges : (edges : List Edge) (kept : List Bound) → edges_of (map untagged edges ++ kept) ≡ edges ++ edges_of kept
-whole_edges edges kept = map-append (λ (b : Bound). b.edge) (map untagged edges) kept ∙ ap (λ es. es ++ edges_of kept) (untagged_edges edges)
+whole_edges edges kept = map-append (λ (b : Bound). b.edge) (map untagged edges) kept ∙ ap (λ es. es ++ edges_of kept) (edges_of-untagged edges)
 
 -- the bounds of one more literal
 pub bounds_none : (kinds : List Kind) (lits : List Lit) (lit : Lit) → bound_at kinds lit ≡ None → bounds_at kinds (lits ++ lit ∷ []) ≡ bounds_at kinds lits

@@ -8,14 +8,14 @@ use Rattle.gp_clause.specs.declared.lit.Lit.{Lit}
 use Rattle.gp_clause.specs.Clause.{NamesOnce, occurrences}
 use Rattle.gp_clause.specs.Closure.{IsTrueIn, IsFalseIn}
 use Rattle.gp_clause.specs.Lit.{lit_eq, opposite}
-use Rattle.gp_clause.specs.LitLaws.{lit_eq_decides}
-use Rattle.gp_base.specs.CountLaws.{count_passes, count_two, twice_from_places}
+use Rattle.gp_clause.specs.LitLaws.{lit_eq_decides, opposite_twice}
+use Rattle.gp_base.specs.CountLaws.{count_all, count_passes, count_two, twice_from_places}
 use Rattle.gp_base.specs.SumLaws.{count_cons}
 use Rattle.gp_certificate.specs.declared.assignment.Assignment.{Assignment}
 use Rattle.gp_certificate.specs.Assignment.{value_of, IsOpen, HasTwo, IsKept}
 use Rattle.gp_certificate.specs.Counting.{fell, standing, IsCounted}
 use Rattle.gp_base.specs.ListLaws.{here, there}
-use Rattle.gp_certificate.proofs.Standing.{same_or_not, some_clash, open_by_true, opposite_twice}
+use Rattle.gp_certificate.proofs.Standing.{same_or_not, some_clash, open_by_true}
 
 -- a literal fell exactly where its negation is among the fallen ones
 pub fell_contains : (fallen : List Lit) (lit : Lit) → fell fallen lit ≡ true → Contains fallen (opposite lit)
@@ -92,8 +92,7 @@ lowered_not fallen one (lit ∷ clause) = at (lit_eq one (opposite lit)) refl (l
 
 -- nothing fell at first
 pub all_stand : (clause : List Lit) → standing [] clause ≡ length clause
-all_stand [] = refl
-all_stand (lit ∷ clause) = omega (arith, standing_cons [] lit clause, all_stand clause)
+all_stand clause = count_all (λ lit. not (fell [] lit)) clause (λ lit is. refl)
 
 false_from_not : (b : Bool) → not b ≡ true → b ≡ false
 false_from_not true is = absurd (false≢true is)

@@ -1,5 +1,5 @@
 -- The loops over an assignment: taking a start, going over clauses, and taking all back.
-use Rattle.std.proofs.Common.{Vec, Global, ◌≡◌, ℕ, ◌+◌, ◌<◌, ◌≤◌, suc, Bool, Option, None, Some, List, [], ◌∷◌, ◌++◌, length, take, get_or, set, replicate, vec_capacity, All, Contains, ◌⊎◌, inl, inr, refl, ap, sym, ◌∙◌, subst, arith}
+use Rattle.std.proofs.Common.{Vec, Global, ◌≡◌, ℕ, ◌+◌, ◌<◌, ◌≤◌, Bool, Option, None, Some, List, [], ◌++◌, length, take, get_or, set, replicate, vec_capacity, All, Contains, ◌⊎◌, inl, inr, refl, ap, sym, ◌∙◌, subst, arith, true}
 use Rattle.std.proofs.lemmas.Bool.{cases_eq, cases_lt}
 use Rattle.std.proofs.lemmas.List.{length-set, length-map, length-take, get_or-take, get_or-map, get_or-set_same, get_or-set_other, get_or_past, get_or_default}
 use Rattle.std.proofs.lemmas.List.Elements.{All-nil, All-append, All-take, All-replicate}
@@ -8,8 +8,7 @@ use Rattle.gp_clause.specs.declared.lit.Lit.{Lit}
 use Rattle.gp_clause.specs.Clause.{NamesOnce, occurrences}
 use Rattle.gp_clause.specs.Closure.{IsTrueIn}
 use Rattle.gp_clause.specs.Lit.{opposite, negations}
-use Rattle.gp_base.specs.CountLaws.{twice_from_places}
-use Rattle.gp_base.specs.SumLaws.{count_cons}
+use Rattle.gp_base.specs.CountLaws.{count_all, twice_from_places}
 use Rattle.gp_certificate.specs.declared.assignment.Assignment.{Assignment}
 use Rattle.gp_certificate.specs.Assignment.{value_of, unassigned, IsKept}
 use Rattle.gp_certificate.proofs.Standing.{some_clash, true_within}
@@ -42,10 +41,11 @@ not_yet assignment lits i d kept trail once within = at (value_of assignment.val
 
 -- where no variable has a value, all are unassigned
 all_unassigned : (values : List (Option Bool)) → ((variable : ℕ) (sign : Bool) → value_of values variable ≡ Some sign → ⊥) → unassigned values ≡ length values
-all_unassigned [] none = refl
-all_unassigned (None ∷ values) none =
-    omega (arith, count_cons is_none None values, all_unassigned values (λ variable sign is. none (suc variable) sign is))
-all_unassigned (Some sign ∷ values) none = absurd (none 0 sign refl)
+all_unassigned values none = count_all is_none values each
+  where
+    each : (value : Option Bool) → Contains values value → is_none value ≡ true
+    each None at = refl
+    each (Some sign) (k, within, is) = absurd (none k sign (get_or_default values k None (Some sign) within ∙ is))
 
 pub none_kept : (assignment : Assignment) → ((variable : ℕ) (sign : Bool) → value_of assignment.values.items variable ≡ Some sign → ⊥) → assignment.trail.items ≡ []
     → length assignment.values.items ≤ vec_capacity assignment.trail → IsKept assignment

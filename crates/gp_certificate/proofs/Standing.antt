@@ -10,27 +10,16 @@ use Rattle.gp_clause.specs.declared.lit.Lit.{Lit}
 use Rattle.gp_clause.specs.Closure.{Derived, Conflicts, IsTrueIn, IsFalseIn, LeavesNone}
 use Rattle.gp_clause.specs.Closure.Derived.{forced}
 use Rattle.gp_clause.specs.Lit.{lit_eq, opposite}
-use Rattle.gp_clause.specs.LitLaws.{lit_eq_decides}
+use Rattle.gp_clause.specs.LitLaws.{lit_eq_decides, lits_same, not_both}
 use Rattle.gp_certificate.specs.declared.assignment.Assignment.{Assignment}
 use Rattle.gp_certificate.specs.Assignment.{value_of, IsDue, IsOpen, unassigned, IsKept, IsClosing}
 use Rattle.gp_base.specs.ListLaws.{all_from_contains}
-
-not_itself : (b : Bool) → b ≡ not b → ⊥
-not_itself true e = false≢true (sym e)
-not_itself false e = false≢true e
-
-not_not : (b : Bool) → not (not b) ≡ b
-not_not true = refl
-not_not false = refl
-
-pub same_lits : (a b : Lit) → a.variable ≡ b.variable → a.positive ≡ b.positive → a ≡ b
-same_lits a b variables signs = λ i. record { variable = variables i; positive = signs i }
 
 pub some_clash : (o : Option Bool) (b : Bool) → o ≡ Some b → o ≡ None → ⊥
 some_clash o b some none = none-some b (sym none ∙ some)
 
 pub sign_clash : (o : Option Bool) (b : Bool) → o ≡ Some b → o ≡ Some (not b) → ⊥
-sign_clash o b some other = not_itself b (same_Some b (not b) (sym some ∙ other))
+sign_clash o b some other = not_both b (same_Some b (not b) (sym some ∙ other))
 
 -- two literals are the same, or they are not
 pub same_or_not : (P : Type 0) (a b : Lit) → (a ≡ b → P) → (a ≢ b → P) → P
@@ -73,7 +62,7 @@ true_before values lit within other holds = at (cases_eq other.variable lit.vari
     at (inl same) =
         let put : value_of (set values lit.variable (Some lit.positive)) other.variable ≡ Some lit.positive =
         ap (λ v. value_of (set values lit.variable (Some lit.positive)) v) same ∙ get_or-set_same values lit.variable (Some lit.positive) None within in
-        inr (same_lits lit other (sym same) (same_Some lit.positive other.positive (sym put ∙ holds)))
+        inr (lits_same lit other (sym same) (same_Some lit.positive other.positive (sym put ∙ holds)))
     at (inr apart) = inl (sym (get_or-set_other values lit.variable other.variable (Some lit.positive) None apart) ∙ holds)
 
 -- what was true stays so
@@ -111,9 +100,6 @@ kept_more old new lit kept within none values trail capacity =
     at other (inr same) = let P : Lit → Type 0 = λ l. Contains (old.trail.items ++ lit ∷ []) l in subst P same (Contains-push old.trail.items lit)
 
 -- a literal that is due is derived, and a false clause is a conflict
-pub opposite_twice : (lit : Lit) → opposite (opposite lit) ≡ lit
-opposite_twice lit = λ i. record { variable = lit.variable; positive = not_not lit.positive i }
-
 pub false_derived : (start : List Lit) (clauses : List (List Lit)) (assignment : Assignment) (lit : Lit) → IsClosing start clauses assignment → IsFalseIn (value_of assignment.values.items) lit
     → Derived start clauses (opposite lit)
 false_derived start clauses assignment lit closing false_in =

@@ -1,8 +1,8 @@
 -- Laws: what a step's hints name, and what it may use.
-use Rattle.std.proofs.Common.{◌≡◌, ◌∙◌, ap, ℕ, zero, suc, Option, None, Some, List, [], ◌∷◌, All, Contains, refl, arith}
-use Rattle.std.specs.List.{slice_get}
-use Rattle.std.proofs.lemmas.List.Elements.{All-nil, All-cons, All-contains}
-use Rattle.gp_base.specs.ListLaws.{contains_got, here, there}
+use Rattle.std.proofs.Common.{◌≡◌, ◌∙◌, ap, ℕ, zero, suc, ◌<◌, Option, None, Some, List, [], ◌∷◌, ◌++◌, length, All, Contains, refl, arith}
+use Rattle.std.specs.List.{cons_option, slice_get}
+use Rattle.std.proofs.lemmas.List.Elements.{All-head, All-tail, All-nil, All-cons, All-contains}
+use Rattle.gp_base.specs.ListLaws.{contains_got, here, slice_get_front, there}
 use Rattle.gp_clause.specs.declared.lit.Lit.{Lit}
 use Rattle.gp_certificate.specs.Certificate.{usable}
 use Rattle.gp_certificate.specs.Step.{named}
@@ -31,6 +31,14 @@ named_contains clauses (first ∷ hints) hint clause (suc k, within, is) got =
     at : (o : Option (List Lit)) → slice_get clauses first ≡ o → Contains (named clauses hints) clause → Contains (named clauses (first ∷ hints)) clause
     at None none rest = rw none rest
     at (Some other) some rest = rw some (there other (named clauses hints) clause rest)
+
+-- hints that name some clauses name the same ones when more come after them
+pub named_longer : (clauses more : List (List Lit)) (hints : List ℕ) → All (λ hint. hint < length clauses) hints → named (clauses ++ more) hints ≡ named clauses hints
+named_longer clauses more [] within = refl
+named_longer clauses more (hint ∷ hints) within =
+    let got : slice_get (clauses ++ more) hint ≡ slice_get clauses hint = slice_get_front clauses more hint (All-head (λ h. h < length clauses) hint hints within) in
+    let rest : named (clauses ++ more) hints ≡ named clauses hints = named_longer clauses more hints (All-tail (λ h. h < length clauses) hint hints within) in
+    λ i. cons_option (got i) (rest i)
 
 -- what holds of all that is numbered and of all that needs no number holds of what a step may use
 pub usable_all : (P : List Lit → Type 0) (numbered unnamed : List (List Lit)) (hints : List ℕ) → All P numbered → All P unnamed → All P (usable numbered unnamed hints)

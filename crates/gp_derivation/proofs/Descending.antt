@@ -23,6 +23,7 @@ use Rattle.gp_derivation.specs.declared.log.Origin.TheVariants.{Learned, Taken}
 use Rattle.gp_derivation.specs.Reach.{rests_on, IsReached}
 use Rattle.gp_derivation.specs.Numbering.{NamesEarlier}
 use Rattle.gp_derivation.specs.Reach.IsReached.{direct, through}
+use Rattle.gp_base.specs.ListLaws.{nothing_in}
 
 -- an entry rests on earlier ones
 pub rests_earlier : (bases place : ℕ) (step : Step) (origin : Origin) → NamesEarlier bases place step origin → All (λ hint. hint < bases + place) (rests_on step origin)
@@ -116,24 +117,21 @@ pub record IsDescended (bases : ℕ) (log : List LogEntry) (hints : List ℕ) (b
   pub below : (place : ℕ) → Contains todo place → place < bound
   pub falling : AllPairs (λ (a b : ℕ). b < a) places
 
-none_in : (place : ℕ) → Contains {X = ℕ} [] place → ⊥
-none_in place (k, below, is) = omega (arith, below)
-
 -- at first what the hints name is queued
 pub descended_none : (bases : ℕ) (log : List LogEntry) (hints before todo : List ℕ) → before ≡ [] → All (λ hint. hint < bases + length log) hints → IsQueued bases hints before todo → IsDescended bases log hints (length log) [] todo
 descended_none bases log hints before todo empty within queued = record {
   within = omega arith;
-  sound = λ place either. elim either [ inl none ↦ absurd (none_in place none) | inr is ↦ direct place (from_hints place is) ];
+  sound = λ place either. elim either [ inl none ↦ absurd (nothing_in place none) | inr is ↦ direct place (from_hints place is) ];
   named = λ place by. inr ((queued place).1 (inr by));
-  done = λ other entry none got place by. absurd (none_in other none);
-  above = λ place none. absurd (none_in place none);
+  done = λ other entry none got place by. absurd (nothing_in other none);
+  above = λ place none. absurd (nothing_in place none);
   below = λ place is. let less : bases + place < bases + length log = All-contains (λ h. h < bases + length log) hints (bases + place) within (from_hints place is) in omega (arith, less);
   falling = λ i j d before_it inside. absurd (omega (arith, inside));
 }
   where
     from_hints : (place : ℕ) → Contains todo place → Contains hints (bases + place)
     from_hints place is = elim ((queued place).0 is) [
-      | inl was ↦ absurd (none_in place (subst (λ (xs : List ℕ). Contains xs place) empty was))
+      | inl was ↦ absurd (nothing_in place (subst (λ (xs : List ℕ). Contains xs place) empty was))
       | inr by ↦ by
     ]
 
@@ -192,11 +190,11 @@ pub descended_all : (bases : ℕ) (log : List LogEntry) (hints : List ℕ) (boun
     → (place : ℕ) → IsReached bases log hints place → Contains places place
 descended_all bases log hints bound places todo empty old place (direct p by) = elim (old.named p by) [
   | inl visited ↦ visited
-  | inr waiting ↦ absurd (none_in p (subst (λ (xs : List ℕ). Contains xs p) empty waiting))
+  | inr waiting ↦ absurd (nothing_in p (subst (λ (xs : List ℕ). Contains xs p) empty waiting))
 ]
 descended_all bases log hints bound places todo empty old place (through p other entry reached got by) = elim (old.done other entry (descended_all bases log hints bound places todo empty old other reached) got p by) [
   | inl visited ↦ visited
-  | inr waiting ↦ absurd (none_in p (subst (λ (xs : List ℕ). Contains xs p) empty waiting))
+  | inr waiting ↦ absurd (nothing_in p (subst (λ (xs : List ℕ). Contains xs p) empty waiting))
 ]
 
 -- the numbers that come before the last one in a set are below it

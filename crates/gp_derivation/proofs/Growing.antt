@@ -12,17 +12,13 @@ use Rattle.gp_certificate.specs.declared.step.Step.{Step}
 use Rattle.gp_derivation.specs.declared.log.LogEntry.{LogEntry}
 use Rattle.gp_derivation.specs.declared.log.Origin.{Origin}
 use Rattle.gp_derivation.specs.declared.log.Origin.TheVariants.{Learned, Taken}
-use Rattle.gp_derivation.specs.Log.{logged, IsPure, IsUsable, OriginPasses, EntryPasses, LogPasses, LogGrows}
-use Rattle.gp_derivation.specs.Log.IsPure.{taken, learned}
+use Rattle.gp_derivation.specs.Log.{logged, IsUsable, OriginPasses, EntryPasses, LogPasses, LogGrows}
 use Rattle.gp_certificate.specs.Step.{named}
 use Rattle.gp_base.specs.ListLaws.{got_front, slice_get_front, slice_get_back}
 use Rattle.gp_certificate.specs.NamedLaws.{named_all, named_contains}
 use Rattle.gp_certificate.specs.PassingLaws.{more_pass}
 use Rattle.gp_derivation.proofs.Purity.{some_pass}
-
-pure_longer : (problem : Problem) (log more : List LogEntry) (place : ℕ) → IsPure problem log place → IsPure problem (log ++ more) place
-pure_longer problem log more place (taken p own got took) = taken p own (got_front log more p own got) took
-pure_longer problem log more place (learned p own got below others) = learned p own (got_front log more p own got) below (λ other by. pure_longer problem log more other (others other by))
+use Rattle.gp_derivation.specs.GrowthLaws.{pure_longer}
 
 -- what hints named they name still
 named_longer : (problem : Problem) (log more : List LogEntry) (hints : List ℕ) → All (Contains (named (logged problem (log ++ more)) hints)) (named (logged problem log) hints)

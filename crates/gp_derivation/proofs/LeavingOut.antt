@@ -1,6 +1,6 @@
 -- A greedy walk over the literals of a clause, which leaves out what can be left out.
-use Rattle.std.proofs.Common.{◌≡◌, ◌≢◌, ℕ, ◌+◌, ◌-◌, ◌<◌, ◌≤◌, zero, suc, Bool, true, false, not, cond, ◌==◌, List, [], ◌∷◌, length, get_or, All, Contains, ◌⊎◌, inl, inr, refl, ap, sym, ◌∙◌, subst, arith, IsPermutation}
-use Rattle.std.specs.List.{filter, remove}
+use Rattle.std.proofs.Common.{◌≡◌, ◌≢◌, ℕ, ◌+◌, ◌-◌, ◌<◌, ◌≤◌, Bool, true, false, not, cond, ◌==◌, List, length, get_or, All, Contains, ◌⊎◌, inl, inr, ap, sym, ◌∙◌, subst, arith, IsPermutation}
+use Rattle.std.specs.List.{remove}
 use Rattle.std.proofs.lemmas.Bool.{cases_eq, cases_lt, false≢true}
 use Rattle.std.proofs.lemmas.List.{get_or_default}
 use Rattle.std.proofs.lemmas.List.Edits.{length-remove, get_or-remove_below, get_or-remove_above}
@@ -15,20 +15,9 @@ use Rattle.gp_clause.specs.Lit.{lit_eq}
 use Rattle.gp_clause.specs.LitLaws.{lit_eq_decides}
 use Rattle.gp_certificate.specs.Step.{Passes}
 use Rattle.gp_derivation.specs.Tight.{IsTight, left_out}
-use Rattle.gp_base.specs.ListLaws.{all_from_contains, there}
+use Rattle.gp_base.specs.ListLaws.{all_from_contains}
 use Rattle.gp_certificate.specs.PassingLaws.{more_pass}
-
--- what passes a test stays
-filter_contains : {X : Type 0} (test : X → Bool) (xs : List X) (x : X) → Contains xs x → test x ≡ true → Contains (filter test xs) x
-filter_contains test [] x (k, within, is) passes = absurd (omega arith)
-filter_contains test (y ∷ xs) x (zero, within, is) passes =
-    let at_y : test y ≡ true = ap test is ∙ passes in
-    rw at_y (0, omega arith, is)
-filter_contains {X} test (y ∷ xs) x (suc k, within, is) passes = at (test y) refl (filter_contains test xs x (k, omega arith, is) passes)
-  where
-    at : (b : Bool) → test y ≡ b → Contains (filter test xs) x → Contains (filter test (y ∷ xs)) x
-    at true told rest = rw told (there y (filter test xs) x rest)
-    at false told rest = rw told rest
+use Rattle.gp_base.specs.FilterLaws.{contains_filter}
 
 -- whether a literal is another one
 abbrev apart : Lit → Lit → Bool
@@ -40,7 +29,7 @@ left_out_among lit longer lits among = all_from_contains (Contains (left_out lit
   where
     each : (x : Lit) → Contains (left_out lit lits) x → Contains (left_out lit longer) x
     each x is =
-        filter_contains (apart lit) longer x (All-contains (Contains longer) (left_out lit lits) x (All-filter (apart lit) (Contains longer) lits among) is)
+        contains_filter (apart lit) longer x (All-contains (Contains longer) (left_out lit lits) x (All-filter (apart lit) (Contains longer) lits among) is)
         (All-contains (λ y. apart lit y ≡ true) (left_out lit lits) x (filter_passes (apart lit) lits) is)
 
 -- where one is taken out, the others stay

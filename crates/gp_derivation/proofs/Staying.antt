@@ -1,11 +1,10 @@
 -- What stays as it is when a log grows.
 use Rattle.std.proofs.Common.{◌≡◌, ℕ, zero, suc, ◌+◌, ◌-◌, ◌<◌, ◌≤◌, ◌↔◌, ◌⊎◌, inl, inr, Bool, true, false, IsTrue, Some, List, [], ◌∷◌, ◌++◌, length, map, take, drop, All, refl, sym, ◌∙◌, subst, ap, append_assoc, arith}
-use Rattle.std.specs.List.{slice_get, cons_option}
+use Rattle.std.specs.List.{slice_get}
 use Rattle.std.proofs.lemmas.Bool.{cases_lt}
 use Rattle.std.proofs.lemmas.List.{append-nil, length-append, length-map, length-drop, map-append, take-append-le, drop-append-le}
-use Rattle.std.proofs.lemmas.List.Elements.{All-head, All-tail, All-weaker, All-contains}
+use Rattle.std.proofs.lemmas.List.Elements.{All-weaker, All-contains}
 use Rattle.std.proofs.lemmas.Option.{slice_get_within}
-use Rattle.gp_clause.specs.declared.kind.Kind.{Kind}
 use Rattle.gp_clause.specs.declared.lit.Lit.{Lit}
 use Rattle.gp_clause.specs.declared.problem.Problem.{Problem}
 use Rattle.gp_certificate.specs.declared.step.Step.{Step}
@@ -14,7 +13,7 @@ use Rattle.gp_derivation.specs.declared.log.LogEntry.{LogEntry}
 use Rattle.gp_derivation.specs.declared.log.Origin.{Origin}
 use Rattle.gp_derivation.specs.declared.log.Origin.TheVariants.{Learned, Taken}
 use Rattle.gp_derivation.specs.declared.record.Turn.{Turn}
-use Rattle.gp_derivation.specs.Log.{IsLearned, OriginPasses, logged}
+use Rattle.gp_derivation.specs.Log.{logged}
 use Rattle.gp_certificate.specs.Step.{named}
 use Rattle.gp_derivation.specs.Tight.{IsTight}
 use Rattle.gp_derivation.specs.Spent.{IsNewBy, SpentStays, turned}
@@ -27,15 +26,10 @@ use Rattle.gp_derivation.specs.FitStaying.{FitStays}
 use Rattle.gp_base.specs.ListLaws.{slice_get_front, got_front}
 use Rattle.gp_derivation.proofs.Growing.{origin_longer}
 use Rattle.gp_derivation.proofs.Descending.{rests_earlier}
+use Rattle.gp_certificate.specs.NamedLaws.{named_longer}
+use Rattle.gp_derivation.specs.GrowthLaws.{hints_before}
 
--- hints that name some clauses name the same ones when more come after them
-named_same : (clauses more : List (List Lit)) (hints : List ℕ) → All (λ hint. hint < length clauses) hints → named (clauses ++ more) hints ≡ named clauses hints
-named_same clauses more [] within = refl
-named_same clauses more (hint ∷ hints) within =
-    let got : slice_get (clauses ++ more) hint ≡ slice_get clauses hint = slice_get_front clauses more hint (All-head (λ h. h < length clauses) hint hints within) in
-    let rest : named (clauses ++ more) hints ≡ named clauses hints = named_same clauses more hints (All-tail (λ h. h < length clauses) hint hints within) in
-    λ i. cons_option (got i) (rest i)
-
+-- what hints named before a log grew they name in the longer log
 logged_named : (problem : Problem) (log more : List LogEntry) (place : ℕ) (hints : List ℕ) → place ≤ length log → All (λ hint. hint < length problem.clauses + place) hints
     → named (logged problem (log ++ more)) hints ≡ named (logged problem log) hints
 logged_named problem log more place hints before within =
@@ -43,7 +37,7 @@ logged_named problem log more place hints before within =
     let added : List (List Lit) = map (λ (entry : LogEntry). entry.step.clause) more in
     let longer : logged problem (log ++ more) ≡ (problem.clauses ++ clauses) ++ added = ap (λ xs. problem.clauses ++ xs) (map-append (λ (entry : LogEntry). entry.step.clause) log more) ∙ sym (append_assoc problem.clauses clauses added) in
     let size : length (problem.clauses ++ clauses) ≡ length problem.clauses + length log = length-append problem.clauses clauses ∙ ap (λ n. length problem.clauses + n) (length-map log (λ (entry : LogEntry). entry.step.clause)) in
-    ap (λ xs. named xs hints) longer ∙ named_same (problem.clauses ++ clauses) added hints
+    ap (λ xs. named xs hints) longer ∙ named_longer (problem.clauses ++ clauses) added hints
     (All-weaker (λ hint. hint < length problem.clauses + place) (λ hint. hint < length (problem.clauses ++ clauses)) (λ hint less. omega (arith, size, less, before)) hints within)
 
 -- the entries of a turn before a place
@@ -54,11 +48,6 @@ turned_same problem log more turn place before = ap (λ xs. problem.clauses ++ m
     at (inl early) = let none : place - turn.begins ≡ 0 = omega (arith, early) in ap (λ n. take n (drop turn.begins (log ++ more))) none ∙ sym (ap (λ n. take n (drop turn.begins log)) none)
     at (inr after) = ap (λ xs. take (place - turn.begins) xs) (drop-append-le turn.begins log more (omega (arith, after, before)))
         ∙ take-append-le (place - turn.begins) (drop turn.begins log) more (omega (arith, length-drop turn.begins log, after, before))
-
-learned_hints : (problem : Problem) (own : List Kind) (log : List LogEntry) (began place : ℕ) (step : Step) (origin : Origin) → IsLearned origin → OriginPasses problem own log began place step origin
-    → All (λ hint. hint < length problem.clauses + place) step.hints
-learned_hints problem own log began place step Learned is passes = passes.hints
-learned_hints problem own log began place step (Taken sender certificate) wrong passes = absurd wrong
 
 pub spent_stays : SpentStays
 spent_stays problem query log more budget turn from to spent = record {
@@ -75,7 +64,7 @@ spent_stays problem query log more budget turn from to spent = record {
       (new.0, subst (λ (cs : List (List Lit)). IsNewBy problem query cs entry.step.clause new.0) (sym (turned_same problem log more turn place (omega (arith, before, spent.learning.logged)))) new.1);
   tight = λ place entry got after before.
       let it : slice_get log place ≡ Some entry = was place entry before got in
-      let hints : All (λ hint. hint < length problem.clauses + place) entry.step.hints = learned_hints problem query.locals log turn.begins place entry.step entry.origin (spent.learning.learned place entry it after before) (spent.passing place entry it after before) in
+      let hints : All (λ hint. hint < length problem.clauses + place) entry.step.hints = hints_before problem query.locals log turn.begins place entry.step entry.origin (spent.learning.learned place entry it after before) (spent.passing place entry it after before) in
       subst (λ (cs : List (List Lit)). IsTight problem.edges (problem.kinds ++ query.locals) cs entry.step.clause) (sym (logged_named problem log more place entry.step.hints (omega (arith, before, spent.learning.logged)) hints))
       (spent.tight place entry it after before);
 }

@@ -1,4 +1,5 @@
 pub mod Log
+pub mod GrowthLaws
 pub mod Tight
 pub mod Spent
 pub mod Reach

@@ -1,5 +1,6 @@
 pub mod Places
 pub mod Bounds
+pub mod BoundsLaws
 pub mod Graph
 pub mod Links
 pub mod Falls

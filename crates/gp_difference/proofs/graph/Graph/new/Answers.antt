@@ -1,4 +1,4 @@
-use Rattle.std.proofs.Common.{subst, refl, sym, ap, ◌∙◌, ◌≡◌, ℕ, ◌+◌, ◌<◌, List, [], ◌∷◌, ◌++◌, Err, length, take, map, get_or, arith}
+use Rattle.std.proofs.Common.{subst, sym, ap, ◌∙◌, ◌≡◌, ℕ, ◌+◌, ◌<◌, List, [], ◌∷◌, ◌++◌, Err, length, take, map, get_or, arith}
 use Rattle.std.specs.List.{Contains}
 use Rattle.std.proofs.lemmas.List.{take_more, get_or-take, length-take, append-nil}
 use Rattle.std.proofs.lemmas.Result.{err_from_is_err_and}
@@ -8,6 +8,7 @@ use Rattle.gp_difference.specs.declared.fault.GraphFault.TheVariants.{FixedCycle
 use Rattle.gp_clause.specs.Walk.{IsAmong, HasNegativeCycle}
 use Rattle.gp_difference.specs.Bounds.{edges_of, untagged, no_edge}
 use Rattle.gp_difference.specs.Graph.{GraphForm, FixGives, NewGives, all_edges}
+use Rattle.gp_difference.specs.BoundsLaws.{edges_of-untagged}
 use Rattle.gp_difference.proofs.graph.Graph.new.Goals as goal
 
 -- what the first of the edges contain, the edges contain
@@ -23,10 +24,6 @@ among_all count edges (edge ∷ walk) among = (contains_all count edges edge amo
 cycle_of_all : (count : ℕ) (edges : List Edge) → HasNegativeCycle (take count edges) → HasNegativeCycle edges
 cycle_of_all count edges (point, cycle, h) =
     (point, cycle, record { closed = h.closed; among = among_all count edges cycle h.among; negative = h.negative })
-
-edges_of-untagged : (edges : List Edge) → edges_of (map untagged edges) ≡ edges
-edges_of-untagged [] = refl
-edges_of-untagged (edge ∷ edges) = ap (λ es. edge ∷ es) (edges_of-untagged edges)
 
 -- a cycle of the first edges with the next one is a cycle of the edges
 next_cycle : (old : GraphForm) (edges : List Edge) (i : ℕ) → i < length edges → old.edges ≡ take i edges → old.kept ≡ [] →

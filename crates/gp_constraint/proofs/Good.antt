@@ -10,7 +10,7 @@ use Rattle.gp_trace.specs.declared.lock_use.LockUse.TheVariants.{Take, GiveBack}
 use Rattle.gp_window.specs.Events.{size_of}
 use Rattle.gp_window.specs.Holders.{Holding}
 use Rattle.gp_window.specs.Starts.{is_among}
-use Rattle.gp_window.specs.WindowForm.{WindowForm}
+use Rattle.gp_window.specs.WindowForm.{WindowForm, held_at_start}
 use Rattle.gp_constraint.specs.declared.action.Action.{Action}
 use Rattle.gp_constraint.specs.declared.action.Action.TheVariants as action
 use Rattle.gp_constraint.specs.declared.point.Point.{Point}
@@ -21,7 +21,7 @@ use Rattle.gp_constraint.specs.declared.term.Term.{Term}
 use Rattle.gp_constraint.specs.declared.term.Term.TheVariants.{Always, Never, Literal}
 use Rattle.gp_constraint.specs.Base.{clauses_of}
 use Rattle.gp_base.specs.ListLaws.{contains_found, recursion_append, recursion_flat_map}
-use Rattle.gp_constraint.specs.HeldLocks.{held_apart, holds_at_start}
+use Rattle.gp_constraint.specs.HeldLocks.{held_apart}
 use Rattle.gp_constraint.specs.Joins.{ended, is_last_of, join_of, joined_by, joins}
 use Rattle.gp_constraint.specs.PointLaws.{one_point, point_within}
 use Rattle.gp_constraint.specs.Points.{points_of}
@@ -267,7 +267,7 @@ good_families window few =
     recursion_flat_map (IsGood n) (kept_later window r) points (λ other j. good_start window r other i j)) in
     let c7 = recursion_flat_map (IsGood n) (λ a. flat_map (sections_apart points a) points) points (λ a i.
     recursion_flat_map (IsGood n) (sections_apart points a) points (λ c j. good_apart window a c a.action c.action i j)) in
-    let c8 = recursion_flat_map (IsGood n) (λ hold. flat_map (held_apart points hold) points) (holds_at_start window) (λ hold k.
+    let c8 = recursion_flat_map (IsGood n) (λ hold. flat_map (held_apart points hold) points) (held_at_start window) (λ hold k.
     recursion_flat_map (IsGood n) (held_apart points hold) points (λ c i. good_held window hold c i)) in
     recursion_append (IsGood n) (program_order points) _ c1
     (recursion_append (IsGood n) (starts window points) _ c2

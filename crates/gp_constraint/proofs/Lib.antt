@@ -18,9 +18,7 @@ pub mod Equal
 pub mod PointNames
 pub mod QueryWalk
 pub mod QueryNamed
-pub mod Entries
 pub mod EncodedIs
-pub mod Backward
 pub mod PointsFirst
 pub mod Sided
 pub mod Further

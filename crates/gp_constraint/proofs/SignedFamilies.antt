@@ -12,7 +12,7 @@ use Rattle.gp_window.specs.Events.{size_of}
 use Rattle.gp_window.specs.Formed.{IsFormed}
 use Rattle.gp_window.specs.Holders.{Holding}
 use Rattle.gp_window.specs.Starts.{is_among}
-use Rattle.gp_window.specs.WindowForm.{WindowForm}
+use Rattle.gp_window.specs.WindowForm.{WindowForm, held_at_start}
 use Rattle.gp_constraint.specs.declared.action.Action.{Action}
 use Rattle.gp_constraint.specs.declared.action.Action.TheVariants.{Read, Write, Lock, Start, Join, Other}
 use Rattle.gp_constraint.specs.declared.point.Point.{Point}
@@ -24,7 +24,7 @@ use Rattle.gp_constraint.specs.declared.term.Term.TheVariants.{Always, Never, Li
 use Rattle.gp_constraint.specs.Action.{action_of}
 use Rattle.gp_constraint.specs.Base.{clauses_of}
 use Rattle.gp_base.specs.ListLaws.{contains_found, Pairwise, recursion_append, recursion_at, recursion_flat_map, recursion_from_each}
-use Rattle.gp_constraint.specs.HeldLocks.{held_apart, holds_at_start}
+use Rattle.gp_constraint.specs.HeldLocks.{held_apart}
 use Rattle.gp_constraint.specs.Joins.{ended, is_last_of, join_of, joined_by}
 use Rattle.gp_constraint.specs.PointLaws.{one_point, points_named}
 use Rattle.gp_constraint.specs.Points.{points_of}
@@ -447,7 +447,7 @@ signed_families window w =
     let c6 = recursion_flat_map P (λ r. flat_map (kept_later window r) points) points (λ r i. signed_later_writes window r) in
     let c7 = recursion_flat_map P (λ a. flat_map (sections_apart points a) points) points (λ a i.
     recursion_flat_map P (sections_apart points a) points (λ c j. signed_apart window a c i j a.action c.action refl refl)) in
-    let c8 = recursion_flat_map P (λ hold. flat_map (held_apart points hold) points) (holds_at_start window) (λ hold k.
+    let c8 = recursion_flat_map P (λ hold. flat_map (held_apart points hold) points) (held_at_start window) (λ hold k.
     recursion_flat_map P (held_apart points hold) points (λ c i. signed_held window hold c i)) in
     recursion_append P (flat_map linked points) _ c1
     (recursion_append P (flat_map (start_of window points) points) _ c2

@@ -26,7 +26,6 @@ pub mod Placed
 pub mod Signed
 pub mod Encoded
 pub mod QueryNames
-pub mod StartTables
 pub mod NumberingLaws
 pub mod EncodedLaws
 pub mod Extended

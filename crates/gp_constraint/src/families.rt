@@ -10,7 +10,6 @@ use crate::points::Points;
 use crate::program_order::program_order;
 use crate::reads::{choices, reads, start_choices};
 use crate::sections::sections;
-use crate::start_values::StartValues;
 use crate::starts::starts;
 use crate::symbol::SymbolicLit;
 use gp_base::Row;
@@ -31,10 +30,9 @@ pub fn all_families(
     program_order(alloc, &mut clauses, points.as_slice())?;
     starts(alloc, &mut clauses, window, points)?;
     joins(alloc, &mut clauses, window, points)?;
-    let values = StartValues::new(alloc, window)?;
-    reads(alloc, &mut clauses, &values, points)?;
+    reads(alloc, &mut clauses, window, points)?;
     choices(alloc, &mut clauses, points)?;
-    start_choices(alloc, &mut clauses, &values, points)?;
+    start_choices(alloc, &mut clauses, window, points)?;
     sections(alloc, &mut clauses, points)?;
     held_locks(alloc, &mut clauses, window, points)?;
     Ok(clauses.into_row())

@@ -1,8 +1,6 @@
-ghost use Rattle.std.specs.Prelude.{◌≡◌, ◌==◌, ◌&&◌, not, ◌++◌, [], IfOk, OnOk, Option, find, flat_map};
-ghost use Rattle.gp_base.specs.Table.{with_entries};
-ghost use Rattle.gp_window.specs.Holders.{holder_cmp};
+ghost use Rattle.std.specs.Prelude.{◌≡◌, ◌==◌, ◌&&◌, not, flat_map};
 ghost use Rattle.gp_constraint.specs.Adding.{Adds};
-ghost use Rattle.gp_constraint.specs.HeldLocks.{held_apart, held_as, held_locks, holds_at_start};
+ghost use Rattle.gp_constraint.specs.HeldLocks.{held_apart, held_locks};
 ghost use Rattle.gp_constraint.specs.HeldUses.{held_with};
 ghost use Rattle.gp_constraint.specs.Sections.{ends_hold, takes_against};
 
@@ -12,11 +10,10 @@ use crate::fault::Full;
 use crate::point::Point;
 use crate::points::Points;
 use crate::sections::{exclude, first_end};
-use gp_base::{Row, Table};
 use gp_text::Name;
 use gp_trace::{LockMode, LockUse};
 use gp_window::Window;
-use std::alloc::{AllocError, Global};
+use std::alloc::Global;
 
 /// A lock, a thread that holds it when the window begins, and how.
 pub type Holding = ((Name, u32), LockMode);
@@ -39,9 +36,8 @@ pub fn held_locks(
 ) -> Result<(), Full>
     ensures { Adds result clauses.old clauses.new (held_locks window.now points.now) }
 {
-    let holds = holds_at_start(alloc, window)?;
-    for hold in holds.as_slice() {
-        held_by(alloc, clauses, points, hold)?;
+    for (holder, mode) in window.held().iter() {
+        held_by(alloc, clauses, points, &(*holder, *mode))?;
     }
     Ok(())
 }
@@ -93,28 +89,4 @@ fn is_against(hold: &Holding, c: &Point) -> bool
     ensures { result ≡ (takes_against hold.now.1 hold.now.0.0 c.now.action && not (c.now.id.thread == hold.now.0.1)) }
 {
     takes_against(hold.1, &hold.0.0, &c.action) && c.id.thread != hold.0.1
-}
-
-/// Who holds which lock when the window begins.
-fn holds_at_start(alloc: Global, window: &Window) -> Result<Row<Holding>, AllocError>
-    ensures { IfOk result (λ holds. holds ≡ holds_at_start window.now) }
-{
-    let mut holds = Table::new(alloc);
-    put_holds(&mut holds, window.holders(), LockMode::Exclusive)?;
-    put_holds(&mut holds, window.readers(), LockMode::Shared)?;
-    let row = holds.into_row(alloc)?;
-    Ok(row)
-}
-
-fn put_holds(
-    holds: &mut Table<(Name, u32), LockMode>,
-    holders: &[(Name, u32)],
-    mode: LockMode,
-) -> Result<(), AllocError>
-    ensures { OnOk result (holds.new ≡ with_entries holder_cmp holds.old (held_as mode holders.now)) }
-{
-    for holder in holders {
-        holds.put(*holder, mode)?;
-    }
-    Ok(())
 }

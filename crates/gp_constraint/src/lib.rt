@@ -29,7 +29,6 @@ mod query_names;
 mod reads;
 mod section;
 mod sections;
-mod start_values;
 mod starts;
 mod symbol;
 mod term;

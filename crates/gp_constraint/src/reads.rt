@@ -9,9 +9,9 @@ use crate::adding::{SymbolicClauses, add, preceded};
 use crate::fault::Full;
 use crate::point::Point;
 use crate::points::Points;
-use crate::start_values::StartValues;
 use crate::term::{Term, before, chosen, executed, start_chosen};
 use gp_base::Row;
+use gp_window::Window;
 use std::alloc::{AllocError, Global};
 
 fn is_read(action: &Action) -> bool
@@ -42,11 +42,11 @@ fn is_rival(read: &Action, write: &Action) -> bool
     }
 }
 
-fn finds_at_start(window: &StartValues<'_>, action: &Action) -> bool
+fn finds_at_start(window: &Window, action: &Action) -> bool
     ensures { result ≡ finds_at_start window.now action.now }
 {
     match action {
-        Action::Read(variable, value) => window.at(variable) == *value,
+        Action::Read(variable, value) => window.start_value(variable) == *value,
         _ => false,
     }
 }
@@ -61,7 +61,7 @@ fn is_choice(r: &Point, w: &Point) -> bool
 pub fn reads(
     alloc: Global,
     clauses: &mut SymbolicClauses,
-    window: &StartValues<'_>,
+    window: &Window,
     points: &Points,
 ) -> Result<(), Full>
     ensures { Adds result clauses.old clauses.new (reads window.now points.now) }
@@ -75,7 +75,7 @@ pub fn reads(
 fn choices_of(
     alloc: Global,
     clauses: &mut SymbolicClauses,
-    window: &StartValues<'_>,
+    window: &Window,
     points: &Points,
     r: &Point,
 ) -> Result<(), Full>
@@ -91,7 +91,7 @@ fn choices_of(
 fn choice_clause(
     alloc: Global,
     clauses: &mut SymbolicClauses,
-    window: &StartValues<'_>,
+    window: &Window,
     points: &Points,
     r: &Point,
 ) -> Result<(), Full>
@@ -103,7 +103,7 @@ fn choice_clause(
 
 fn choice_terms(
     alloc: Global,
-    window: &StartValues<'_>,
+    window: &Window,
     writes: &[Point],
     r: &Point,
 ) -> Result<Row<Term>, AllocError>
@@ -127,11 +127,7 @@ fn push_choice(terms: &mut Row<Term>, r: &Point, w: &Point) -> Result<(), AllocE
     terms.push(chosen(r, w, true))
 }
 
-fn push_start_choice(
-    terms: &mut Row<Term>,
-    window: &StartValues<'_>,
-    r: &Point,
-) -> Result<(), AllocError>
+fn push_start_choice(terms: &mut Row<Term>, window: &Window, r: &Point) -> Result<(), AllocError>
     ensures { OnOk result (terms.new ≡ terms.old ++ start_choice window.now r.now) }
 {
     if !finds_at_start(window, &r.action) {
@@ -257,7 +253,7 @@ fn keep_apart(
 pub fn start_choices(
     alloc: Global,
     clauses: &mut SymbolicClauses,
-    window: &StartValues<'_>,
+    window: &Window,
     points: &Points,
 ) -> Result<(), Full>
     ensures { Adds result clauses.old clauses.new (start_choices window.now points.now) }
@@ -271,7 +267,7 @@ pub fn start_choices(
 fn seen_at_start(
     alloc: Global,
     clauses: &mut SymbolicClauses,
-    window: &StartValues<'_>,
+    window: &Window,
     points: &Points,
     r: &Point,
 ) -> Result<(), Full>

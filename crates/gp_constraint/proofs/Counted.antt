@@ -7,21 +7,18 @@ use Rattle.gp_window.specs.WindowForm.{WindowForm}
 use Rattle.gp_constraint.specs.declared.point.Point.{Point}
 use Rattle.gp_constraint.specs.Encoded.{IsSmall, size_at}
 use Rattle.gp_constraint.specs.Points.{first_of, number_at, points_from, points_in, points_of, sizes_of}
+use Rattle.gp_constraint.specs.PointLaws.{size_in}
 
 -- how many events segments have together
 abbrev pub size_all : List (List Event) → ℕ
 size_all [] = 0
 size_all (segment ∷ segments) = length segment + size_all segments
 
-pub length_in : (thread index number : ℕ) (events : List Event) → length (points_in thread index number events) ≡ length events
-length_in thread index number [] = refl
-length_in thread index number (event ∷ events) = let rest = length_in thread (suc index) (suc number) events in omega (arith, rest)
-
 pub length_points : (thread number : ℕ) (segments : List (List Event)) → length (points_from thread number segments) ≡ size_all segments
 length_points thread number [] = refl
 length_points thread number (segment ∷ segments) =
     let parts = length-append (points_in thread 0 number segment) (points_from (suc thread) (number + length segment) segments) in
-    let one = length_in thread 0 number segment in
+    let one = size_in thread 0 number segment in
     let rest = length_points (suc thread) (number + length segment) segments in
     omega (arith, parts, one, rest)
 
@@ -51,7 +48,7 @@ segment_more points new thread next segments i more d below m n is =
     let up : next ≡ suc thread = omega (arith, n) in
     let whole = ap length is in
     let parts = length-append points here in
-    let own = length_in thread 0 (length points) segment in
+    let own = size_in thread 0 (length points) segment in
     let count : length new ≡ length points + length segment = omega (arith, whole, parts, own) in
     let rest : List Point = points_from (suc thread) (length points + length segment) (drop (suc i) segments) in
     let same : points_from next (length new) (drop more segments) ≡ rest =

@@ -17,7 +17,8 @@ use Rattle.gp_constraint.specs.Points.{points_of}
 use Rattle.gp_constraint.specs.Symbols.{kind_of, symbol_eq}
 use Rattle.gp_constraint.proofs.Good.{IsValidSymbol, valid_kind}
 use Rattle.gp_constraint.proofs.Names.{grows_none, of_grows}
-use Rattle.gp_constraint.proofs.Valid.{base_valid, clauses_below, few_after, few_names, names_valid, size_numbered}
+use Rattle.gp_constraint.proofs.Valid.{base_valid, clauses_below, few_after, few_names, names_valid}
+use Rattle.gp_constraint.specs.EncodedLaws.{numbered_size}
 
 abbrev AreKinds : ℕ → List Symbol → Type 0
 AreKinds n names = AllByRecursion (λ s. IsValidKind n (kind_of s)) names
@@ -56,8 +57,8 @@ extended_valid window more few limit fit =
     let first = few_names window few in
     let later = few_fit n names more fit in
     let kinds = length-map final kind_of in
-    let own = size_numbered start (clauses_of window) in
-    let further = size_numbered names more in
+    let own = numbered_size start (clauses_of window) in
+    let further = numbered_size names more in
     let joined = length-append (numbered start (clauses_of window)) (numbered names more) in
     let all_names : AreKinds n final =
     kinds_of_all n names more (recursion_from_each (λ s. IsValidKind n (kind_of s)) names (λ s i. valid_kind n s (recursion_at (IsValidSymbol n) names s (names_valid window few) i))) fit in

@@ -4,7 +4,7 @@ use Rattle.std.specs.Prelude.{ℤ, negsuc, ◌-◌, ◌==◌, ◌<ℤ◌, Option
 use Rattle.std.specs.List.{AllByRecursion}
 use Rattle.std.proofs.lemmas.Bool.{cases_Bool, ltb-false, ltb-true, ne_eqb}
 use Rattle.std.proofs.lemmas.Bool.Decides.{nat_tests}
-use Rattle.std.proofs.lemmas.List.{length-map}
+use Rattle.std.proofs.lemmas.List.{length-map, map-append}
 use Rattle.std.proofs.lemmas.List.Elements.{recursion_from_All, All-from_recursion}
 use Rattle.gp_clause.specs.declared.kind.Kind.{Kind}
 use Rattle.gp_clause.specs.declared.lit.Lit.{Lit}
@@ -28,7 +28,7 @@ use Rattle.gp_constraint.specs.declared.symbol.Symbol.TheVariants.{Executed, Las
 use Rattle.gp_constraint.specs.declared.symbol.SymbolicLit.{SymbolicLit}
 use Rattle.gp_constraint.specs.Base.{base_of, clauses_of, first_names, names_in}
 use Rattle.gp_constraint.specs.Extended.{base_with, extended_truth, ExtendedMeans, ExtensionsMean, IsExtendedModel, IsFurther, IsMeaning, ModelsExtend, names_with, nothing_asked, symbol_value}
-use Rattle.gp_base.specs.ListLaws.{recursion_append, recursion_at, recursion_flat_map_at, recursion_parts}
+use Rattle.gp_base.specs.ListLaws.{recursion_append, recursion_at, recursion_flat_map_at, recursion_parts, got_front}
 use Rattle.gp_constraint.specs.Numbering.{lits_onto, names_after, names_of, number_of, numbered, numbered_lit}
 use Rattle.gp_constraint.specs.Points.{number_in, points_of}
 use Rattle.gp_constraint.specs.Symbols.{kind_of}
@@ -40,11 +40,7 @@ use Rattle.gp_constraint.proofs.Names.{any_has, Grows, grows_none, grows_on, has
 use Rattle.gp_constraint.proofs.PointsFirst.{points_first}
 use Rattle.gp_constraint.proofs.Truths.{any_back, any_to, clauses_hold, name_read, onto_has, point_true, signed_is}
 use Rattle.gp_constraint.proofs.Valid.{clauses_below, names_valid}
-use Rattle.gp_constraint.proofs.Valued.{answer_base, answer_points, clauses_from, got_front, Kept, less_from, one_edge}
-
-map_parts : {X Y : Type 0} (f : X → Y) (xs ys : List X) → map f (xs ++ ys) ≡ map f xs ++ map f ys
-map_parts f [] ys = refl
-map_parts f (x ∷ xs) ys = ap (λ rest. f x ∷ rest) (map_parts f xs ys)
+use Rattle.gp_constraint.proofs.Valued.{answer_base, answer_points, clauses_from, Kept, less_from, one_edge}
 
 -- the kind of the name at a place
 kind_at : (ns : List Symbol) (k : ℕ) (kind : Kind) → slice_get (map kind_of ns) k ≡ Some kind → kind_of (slice_index_or ns k (Executed 0)) ≡ kind
@@ -89,7 +85,7 @@ module _ (window : WindowForm) (more : List (List SymbolicLit)) where
     first_kinds : (k : ℕ) (kind : Kind) → slice_get (map kind_of names ++ []) k ≡ Some kind → slice_get (map kind_of final ++ query.locals) k ≡ Some kind
     first_kinds k kind e =
         let here : slice_get (map kind_of names) k ≡ Some kind = subst (λ (ks : List Kind). slice_get ks k ≡ Some kind) (append-nil (map kind_of names)) e in
-        let longer : map kind_of names ++ map kind_of grows.rest ≡ map kind_of final = sym (map_parts kind_of names grows.rest) ∙ ap (map kind_of) (sym grows.is) in
+        let longer : map kind_of names ++ map kind_of grows.rest ≡ map kind_of final = sym (map-append kind_of names grows.rest) ∙ ap (map kind_of) (sym grows.is) in
         got_front (map kind_of final) query.locals k kind
         (subst (λ (ks : List Kind). slice_get ks k ≡ Some kind) longer (got_front (map kind_of names) (map kind_of grows.rest) k kind here))
 

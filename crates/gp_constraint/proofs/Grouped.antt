@@ -8,7 +8,7 @@ use Rattle.std.specs.Str.{bytes_eq}
 use Rattle.std.proofs.lemmas.Bool.{cases_Bool}
 use Rattle.std.proofs.lemmas.Map.Text.{is_eq-slice_cmp}
 use Rattle.std.proofs.lemmas.Slice.Eq.{bytes_eq-Decides}
-use Rattle.gp_constraint.proofs.Lists.{append_none}
+use Rattle.std.proofs.lemmas.List.{append-nil}
 
 -- a list is taken out at the name, and put back with one value more at its end
 pub grouped_more : {X : Type 0} (before between after : List ℕ → Option (List X)) (name : List ℕ) (row : List X) (value : X)
@@ -28,5 +28,5 @@ grouped_more before between after name row value is out back other =
           (let off : is_at (slice_cmp nat_cmp name) other ≡ false = is_eq-slice_cmp name other ∙ differ in
           let found : after other ≡ between other = back other ∙ ap (λ b. cond b (Some (row ++ value ∷ [])) (between other)) off in
           let kept : between other ≡ before other = out other ∙ ap (λ b. cond b None (before other)) off in
-          rw differ (ap (λ o. unwrap_or o []) (found ∙ kept) ∙ sym (append_none (unwrap_or (before other) []))))
+          rw differ (ap (λ o. unwrap_or o []) (found ∙ kept) ∙ sym (append-nil (unwrap_or (before other) []))))
     ]

@@ -1,7 +1,8 @@
--- Lists in general: a search, a filter and a flat map over the elements that count.
-use Rattle.std.proofs.Common.{◌≡◌, ap, sym, ◌∙◌, refl, inl, inr, List, [], ◌∷◌, ◌++◌, Bool, true, false, append_assoc}
+-- Lists in general: a search and a flat map over the elements that count.
+use Rattle.std.proofs.Common.{◌≡◌, ap, ◌∙◌, refl, inl, inr, List, [], ◌∷◌, ◌++◌, Bool, true, false}
 use Rattle.std.specs.Prelude.{Some, filter, find, flat_map, if◌then◌else◌}
 use Rattle.std.proofs.lemmas.Bool.{cases_Bool}
+use Rattle.std.proofs.lemmas.Grind.{flat_map-append}
 
 -- a search among the elements that can be found
 pub find_kept : {X : Type 0} (p q : X → Bool) (xs : List X) → ((x : X) → q x ≡ false → p x ≡ false) → find p (filter q xs) ≡ find p xs
@@ -34,33 +35,7 @@ flat_picked f g q (x ∷ xs) h k =
       | inr off ↦ (let gives : f x ≡ [] = h x off in rw (off, gives) (flat_picked f g q xs h k))
     ]
 
--- the same function at each element
-pub flat_same : {X Y : Type 0} (f g : X → List Y) (xs : List X) → ((x : X) → f x ≡ g x) → flat_map f xs ≡ flat_map g xs
-flat_same f g [] h = refl
-flat_same f g (x ∷ xs) h = ap (λ one. one ++ flat_map f xs) (h x) ∙ ap (λ rest. g x ++ rest) (flat_same f g xs h)
-
-pub flat_append : {X Y : Type 0} (f : X → List Y) (xs ys : List X) → flat_map f (xs ++ ys) ≡ flat_map f xs ++ flat_map f ys
-flat_append f [] ys = refl
-flat_append f (x ∷ xs) ys = ap (λ rest. f x ++ rest) (flat_append f xs ys) ∙ sym (append_assoc (f x) (flat_map f xs) (flat_map f ys))
-
 -- a flat map over a flat map
 pub flat_flat : {X Y Z : Type 0} (f : Y → List Z) (g : X → List Y) (xs : List X) → flat_map f (flat_map g xs) ≡ flat_map (λ x. flat_map f (g x)) xs
 flat_flat f g [] = refl
-flat_flat f g (x ∷ xs) = flat_append f (g x) (flat_map g xs) ∙ ap (λ rest. flat_map f (g x) ++ rest) (flat_flat f g xs)
-
-pub filter_append : {X : Type 0} (q : X → Bool) (xs ys : List X) → filter q (xs ++ ys) ≡ filter q xs ++ filter q ys
-filter_append q [] ys = refl
-filter_append q (x ∷ xs) ys =
-    elim (cases_Bool (q x)) [
-      | inl kept ↦ rw kept (ap (λ rest. x ∷ rest) (filter_append q xs ys))
-      | inr off ↦ rw off (filter_append q xs ys)
-    ]
-
--- a filter of a flat map
-pub filter_flat : {X Y : Type 0} (q : Y → Bool) (g : X → List Y) (xs : List X) → filter q (flat_map g xs) ≡ flat_map (λ x. filter q (g x)) xs
-filter_flat q g [] = refl
-filter_flat q g (x ∷ xs) = filter_append q (g x) (flat_map g xs) ∙ ap (λ rest. filter q (g x) ++ rest) (filter_flat q g xs)
-
-pub append_none : {X : Type 0} (xs : List X) → xs ++ [] ≡ xs
-append_none [] = refl
-append_none (x ∷ xs) = ap (λ rest. x ∷ rest) (append_none xs)
+flat_flat f g (x ∷ xs) = flat_map-append f (g x) (flat_map g xs) ∙ ap (λ rest. flat_map f (g x) ++ rest) (flat_flat f g xs)

@@ -4,6 +4,8 @@ use Rattle.std.specs.Prelude.{Some, slice_get, ◌==◌, ◌&&◌, if◌then◌e
 use Rattle.std.specs.List.{list_any}
 use Rattle.std.proofs.lemmas.Bool.{and_from, and_parts, cases_Bool, cases_eq, false≢true, ne_eqb}
 use Rattle.std.proofs.lemmas.List.Elements.{Contains-append_left, Contains-append_right, Contains-append_cases, Contains-push}
+use Rattle.std.proofs.Math.Seq.{drop-append_seam}
+use Rattle.std.proofs.lemmas.List.{map-append}
 use Rattle.gp_base.specs.ListLaws.{first_or_rest, here, nothing_in, there}
 use Rattle.gp_clause.specs.declared.lit.Lit.{Lit}
 use Rattle.gp_clause.specs.Lit.{lit_eq}
@@ -235,19 +237,11 @@ kind_there [] k s e = cc
 kind_there (name ∷ names) zero s e = let same : name ≡ s = cc in ap (λ n. Some (kind_of n)) same
 kind_there (name ∷ names) (suc k) s e = kind_there names k s e
 
-dropped : (names rest : List Symbol) → drop (length names) (names ++ rest) ≡ rest
-dropped [] rest = refl
-dropped (name ∷ names) rest = dropped names rest
-
-map_parts : (names rest : List Symbol) → map kind_of names ++ map kind_of rest ≡ map kind_of (names ++ rest)
-map_parts [] rest = refl
-map_parts (name ∷ names) rest = ap (λ kinds. kind_of name ∷ kinds) (map_parts names rest)
-
 -- the kinds of the first names and of those after them are those of all
 pub all_kinds : (names more : List Symbol) → Grows names more → map kind_of names ++ map kind_of (drop (length names) more) ≡ map kind_of more
 all_kinds names more g =
-    let rest : drop (length names) more ≡ g.rest = ap (drop (length names)) g.is ∙ dropped names g.rest in
-    ap (λ ns. map kind_of names ++ map kind_of ns) rest ∙ map_parts names g.rest ∙ ap (map kind_of) (sym g.is)
+    let rest : drop (length names) more ≡ g.rest = ap (drop (length names)) g.is ∙ drop-append_seam names g.rest in
+    ap (λ ns. map kind_of names ++ map kind_of ns) rest ∙ sym (map-append kind_of names g.rest) ∙ ap (map kind_of) (sym g.is)
 
 -- each point has a name, at its own number
 pub point_named : (k n : ℕ) → k < n → Contains (point_names n) (Executed k)

@@ -1,7 +1,8 @@
 -- Mentions of a symbol in a query.
 use Rattle.std.proofs.Common.{ℕ, ◌≡◌, ◌+◌, ◌<◌, ◌≤◌, ap, sym, ◌∙◌, refl, List, [], ◌∷◌, ◌++◌, append_assoc, drop, get_or, length}
-use Rattle.std.proofs.lemmas.List.{drop_more}
+use Rattle.std.proofs.lemmas.List.{drop_more, append-nil}
 use Rattle.std.specs.Prelude.{flat_map, map}
+use Rattle.std.proofs.Math.Seq.{drop-append_seam}
 use Rattle.gp_clause.specs.declared.kind.Kind.{Kind}
 use Rattle.gp_clause.specs.declared.lit.Lit.{Lit}
 use Rattle.gp_clause.specs.declared.problem.Query.{Query}
@@ -16,7 +17,6 @@ use Rattle.gp_constraint.specs.Numbering.{number_of, numbered_lit, with_mention,
 use Rattle.gp_constraint.specs.Query.{executed_lits, pattern_lits, query_names, query_of, sides_of}
 use Rattle.gp_constraint.specs.QueryNames.{all_names, AreMentioned, QueryNamesForm}
 use Rattle.gp_constraint.specs.Symbols.{kind_of}
-use Rattle.gp_constraint.proofs.Lists.{append_none}
 use Rattle.gp_constraint.proofs.Mentions.{mention_after, mention_here, mentions_append}
 
 pub mentioned_here : (base own : List Symbol) (s : Symbol) → number_of base s < length base
@@ -39,14 +39,10 @@ names_are window property ids start middle names lits is these one other =
       other.all
           ∙ ap (λ (ns : List Symbol). with_mentions ns sides) (one.all
           ∙ ap (λ (n : QueryNamesForm). with_mentions (all_names n) (map (λ (lit : SymbolicLit). lit.symbol) lits)) is
-          ∙ ap (λ (ns : List Symbol). with_mentions ns (map (λ (lit : SymbolicLit). lit.symbol) lits)) (append_none (names_in window))
+          ∙ ap (λ (ns : List Symbol). with_mentions ns (map (λ (lit : SymbolicLit). lit.symbol) lits)) (append-nil (names_in window))
           ∙ ap (λ (ls : List SymbolicLit). with_mentions (names_in window) (map (λ (lit : SymbolicLit). lit.symbol) ls)) these)
           ∙ sym (mentions_append (names_in window) (map (λ (lit : SymbolicLit). lit.symbol) (pattern_lits window property ids)) sides),
     )
-
-dropped : (names rest : List Symbol) → drop (length names) (names ++ rest) ≡ rest
-dropped [] rest = refl
-dropped (name ∷ names) rest = dropped names rest
 
 pub query_is : (window : WindowForm) (property : PropertyForm) (ids : List EventId) (names : QueryNamesForm) (lits : List SymbolicLit) (locals : List Kind) (assumed : List Lit)
     → (names.base ≡ names_in window) × (all_names names ≡ query_names window property ids) → lits ≡ pattern_lits window property ids
@@ -54,7 +50,7 @@ pub query_is : (window : WindowForm) (property : PropertyForm) (ids : List Event
     → ◌≡◌ {A = Query} (record { locals = locals; assumed = assumed }) (query_of window property ids)
 query_is window property ids names lits locals assumed are these kinds lit =
     let own : names.own ≡ drop (length (names_in window)) (query_names window property ids) =
-    sym (dropped names.base names.own) ∙ ap (λ (ns : List Symbol). drop (length ns) (names.base ++ names.own)) are.0
+    sym (drop-append_seam names.base names.own) ∙ ap (λ (ns : List Symbol). drop (length ns) (names.base ++ names.own)) are.0
     ∙ ap (λ (ns : List Symbol). drop (length (names_in window)) ns) are.1 in
     let first : locals ≡ map kind_of (drop (length (names_in window)) (query_names window property ids)) = kinds ∙ ap (map kind_of) own in
     let second : assumed ≡ map (numbered_lit (query_names window property ids)) (executed_lits window ids ++ pattern_lits window property ids) =

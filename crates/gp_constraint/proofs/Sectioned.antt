@@ -4,6 +4,8 @@ use Rattle.std.specs.Prelude.{◌==◌, ◌&&◌, not, Option, filter, find, fla
 use Rattle.std.specs.Str.{bytes_eq}
 use Rattle.std.proofs.lemmas.Bool.{and_left, cases_Bool, cond-false}
 use Rattle.std.proofs.lemmas.Slice.Eq.{bytes_eq-Decides}
+use Rattle.std.proofs.lemmas.List.{append-nil}
+use Rattle.gp_base.specs.FilterLaws.{filter-flat_map, flat_map_agree}
 use Rattle.gp_trace.specs.declared.lock_use.LockMode.{LockMode}
 use Rattle.gp_trace.specs.declared.lock_use.LockUse.TheVariants.{Take, GiveBack}
 use Rattle.gp_window.specs.Holders.{Holding}
@@ -18,7 +20,7 @@ use Rattle.gp_constraint.specs.Sections.{apart, ends_hold, exclude, in_either_or
 use Rattle.gp_constraint.specs.SectionTables.{section_at, section_with, sections_between, sections_in, sections_on}
 use Rattle.gp_constraint.specs.Tables.{uses_lock, uses_of}
 use Rattle.gp_constraint.specs.Terms.{needs}
-use Rattle.gp_constraint.proofs.Lists.{append_none, filter_flat, flat_flat, flat_kept, flat_same}
+use Rattle.gp_constraint.proofs.Lists.{flat_flat, flat_kept}
 use Rattle.gp_constraint.proofs.Tabled.{bytes_turned, end_found}
 
 -- two takes of one lock
@@ -28,7 +30,7 @@ between_same : (points : List Point) (a c : Point) (mode m : LockMode) (lock : L
     ≡ apart points a c (Lock (Take mode lock)) (Lock (Take m lock))
 between_same points a c mode m lock =
     let itself : bytes_eq lock lock ≡ true = (bytes_eq-Decides lock lock).1 refl in
-    rw itself (append_none (if exclude mode m && nat_lt a.id.thread c.id.thread then in_either_order points a mode c m lock else []))
+    rw itself (append-nil (if exclude mode m && nat_lt a.id.thread c.id.thread then in_either_order points a mode c m lock else []))
 
 -- between a section of a lock and what another point begins
 between_at : (points : List Point) (a c : Point) (mode : LockMode) (lock : List ℕ) (other : Action)
@@ -62,11 +64,11 @@ at_point : (points : List Point) (p : Point) (action : Action)
     → flat_map (with_all points) (section_with points p action) ≡ flat_map (λ c. apart points p c action c.action) points
 at_point points p (Lock (Take mode lock)) =
     let one : Section = record { begin = p; mode = mode; lock = lock; end = find (ends_hold mode lock p.id.thread (suc p.id.index)) points } in
-    append_none (with_all points one)
-    ∙ ap (flat_map (sections_between one)) (filter_flat (λ s. bytes_eq s.lock lock) (section_at points) points)
+    append-nil (with_all points one)
+    ∙ ap (flat_map (sections_between one)) (filter-flat_map (λ s. bytes_eq s.lock lock) (section_at points) points)
     ∙ flat_flat (sections_between one) (λ c. filter (λ s. bytes_eq s.lock lock) (section_at points c)) points
-    ∙ flat_same (λ c. flat_map (sections_between one) (filter (λ s. bytes_eq s.lock lock) (section_at points c))) (λ c. apart points p c (Lock (Take mode lock)) c.action) points
-    (λ c. between_at points p c mode lock c.action)
+    ∙ flat_map_agree (λ c. flat_map (sections_between one) (filter (λ s. bytes_eq s.lock lock) (section_at points c))) (λ c. apart points p c (Lock (Take mode lock)) c.action)
+    (λ c. between_at points p c mode lock c.action) points
 at_point points p (Lock (GiveBack mode lock)) = flat_none (λ c. apart points p c (Lock (GiveBack mode lock)) c.action) points (λ c. refl)
 at_point points p (Read variable value) = flat_none (λ c. apart points p c (Read variable value) c.action) points (λ c. refl)
 at_point points p (Write variable value) = flat_none (λ c. apart points p c (Write variable value) c.action) points (λ c. refl)
@@ -78,8 +80,8 @@ pub sections_tabled : (points : List Point)
     → flat_map (λ a. flat_map (sections_between a) (sections_on a.lock (sections_in points))) (sections_in points) ≡ sections points
 sections_tabled points =
     flat_flat (with_all points) (section_at points) points
-    ∙ flat_same (λ p. flat_map (with_all points) (section_at points p)) (λ p. flat_map (sections_apart points p) points) points
-    (λ p. at_point points p p.action)
+    ∙ flat_map_agree (λ p. flat_map (with_all points) (section_at points p)) (λ p. flat_map (sections_apart points p) points)
+    (λ p. at_point points p p.action) points
 
 against_off : (mode : LockMode) (lock : List ℕ) (action : Action) → uses_lock lock action ≡ false → takes_against mode lock action ≡ false
 against_off mode lock (Lock (Take other again)) e = and_left (bytes_eq again lock) (exclude mode other) e

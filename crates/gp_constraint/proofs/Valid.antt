@@ -1,5 +1,5 @@
 -- The problem of a window is valid, and its edges can be kept.
-use Rattle.std.proofs.Common.{ℕ, zero, suc, ◌≡◌, ◌<◌, ◌≤◌, ◌+◌, ◌*◌, ap, sym, refl, subst, inl, inr, List, [], ◌∷◌, ◌++◌, Bool, true, false, arith, length, length-append}
+use Rattle.std.proofs.Common.{ℕ, zero, suc, ◌≡◌, ◌<◌, ◌≤◌, ◌+◌, ◌*◌, sym, refl, subst, inl, inr, List, [], ◌∷◌, ◌++◌, Bool, true, false, arith, length, length-append}
 use Rattle.std.specs.Prelude.{ℤ, pos, negsuc, ◌-ℤ◌, ◌≤ℤ◌, ◌<ℤ◌, ◌==◌, ◌-◌, All, map, flat_map, if◌then◌else◌}
 use Rattle.std.specs.List.{AllByRecursion, list_any}
 use Rattle.std.proofs.lemmas.Int.{ints}
@@ -24,6 +24,7 @@ use Rattle.gp_constraint.specs.ProgramOrder.{edge_to}
 use Rattle.gp_constraint.specs.Symbols.{kind_of, symbol_eq}
 use Rattle.gp_constraint.proofs.Good.{AreGood, AreValidLits, good_families, IsValidSymbol, valid_kind}
 use Rattle.gp_constraint.proofs.Names.{Grows, grows_none, grows_on, number_within, of_grows, onto_stems, size_names}
+use Rattle.gp_constraint.specs.EncodedLaws.{numbered_size}
 
 abbrev pub AreValidNames : ℕ → List Symbol → Type 0
 AreValidNames n names = AllByRecursion (IsValidSymbol n) names
@@ -99,10 +100,6 @@ clauses_below final names (clause ∷ clauses) g =
     let next : List Symbol = names_after names clause in
     (lits_below final names clause (grows_on next (names_of next clauses) final (of_grows next clauses) g), clauses_below final next clauses g)
 
-pub size_numbered : (names : List Symbol) (clauses : List (List SymbolicLit)) → length (numbered names clauses) ≡ length clauses
-size_numbered names [] = refl
-size_numbered names (clause ∷ clauses) = ap suc (size_numbered (names_after names clause) clauses)
-
 pub names_valid : (window : WindowForm) → length (points_of window) ≤ 2048 → AreValidNames (length (points_of window)) (names_in window)
 names_valid window few =
     let n : ℕ = length (points_of window) in
@@ -134,7 +131,7 @@ base_valid window few limit =
     let start : List Symbol = point_names n in
     let named = few_names window few in
     let kinds = length-map names kind_of in
-    let clauses = size_numbered start (clauses_of window) in
+    let clauses = numbered_size start (clauses_of window) in
     record {
       few_points = omega (arith, few);
       few_kinds = omega (arith, named, limit, kinds);

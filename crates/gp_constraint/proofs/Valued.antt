@@ -1,5 +1,5 @@
 -- What an answer to the problem of a window and to a query says of symbols.
-use Rattle.std.proofs.Common.{ℕ, zero, suc, ◌≡◌, ◌<◌, ap, sym, ◌∙◌, subst, inl, inr, List, [], ◌∷◌, ◌++◌, Bool, true, false, arith, length}
+use Rattle.std.proofs.Common.{ℕ, suc, ◌≡◌, ◌<◌, ap, sym, ◌∙◌, subst, inl, inr, List, [], ◌∷◌, ◌++◌, Bool, true, false, arith, length}
 use Rattle.std.specs.Prelude.{ℤ, negsuc, ◌-ℤ◌, ◌≤ℤ◌, ◌<ℤ◌, ◌-◌, ◌==◌, Some, slice_get, map, flat_map, if◌then◌else◌, Contains}
 use Rattle.std.specs.List.{AllByRecursion}
 use Rattle.std.proofs.lemmas.Bool.{ne_eqb}
@@ -27,7 +27,7 @@ use Rattle.gp_constraint.specs.declared.symbol.Symbol.TheVariants.{Executed, Ord
 use Rattle.gp_constraint.specs.declared.symbol.SymbolicLit.{SymbolicLit}
 use Rattle.gp_constraint.specs.Action.{action_of}
 use Rattle.gp_constraint.specs.Base.{base_of, clauses_of, first_names, names_in}
-use Rattle.gp_base.specs.ListLaws.{contains_map, first_or_rest, nothing_in, recursion_at, recursion_flat_map_at}
+use Rattle.gp_base.specs.ListLaws.{contains_map, nothing_in, recursion_at, recursion_flat_map_at, got_front}
 use Rattle.gp_constraint.specs.Laws.{BaseMeans, QueryMeans}
 use Rattle.gp_constraint.specs.Numbering.{lits_onto, names_after, names_of, number_of, numbered, numbered_lit}
 use Rattle.gp_constraint.specs.PointLaws.{event_id, points_named}
@@ -69,21 +69,14 @@ lit_from final truth place lit kept named true_now = (
   bound_from (truth_from final truth place) lit.symbol lit.positive (subst (λ b. KeepsBound place (bound_of (kind_of lit.symbol) b)) true_now (kept.bounds lit.symbol named)),
 )
 
-holds_from : (t : SymbolTruth) (lit : SymbolicLit) (lits : List SymbolicLit) → Contains lits lit → IsTrueLit t lit → HoldsSymbolic t lits
-holds_from t lit [] i h = absurd (nothing_in _ i)
-holds_from t lit (first ∷ lits) i h =
-    elim (first_or_rest _ _ _ i) [
-      | inl same ↦ inl (subst (λ (l : SymbolicLit). IsTrueLit t l) (sym same) h)
-      | inr i ↦ inr (holds_from t lit lits i h)
-    ]
-
 clause_from : (final : List Symbol) (truth : ℕ → Bool) (place : ℕ → ℤ) (names : List Symbol) (lits : List SymbolicLit) → Kept final truth place
     → Grows (names_after names lits) final → IsTrueClause truth (lits_onto [] names lits) → HoldsSymbolic (truth_from final truth place) lits
 clause_from final truth place names lits kept g (k, l, below, is, true_now) =
     elim (onto_stems final l [] names lits g (k, below, is)) [
       | inl none ↦ absurd (nothing_in _ none)
-      | inr s ↦ holds_from (truth_from final truth place) s.lit lits s.own
-          (lit_from final truth place s.lit kept s.named (subst (λ (m : Lit). HoldsLit truth m) (sym s.is) true_now))
+      | inr s ↦
+          let own = s.own in
+          (own.0, s.lit, own.1, own.2, lit_from final truth place s.lit kept s.named (subst (λ (m : Lit). HoldsLit truth m) (sym s.is) true_now))
     ]
 
 -- numbered clauses that are true hold over symbols
@@ -95,11 +88,6 @@ clauses_from final truth place names (clause ∷ clauses) kept g h =
       clause_from final truth place names clause kept (grows_on next (names_of next clauses) final (of_grows next clauses) g) h.0,
       clauses_from final truth place next clauses kept g h.1,
     )
-
-pub got_front : {X : Type 0} (xs ys : List X) (k : ℕ) (x : X) → slice_get xs k ≡ Some x → slice_get (xs ++ ys) k ≡ Some x
-got_front [] ys k x e = cc
-got_front (first ∷ xs) ys zero x e = e
-got_front (first ∷ xs) ys (suc k) x e = got_front xs ys k x e
 
 -- an answer keeps the bounds of the names of a window
 base_kept : (window : WindowForm) (query : Query) (v : Valuation) → Meets (base_of window) query v → Kept (names_in window) (truth_of v) (place_of v)

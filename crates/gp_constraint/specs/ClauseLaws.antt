@@ -1,9 +1,11 @@
 -- Laws: true clauses, taken apart into terms.
 use Rattle.std.proofs.Common.{ℕ, zero, suc, ◌≡◌, ◌⊎◌, ◌<◌, sym, ◌∙◌, refl, subst, inl, inr, List, [], ◌∷◌, ◌++◌, Bool, true, false, arith, eqb-true}
 use Rattle.std.specs.Prelude.{◌<ℤ◌, Some, None, Option, slice_get, if◌then◌else◌, ◌==◌, nat_lt, flat_map, Contains}
-use Rattle.std.specs.List.{list_any}
+use Rattle.std.specs.List.{Any, list_any}
 use Rattle.std.proofs.lemmas.Bool.{cases_Bool, cases_eq, false≢true, ltb-true}
 use Rattle.std.proofs.lemmas.Int.{ints}
+use Rattle.std.proofs.lemmas.List.Elements.{Contains-append_cases}
+use Rattle.std.proofs.lemmas.List.Folds.{Any-from_list_any}
 use Rattle.gp_trace.specs.declared.event.Event.{Event}
 use Rattle.gp_window.specs.Events.{event_at, segment_of}
 use Rattle.gp_window.specs.WindowForm.{WindowForm}
@@ -13,7 +15,7 @@ use Rattle.gp_constraint.specs.declared.symbol.Symbol.TheVariants.{Executed, Ord
 use Rattle.gp_constraint.specs.declared.symbol.SymbolicLit.{SymbolicLit}
 use Rattle.gp_constraint.specs.declared.term.Term.{Term}
 use Rattle.gp_constraint.specs.declared.term.Term.TheVariants.{Always, Never, Literal}
-use Rattle.gp_base.specs.ListLaws.{first_or_rest, nothing_in}
+use Rattle.gp_base.specs.ListLaws.{any_first_or_rest, any_nothing, contains_from_flat_map, first_or_rest, nothing_in}
 use Rattle.gp_constraint.specs.PointLaws.{event_id, points_named}
 use Rattle.gp_constraint.specs.Points.{number_in, points_of}
 use Rattle.gp_constraint.specs.SymbolTruth.{HoldAll, HoldsSymbolic, IsTrueLit, KeepsEdges, SymbolTruth}
@@ -27,21 +29,33 @@ Holds t (Literal lit) = IsTrueLit t lit
 
 -- one of the terms is true
 abbrev pub AnyTerm : SymbolTruth → List Term → Type 0
-AnyTerm t [] = ⊥
-AnyTerm t (term ∷ terms) = Holds t term ⊎ AnyTerm t terms
+AnyTerm t terms = Any (Holds t) terms
+
+-- a term is true whose literal is
+lit_holds : (t : SymbolTruth) (term : Term) (lit : SymbolicLit) → Contains (lit_of term) lit → IsTrueLit t lit → Holds t term
+lit_holds t Always lit i h = tt
+lit_holds t Never lit i h = absurd (nothing_in _ i)
+lit_holds t (Literal own) lit i h =
+    elim (first_or_rest own [] lit i) [
+      | inl same ↦ subst (IsTrueLit t) (sym same) h
+      | inr none ↦ absurd (nothing_in _ none)
+    ]
 
 from_lits : (t : SymbolTruth) (terms : List Term) → HoldsSymbolic t (flat_map lit_of terms) → AnyTerm t terms
-from_lits t [] h = h
-from_lits t (Always ∷ terms) h = inl tt
-from_lits t (Never ∷ terms) h = inr (from_lits t terms h)
-from_lits t (Literal lit ∷ terms) (inl here) = inl here
-from_lits t (Literal lit ∷ terms) (inr there) = inr (from_lits t terms there)
+from_lits t terms (k, lit, within, is, h) =
+    let from = contains_from_flat_map lit_of terms lit (k, within, is) in
+    let place = from.1 in
+    (place.0, from.0, place.1, place.2, lit_holds t from.0 lit from.2 h)
+
+always_holds : (t : SymbolTruth) (term : Term) → is_always term ≡ true → Holds t term
+always_holds t Always e = tt
+always_holds t Never e = cc
+always_holds t (Literal lit) e = cc
 
 always_any : (t : SymbolTruth) (terms : List Term) → list_any is_always terms ≡ true → AnyTerm t terms
-always_any t [] e = cc
-always_any t (Always ∷ terms) e = inl tt
-always_any t (Never ∷ terms) e = inr (always_any t terms e)
-always_any t (Literal lit ∷ terms) e = inr (always_any t terms e)
+always_any t terms e =
+    let some = Any-from_list_any is_always terms e in
+    (some.0, some.1, some.2, some.3, always_holds t some.1 some.4)
 
 -- the clauses under a test
 pub unless : (t : SymbolTruth) (b : Bool) (clauses : List (List SymbolicLit)) → b ≡ false → HoldAll t (if b then [] else clauses) → HoldAll t clauses
@@ -79,25 +93,29 @@ each_holds t f x (first ∷ xs) h i =
 
 -- a false literal leaves the rest
 pub skip : (t : SymbolTruth) (symbol : Symbol) (terms : List Term) → t.symbols symbol ≡ true → AnyTerm t (literal symbol false ∷ terms) → AnyTerm t terms
-skip t symbol terms true_now (inl bad) = absurd (false≢true (sym bad.0 ∙ true_now))
-skip t symbol terms true_now (inr rest) = rest
+skip t symbol terms true_now h =
+    elim (any_first_or_rest (Holds t) (literal symbol false) terms h) [
+      | inl bad ↦ absurd (false≢true (sym bad.0 ∙ true_now))
+      | inr rest ↦ rest
+    ]
 
 pub last_one : (t : SymbolTruth) (term : Term) → AnyTerm t (term ∷ []) → Holds t term
-last_one t term (inl here) = here
-last_one t term (inr none) = absurd none
+last_one t term h =
+    elim (any_first_or_rest (Holds t) term [] h) [
+      | inl here ↦ here
+      | inr none ↦ absurd (any_nothing (Holds t) none)
+    ]
 
 pub split_terms : (t : SymbolTruth) (xs ys : List Term) → AnyTerm t (xs ++ ys) → AnyTerm t xs ⊎ AnyTerm t ys
-split_terms t [] ys h = inr h
-split_terms t (x ∷ xs) ys (inl here) = inl (inl here)
-split_terms t (x ∷ xs) ys (inr there) =
-    elim (split_terms t xs ys there) [
-      | inl one ↦ inl (inr one)
-      | inr other ↦ inr other
+split_terms t xs ys (k, term, within, is, h) =
+    elim (Contains-append_cases xs ys term (k, within, is)) [
+      | inl first ↦ inl (first.0, term, first.1, first.2, h)
+      | inr second ↦ inr (second.0, term, second.1, second.2, h)
     ]
 
 pub one_term : (t : SymbolTruth) (b : Bool) (term : Term) → AnyTerm t (if b then term ∷ [] else []) → (b ≡ true) × Holds t term
 one_term t true term h = (refl, last_one t term h)
-one_term t false term h = absurd h
+one_term t false term h = absurd (any_nothing (Holds t) h)
 
 holds_constant : (t : SymbolTruth) (b : Bool) → Holds t (constant b) → b ≡ true
 holds_constant t true h = refl

@@ -45,7 +45,7 @@ pub is_due : (window : WindowForm) → IsEncodable window → base_due window �
 is_due window is =
     due_where window (nat_lt 2048 (length (points_of window))) (nat_lt 500000 (length (clauses_of window))) refl refl is
 
-numbered_size : (names : List Symbol) (clauses : List (List SymbolicLit)) → length (numbered names clauses) ≡ length clauses
+pub numbered_size : (names : List Symbol) (clauses : List (List SymbolicLit)) → length (numbered names clauses) ≡ length clauses
 numbered_size names [] = refl
 numbered_size names (clause ∷ clauses) = ap suc (numbered_size (names_after names clause) clauses)
 

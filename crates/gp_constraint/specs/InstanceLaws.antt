@@ -3,7 +3,7 @@ use Rattle.std.specs.Prelude.{ℕ, zero, suc, ◌≡◌, ◌≢◌, ◌<◌, ◌
 use Rattle.std.specs.List.{AllByRecursion, list_all}
 use Rattle.std.specs.Str.{bytes_eq}
 use Rattle.std.proofs.Common.{ap, sym, ◌∙◌, refl, subst, inl, inr, arith, eqb-true, eq-eqb, length-append}
-use Rattle.std.proofs.lemmas.Bool.{and_from, and_parts, cases_Bool, ltb-true, ne_eqb}
+use Rattle.std.proofs.lemmas.Bool.{and_parts, cases_Bool, ltb-true, ne_eqb}
 use Rattle.gp_trace.specs.declared.event.Event.{Event}
 use Rattle.gp_property.specs.declared.atoms.PatternAtom.{PatternAtom}
 use Rattle.gp_property.specs.declared.property.Atom.{Atom}
@@ -16,6 +16,7 @@ use Rattle.gp_property.specs.PropertyForm.{PropertyForm}
 use Rattle.gp_window.specs.Events.{event_in}
 use Rattle.gp_window.specs.WindowForm.{WindowForm}
 use Rattle.gp_window.specs.declared.schedule.EventId.{EventId}
+use Rattle.gp_window.specs.IdLaws.{same_itself}
 use Rattle.gp_window.specs.Ids.{is_same}
 use Rattle.gp_instance.specs.Instance.{agree, are_apart, bindings, Choice, choice_of, choices_of, fits_shape, is_instance, is_like_atom, keep_regions, keep_threads, keeps_conditions, rise}
 use Rattle.gp_instance.specs.Matches.{groups_of}
@@ -172,9 +173,6 @@ rise_steps segments definitions step before (first ∷ rest) ids known size h ri
       (λ one other i j. rises one other i (contains_from_take (length first.atoms) ids other j)),
       rise_steps segments definitions (step + 1) (take (length first.atoms) ids) rest (drop (length first.atoms) ids) defined.1 cut told.1 told.0,
     )
-
-same_itself : (id : EventId) → is_same id id ≡ true
-same_itself id = and_from (id.thread == id.thread) (id.index == id.index) (eq-eqb id.thread id.thread refl) (eq-eqb id.index id.index refl)
 
 -- each event differs from all others
 apart_all : (segments : List (List Event)) (chosen : Choice) (atoms : List PatternAtom) (ids : List EventId) → length ids ≡ length atoms

@@ -31,7 +31,6 @@ pub mod EncodedLaws
 pub mod Extended
 pub mod Limited
 pub mod Extending
-pub mod AmongLaws
 pub mod ByPlace
 pub mod ClauseLaws
 pub mod PointIds

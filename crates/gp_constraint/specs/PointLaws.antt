@@ -181,7 +181,8 @@ got_right [] ys k n p size e = subst (λ (m : ℕ). slice_get ys m ≡ Some p) (
 got_right (x ∷ xs) ys k zero p size e = absurd (omega (arith, size))
 got_right (x ∷ xs) ys k (suc n) p size e = got_right xs ys k n p (omega (arith, size)) e
 
-size_in : (thread index number : ℕ) (events : List Event) → length (points_in thread index number events) ≡ length events
+-- the points of a segment are as many as its events
+pub size_in : (thread index number : ℕ) (events : List Event) → length (points_in thread index number events) ≡ length events
 size_in thread index number [] = refl
 size_in thread index number (event ∷ events) = ap suc (size_in thread (suc index) (suc number) events)
 

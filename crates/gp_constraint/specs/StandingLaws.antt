@@ -1,78 +1,27 @@
--- Laws: events in lists of events, and what stands before them.
-use Rattle.std.proofs.Common.{◌≡◌, ◌<◌, ◌⊎◌, ap, sym, ◌∙◌, refl, subst, inl, inr, List, [], ◌∷◌, ◌++◌, length, true, false, arith, eqb-true}
-use Rattle.std.specs.Prelude.{◌==◌, if◌then◌else◌}
-use Rattle.std.proofs.lemmas.Bool.{and_parts, cases_Bool, eq-eqb}
+-- Laws: what stands before an event in a list of events.
+use Rattle.std.proofs.Common.{◌≡◌, ◌<◌, ap, sym, ◌∙◌, refl, subst, inl, inr, List, [], ◌∷◌, ◌++◌, length, true, false, arith}
+use Rattle.std.specs.Prelude.{if◌then◌else◌}
+use Rattle.std.proofs.lemmas.Bool.{cases_Bool}
 use Rattle.gp_window.specs.declared.schedule.EventId.{EventId}
-use Rattle.gp_window.specs.Ids.{contains_event as is_in, is_same}
+use Rattle.gp_window.specs.IdLaws.{in_cases, is_head, is_later, same_id, same_itself}
+use Rattle.gp_window.specs.Ids.{contains_event, is_same}
 
 -- what stands before the event; all, where it is not there
 abbrev pub before_of : List EventId → EventId → List EventId
 before_of [] e = []
 before_of (id ∷ ids) e = if is_same id e then [] else id ∷ before_of ids e
 
--- ids that the test finds the same are the same
-pub same_is : (a b : EventId) → is_same b a ≡ true → a ≡ b
-same_is a b h =
-    let parts = and_parts (b.thread == a.thread) (b.index == a.index) h in
-    let threads : a.thread ≡ b.thread = sym (eqb-true b.thread a.thread parts.0) in
-    let places : a.index ≡ b.index = sym (eqb-true b.index a.index parts.1) in
-    λ i. record { thread = threads i; index = places i }
-
-pub same_itself : (a : EventId) → is_same a a ≡ true
-same_itself a =
-    let thread : (a.thread == a.thread) ≡ true = eq-eqb a.thread a.thread refl in
-    let index : (a.index == a.index) ≡ true = eq-eqb a.index a.index refl in
-    rw thread index
-
 -- an event that is there stands behind what is before it
-pub found : (ids : List EventId) (e : EventId) → is_in ids e ≡ true → (back : List EventId) × (ids ≡ before_of ids e ++ e ∷ back)
+pub found : (ids : List EventId) (e : EventId) → contains_event ids e ≡ true → (back : List EventId) × (ids ≡ before_of ids e ++ e ∷ back)
 found [] e is = cc
 found (id ∷ ids) e is =
     elim (cases_Bool (is_same id e)) [
-      | inl same ↦ (ids, rw same (ap (λ x. x ∷ ids) (sym (same_is e id same))))
+      | inl same ↦ (ids, rw same (ap (λ x. x ∷ ids) (same_id id e same)))
       | inr differ ↦ let rest = found ids e (rw differ at is) in (rest.0, rw differ (ap (λ r. id ∷ r) rest.1))
     ]
 
--- an event at the head, and one further on
-pub is_head : (ids : List EventId) (e : EventId) → is_in (e ∷ ids) e ≡ true
-is_head ids e = let same = same_itself e in rw same refl
-
-pub is_later : (id : EventId) (ids : List EventId) (e : EventId) → is_in ids e ≡ true → is_in (id ∷ ids) e ≡ true
-is_later id ids e is =
-    elim (cases_Bool (is_same id e)) [
-      | inl same ↦ rw same refl
-      | inr differ ↦ rw differ is
-    ]
-
--- the first of a list is it, or it stands in the rest
-pub in_cases : (id : EventId) (ids : List EventId) (e : EventId) → is_in (id ∷ ids) e ≡ true → (e ≡ id) ⊎ (is_in ids e ≡ true)
-in_cases id ids e is =
-    elim (cases_Bool (is_same id e)) [
-      | inl same ↦ inl (same_is e id same)
-      | inr differ ↦ inr (rw differ at is)
-    ]
-
--- what stands in a back stands in the list
-pub in_back : (front back : List EventId) (e : EventId) → is_in back e ≡ true → is_in (front ++ back) e ≡ true
-in_back [] back e is = is
-in_back (id ∷ front) back e is = is_later id (front ++ back) e (in_back front back e is)
-
-pub in_middle : (front back : List EventId) (e : EventId) → is_in (front ++ e ∷ back) e ≡ true
-in_middle front back e = in_back front (e ∷ back) e (is_head back e)
-
-pub in_parts : (front back : List EventId) (e : EventId) → is_in (front ++ back) e ≡ true → (is_in front e ≡ true) ⊎ (is_in back e ≡ true)
-in_parts [] back e is = inr is
-in_parts (id ∷ front) back e is =
-    elim (in_cases id (front ++ back) e is) [
-      | inl same ↦ inl (subst (λ x. is_in (x ∷ front) e ≡ true) same (is_head front e))
-      | inr rest ↦ elim (in_parts front back e rest) [
-        | inl first ↦ inl (is_later id front e first)
-        | inr last ↦ inr last
-      ]
-    ]
-
 -- an event that is not in the front stands right behind it
-pub before_is : (front back : List EventId) (e : EventId) → (is_in front e ≡ true → ⊥) → before_of (front ++ e ∷ back) e ≡ front
+pub before_is : (front back : List EventId) (e : EventId) → (contains_event front e ≡ true → ⊥) → before_of (front ++ e ∷ back) e ≡ front
 before_is [] back e apart = let same = same_itself e in rw same refl
 before_is (id ∷ front) back e apart =
     elim (cases_Bool (is_same id e)) [
@@ -81,19 +30,19 @@ before_is (id ∷ front) back e apart =
     ]
 
 -- what stands before an event stands in the list
-pub before_in : (ids : List EventId) (e f : EventId) → is_in (before_of ids f) e ≡ true → is_in ids e ≡ true
+pub before_in : (ids : List EventId) (e f : EventId) → contains_event (before_of ids f) e ≡ true → contains_event ids e ≡ true
 before_in [] e f is = cc
 before_in (id ∷ ids) e f is =
     elim (cases_Bool (is_same id f)) [
       | inl same ↦ let bad = rw same at is in cc
       | inr differ ↦ elim (in_cases id (before_of ids f) e (rw differ at is)) [
-        | inl head ↦ subst (λ x. is_in (x ∷ ids) e ≡ true) head (is_head ids e)
+        | inl head ↦ subst (λ x. contains_event (x ∷ ids) e ≡ true) (sym head) (is_head ids e)
         | inr rest ↦ is_later id ids e (before_in ids e f rest)
       ]
     ]
 
 -- before an event stand exactly the events with fewer before them
-pub before_shorter : (ids : List EventId) (e f : EventId) → is_in (before_of ids f) e ≡ true → length (before_of ids e) < length (before_of ids f)
+pub before_shorter : (ids : List EventId) (e f : EventId) → contains_event (before_of ids f) e ≡ true → length (before_of ids e) < length (before_of ids f)
 before_shorter [] e f is = cc
 before_shorter (id ∷ ids) e f is =
     elim (cases_Bool (is_same id f)) [
@@ -107,7 +56,7 @@ before_shorter (id ∷ ids) e f is =
       ]
     ]
 
-pub shorter_before : (ids : List EventId) (e f : EventId) → length (before_of ids e) < length (before_of ids f) → is_in (before_of ids f) e ≡ true
+pub shorter_before : (ids : List EventId) (e f : EventId) → length (before_of ids e) < length (before_of ids f) → contains_event (before_of ids f) e ≡ true
 shorter_before [] e f less = absurd (omega arith)
 shorter_before (id ∷ ids) e f less =
     elim (cases_Bool (is_same id f)) [
@@ -121,7 +70,7 @@ shorter_before (id ∷ ids) e f less =
     ]
 
 -- an event that is there has fewer before it than there are
-pub before_within : (ids : List EventId) (e : EventId) → is_in ids e ≡ true → length (before_of ids e) < length ids
+pub before_within : (ids : List EventId) (e : EventId) → contains_event ids e ≡ true → length (before_of ids e) < length ids
 before_within [] e is = cc
 before_within (id ∷ ids) e is =
     elim (cases_Bool (is_same id e)) [
@@ -130,7 +79,7 @@ before_within (id ∷ ids) e is =
     ]
 
 -- all stand before an event that is not there
-pub before_absent : (ids : List EventId) (e : EventId) → is_in ids e ≡ false → before_of ids e ≡ ids
+pub before_absent : (ids : List EventId) (e : EventId) → contains_event ids e ≡ false → before_of ids e ≡ ids
 before_absent [] e is = refl
 before_absent (id ∷ ids) e is =
     elim (cases_Bool (is_same id e)) [
@@ -139,12 +88,12 @@ before_absent (id ∷ ids) e is =
     ]
 
 -- events with as many before them are the same
-pub before_apart : (ids : List EventId) (e f : EventId) → is_in ids e ≡ true → is_in ids f ≡ true → length (before_of ids e) ≡ length (before_of ids f) → e ≡ f
+pub before_apart : (ids : List EventId) (e f : EventId) → contains_event ids e ≡ true → contains_event ids f ≡ true → length (before_of ids e) ≡ length (before_of ids f) → e ≡ f
 before_apart [] e f is_e is_f same = cc
 before_apart (id ∷ ids) e f is_e is_f same =
     elim (cases_Bool (is_same id e)) [
       | inl head ↦ elim (cases_Bool (is_same id f)) [
-        | inl too ↦ same_is e id head ∙ sym (same_is f id too)
+        | inl too ↦ sym (same_id id e head) ∙ same_id id f too
         | inr other ↦ let counts = rw (head, other) at same in absurd (omega (arith, counts))
       ]
       | inr differ ↦ elim (cases_Bool (is_same id f)) [

@@ -1,6 +1,6 @@
 -- What a truth of symbols and places of points say of clauses over symbols.
-use Rattle.std.specs.Prelude.{ℕ, ℤ, suc, pos, negsuc, ◌≡◌, ◌⊎◌, ◌-ℤ◌, ◌≤ℤ◌, ◌<ℤ◌, Bool, true, false, List, [], ◌∷◌, Some}
-use Rattle.std.specs.List.{AllByRecursion}
+use Rattle.std.specs.Prelude.{ℕ, ℤ, suc, pos, negsuc, ◌≡◌, ◌-ℤ◌, ◌≤ℤ◌, ◌<ℤ◌, Bool, true, false, List, Some}
+use Rattle.std.specs.List.{AllByRecursion, Any}
 use Rattle.gp_clause.specs.declared.valuation.Valuation.{Valuation}
 use Rattle.gp_clause.specs.Valuation.{place_of, truth_of}
 use Rattle.gp_trace.specs.declared.event.Event.{Event}
@@ -32,8 +32,7 @@ IsTrueLit t lit = (t.symbols lit.symbol ≡ lit.positive) × Bound t lit.symbol 
 
 -- some literal of the clause is true, and the places keep what it says
 abbrev pub HoldsSymbolic : SymbolTruth → List SymbolicLit → Type 0
-HoldsSymbolic t [] = ⊥
-HoldsSymbolic t (lit ∷ lits) = IsTrueLit t lit ⊎ HoldsSymbolic t lits
+HoldsSymbolic t lits = Any (IsTrueLit t) lits
 
 -- it is so of each clause
 abbrev pub HoldAll : SymbolTruth → List (List SymbolicLit) → Type 0

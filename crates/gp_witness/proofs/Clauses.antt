@@ -6,17 +6,17 @@ use Rattle.gp_trace.specs.declared.event.Event.{Event}
 use Rattle.gp_window.specs.Events.{event_at}
 use Rattle.gp_window.specs.WindowForm.{WindowForm}
 use Rattle.gp_window.specs.declared.schedule.EventId.{EventId}
+use Rattle.gp_constraint.specs.ClauseLaws.{Holds, AnyTerm, skip, preceded_means, before_means}
 use Rattle.gp_constraint.specs.declared.point.Point.{Point}
 use Rattle.gp_constraint.specs.declared.symbol.Symbol.TheVariants.{Executed}
 use Rattle.gp_constraint.specs.declared.term.Term.{Term}
-use Rattle.gp_base.specs.ListLaws.{contains_found}
+use Rattle.gp_base.specs.ListLaws.{any_nothing, contains_found}
 use Rattle.gp_constraint.specs.PointLaws.{IsEventOf, points_named}
 use Rattle.gp_constraint.specs.Points.{number_in, points_of}
 use Rattle.gp_constraint.specs.SymbolTruth.{HoldAll, KeepsEdges, SymbolTruth}
 use Rattle.gp_constraint.specs.Terms.{executed, preceded}
 use Rattle.gp_witness.specs.AnswerTruth.{truth_in}
 use Rattle.gp_witness.specs.Meaning.{Precedes}
-pub use Rattle.gp_constraint.specs.ClauseLaws.{Holds, AnyTerm, unless, when, when_not, clause_means, both, each_holds, skip, last_one, split_terms, one_term, preceded_means, got_before, chain, before_means}
 
 -- an executed event is one of the window, and its symbol is true
 has_some : (o : Option Event) → is_some o ≡ true → (event : Event) × (o ≡ Some event)
@@ -68,4 +68,4 @@ pub needed_before : (window : WindowForm) (t : SymbolTruth) (test : Point → Bo
     → Contains (points_of window) f → HoldAll t (preceded (executed f false ∷ []) (find test (points_of window)) f) → t.symbols (Executed f.number) ≡ true
     → IsFound window t test f.id
 needed_before window t test f edges has h true_now =
-    found_before window t (executed f false ∷ []) test f edges has h (λ guard. skip t (Executed f.number) [] true_now guard)
+    found_before window t (executed f false ∷ []) test f edges has h (λ guard. any_nothing (Holds t) (skip t (Executed f.number) [] true_now guard))

@@ -4,6 +4,7 @@ use Rattle.std.specs.List.{AllByRecursion, list_any}
 use Rattle.std.proofs.lemmas.Bool.{cases_Bool}
 use Rattle.std.proofs.lemmas.List.Elements.{Contains-append_left}
 use Rattle.gp_window.specs.declared.schedule.EventId.{EventId}
+use Rattle.gp_window.specs.IdLaws.{contains_means}
 use Rattle.gp_window.specs.Ids.{contains_event}
 use Rattle.gp_property.specs.PropertyForm.{PropertyForm}
 use Rattle.gp_instance.specs.Matches.{groups_of, matches_events}
@@ -13,7 +14,6 @@ use Rattle.gp_witness.specs.Witness.{up_to_last}
 use Rattle.gp_witness.proofs.Group.{IsGroup}
 use Rattle.gp_witness.proofs.Match.{in_groups, IsStep, schedule_matches, InstanceStands, StepsStand}
 use Rattle.gp_witness.proofs.Sorted.{Does, IsScheduleOf, IsSorted, MayPrecede}
-use Rattle.gp_witness.proofs.Together.{among_in, in_among}
 
 -- the truth of which only a front of its schedule is executed
 abbrev cut : Truth → List EventId → Truth
@@ -26,8 +26,8 @@ cut_sorted t events (id ∷ front) back h = ((recursion_parts (MayPrecede t id) 
 cut_schedule : (t : Truth) (front back : List EventId) → IsSorted t (front ++ back) → IsScheduleOf (cut t front) front
 cut_schedule t front back h = record {
   sorted = cut_sorted t front front back h;
-  only = λ id i. in_among front id i;
-  all = λ id does. among_in front id does;
+  only = λ id i. (contains_means front id).1 i;
+  all = λ id does. (contains_means front id).0 does;
 }
 
 cut_follow : (t : Truth) (events before : List EventId) (groups : List (List EventId)) → StepsStand t before groups → StepsStand (cut t events) before groups
@@ -37,10 +37,10 @@ cut_follow t events before (group ∷ groups) h = (h.0, cut_follow t events grou
 cut_group : (t : Truth) (front group : List EventId) → ((id : EventId) → Contains front id → Does t id) → ((id : EventId) → Contains group id → Contains front id)
     → IsGroup t group → IsGroup (cut t front) group
 cut_group t front group only inside g = record {
-  does = λ id i. in_among front id (inside id i);
+  does = λ id i. (contains_means front id).1 (inside id i);
   different = g.different;
   near = g.near;
-  ordered = λ id other i does apart. g.ordered id other i (only other (among_in front other does)) apart;
+  ordered = λ id other i does apart. g.ordered id other i (only other ((contains_means front other).0 does)) apart;
 }
 
 cut_steps : (t : Truth) (front : List EventId) (groups : List (List EventId)) → ((id : EventId) → Contains front id → Does t id)
@@ -62,7 +62,7 @@ front_matches t front back property events s there q =
     let groups : List (List EventId) = groups_of property.pattern events in
     let only : (id : EventId) → Contains front id → Does t id = λ id i. s.only id (Contains-append_left front back id i) in
     schedule_matches (cut t front) front property events (cut_schedule t front back s.sorted) (record {
-      does = λ id i. in_among front id (there id i);
+      does = λ id i. (contains_means front id).1 (there id i);
       follow = cut_follow t front [] groups q.follow;
       steps = cut_steps t front groups only (in_groups front events property.pattern there) q.steps;
     })
@@ -92,7 +92,7 @@ any_from p id (first ∷ ids) i e =
 pub up_has : (events ids : List EventId) (id : EventId) → Contains ids id → Contains events id → Contains (up_to_last events ids) id
 up_has events [] id i j = absurd (nothing_in _ i)
 up_has events (first ∷ ids) id i j =
-    let some : list_any (contains_event events) (first ∷ ids) ≡ true = any_from (contains_event events) id (first ∷ ids) i (in_among events id j) in
+    let some : list_any (contains_event events) (first ∷ ids) ≡ true = any_from (contains_event events) id (first ∷ ids) i ((contains_means events id).1 j) in
     let kept : Contains (first ∷ up_to_last events ids) id = elim (first_or_rest _ _ _ i) [
       | inl same ↦ (0, omega arith, same)
       | inr later ↦ there _ _ _ (up_has events ids id later j)

@@ -11,8 +11,8 @@ use Rattle.gp_replay.specs.Step.{count_of, next, start_state}
 use Rattle.gp_replay.specs.Feasible.{IsFeasible, Runs}
 use Rattle.gp_replay.specs.RunLaws.{runs_split}
 use Rattle.gp_replay.specs.StepLaws.{stepped}
+use Rattle.gp_constraint.specs.StandingLaws.{before_is, found}
 use Rattle.gp_witness.specs.ScheduleTruth.{before_of}
-use Rattle.gp_witness.proofs.Standing.{before_is, found}
 
 -- an event is done exactly where its thread has counted it
 pub to_count : (window : WindowForm) (last : State) (ids : List EventId) (e : EventId)

@@ -31,12 +31,12 @@ use Rattle.gp_replay.specs.Step.{after, allowed_in, count_of, has_ended, holder_
 use Rattle.gp_replay.specs.StartLaws.{held_as_told, read_as_told}
 use Rattle.gp_replay.specs.StepLaws.{happens}
 use Rattle.gp_replay.specs.Value.{Reads, ValuesAreLastWrites, Writes}
-use Rattle.gp_base.specs.ListLaws.{recursion_at}
+use Rattle.gp_base.specs.ListLaws.{contains_middle, recursion_at}
 use Rattle.gp_constraint.specs.PointLaws.{event_id, IsEventOf}
 use Rattle.gp_constraint.specs.Sections.{exclude}
 use Rattle.gp_witness.specs.Meaning.{EachRival, IsFreedFor, IsStartedFor, MeetsAll, Precedes, Truth}
 use Rattle.gp_witness.proofs.Holds.{given_before, given_between}
-use Rattle.gp_witness.proofs.Sorted.{Before, Does, in_middle, IsScheduleOf, Stands, stands}
+use Rattle.gp_witness.proofs.Sorted.{Before, Does, IsScheduleOf, Stands, stands}
 use Rattle.gp_witness.proofs.Steps.{EachMayHappen, feasible_by_steps}
 
 -- what is known of a window and of a truth: how the window is formed and begins, what runs of it say, and all families
@@ -63,8 +63,8 @@ got_at (first ∷ events) zero less = (first, refl)
 got_at (first ∷ events) (suc index) less = got_at events index (omega (arith, less))
 
 -- two events of one thread and one index are the same
-pub same_id : (one other : EventId) → one.thread ≡ other.thread → one.index ≡ other.index → one ≡ other
-same_id one other thread index = ap (λ t. event_id t one.index) thread ∙ ap (λ i. event_id other.thread i) index
+pub same_parts : (one other : EventId) → one.thread ≡ other.thread → one.index ≡ other.index → one ≡ other
+same_parts one other thread index = ap (λ t. event_id t one.index) thread ∙ ap (λ i. event_id other.thread i) index
 
 there_before : (window : WindowForm) (one other : EventId) → one.thread ≡ other.thread → one.index < other.index → IsEventOf window other → IsEventOf window one
 there_before window one other same less there =
@@ -125,7 +125,7 @@ finds_write window t done id state variable value write h writes precedes rivals
     elim (h.ground.written window done state h.runs variable) [
       | inl kept ↦ recursion_at (λ e. (v : ℤ) → Writes window e variable v → ⊥) done write kept.1 come value writes
       | inr last ↦
-          let is_in : Contains done last.1 = subst (λ xs. Contains xs last.1) (sym last.3) (in_middle last.1 last.0 last.2) in
+          let is_in : Contains done last.1 = subst (λ xs. Contains xs last.1) (sym last.3) (contains_middle last.1 last.0 last.2) in
           elim (rivals last.1 (value_of state variable) last.4 differ (h.at.came last.1 is_in)) [
             | inl early ↦
                 recursion_at (λ e. (v : ℤ) → Writes window e variable v → ⊥) last.2 write last.5
@@ -145,7 +145,7 @@ finds_start window t done id state variable value h begins rivals =
     elim (h.ground.written window done state h.runs variable) [
       | inl kept ↦ differ (sym kept.0 ∙ told)
       | inr last ↦
-          let is_in : Contains done last.1 = subst (λ xs. Contains xs last.1) (sym last.3) (in_middle last.1 last.0 last.2) in
+          let is_in : Contains done last.1 = subst (λ xs. Contains xs last.1) (sym last.3) (contains_middle last.1 last.0 last.2) in
           h.at.kept last.1 is_in (rivals last.1 (value_of state variable) last.4 differ (h.at.came last.1 is_in))
     ])
 
@@ -224,7 +224,7 @@ section_given window t done id state lock held mode one h takes took against i =
     let came = h.at.came one i in
     elim (cases_eq one.thread id.thread) [
       | inl same ↦ elim (cases_order one.index id.index) [
-        | inl alike ↦ absurd (h.at.fresh (subst (λ e. Contains done e) (same_id one id same alike) i))
+        | inl alike ↦ absurd (h.at.fresh (subst (λ e. Contains done e) (same_parts one id same alike) i))
         | inr (inl less) ↦
             let uses = h.ground.formed.locks one.thread in
             let own : Takes window mode (event_id one.thread id.index) lock = subst (λ n. Takes window mode (event_id n id.index) lock) (sym same) takes in
@@ -254,7 +254,7 @@ no_holder window t done id state lock mode h takes against thread holds =
           let given = start_given window t done id state lock thread Exclusive mode h ((held_as_told window h.ground.formed lock thread).0 held.0) takes against in
           recursion_at (λ e. GivesBack window Exclusive e lock → ⊥) done given.end held.1 (h.at.comes given.end given.does given.early) given.gives
       | inr a ↦
-          let is_in : Contains done a.1 = subst (λ xs. Contains xs a.1) (sym a.3) (in_middle a.1 a.0 a.2) in
+          let is_in : Contains done a.1 = subst (λ xs. Contains xs a.1) (sym a.3) (contains_middle a.1 a.0 a.2) in
           let given = section_given window t done id state lock Exclusive mode a.1 h takes a.5 against is_in in
           recursion_at (λ e. GivesBack window Exclusive e lock → ⊥) a.2 given.0.end a.6
           (h.at.later a.0 a.1 a.2 given.0.end a.3 (h.at.comes given.0.end given.0.does given.0.early) given.1) given.0.gives
@@ -269,7 +269,7 @@ no_reader window t done id state lock h takes thread reads =
           let given = start_given window t done id state lock thread Shared Exclusive h ((read_as_told window h.ground.formed lock thread).0 held.0) takes refl in
           recursion_at (λ e. e.thread ≡ thread → GivesBack window Shared e lock → ⊥) done given.end held.1 (h.at.comes given.end given.does given.early) given.own given.gives
       | inr a ↦
-          let is_in : Contains done a.1 = subst (λ xs. Contains xs a.1) (sym a.3) (in_middle a.1 a.0 a.2) in
+          let is_in : Contains done a.1 = subst (λ xs. Contains xs a.1) (sym a.3) (contains_middle a.1 a.0 a.2) in
           let given = section_given window t done id state lock Shared Exclusive a.1 h takes a.5 refl is_in in
           recursion_at (λ e. e.thread ≡ thread → GivesBack window Shared e lock → ⊥) a.2 given.0.end a.6
           (h.at.later a.0 a.1 a.2 given.0.end a.3 (h.at.comes given.0.end given.0.does given.0.early) given.1) (given.0.own ∙ a.4) given.0.gives

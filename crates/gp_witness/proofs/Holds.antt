@@ -1,14 +1,10 @@
 -- How a thread's own events use locks, and which locks are held when the window begins.
-use Rattle.std.proofs.Common.{ℕ, zero, suc, ◌≡◌, ◌⊎◌, ◌<◌, ap, sym, ◌∙◌, refl, subst, inl, inr, List, [], ◌∷◌, ◌++◌, true, arith}
+use Rattle.std.proofs.Common.{ℕ, zero, suc, ◌≡◌, ◌⊎◌, ◌<◌, ap, sym, ◌∙◌, refl, subst, inl, inr, List, [], ◌∷◌, ◌++◌, arith}
 use Rattle.std.specs.Prelude.{Some, None, Option, slice_get, Contains}
-use Rattle.std.specs.BTreeMap.{is_at}
-use Rattle.std.specs.Cmp.Lexicographic.{slice_cmp}
-use Rattle.std.specs.Ordering.{is_eq, match_ordering, nat_cmp}
+use Rattle.std.specs.Ordering.{is_eq, match_ordering}
 use Rattle.std.specs.declared.cmp.Ordering.{Ordering}
 use Rattle.std.specs.declared.cmp.Ordering.TheVariants.{Less, Equal, Greater}
 use Rattle.std.proofs.lemmas.Bool.{cases_Bool, cases_eq}
-use Rattle.std.proofs.lemmas.Cmp.{ranked}
-use Rattle.std.proofs.lemmas.Map.Lookups.{exact_bytes, exact_pairs}
 use Rattle.std.proofs.lemmas.List.Elements.{Contains-append_left, Contains-append_right, Contains-append_cases}
 use Rattle.gp_base.specs.Table.{with_entries, with_entry}
 use Rattle.gp_base.specs.TableLaws.{dropped_apart, put_apart, put_here, same_or_apart}
@@ -21,6 +17,7 @@ use Rattle.gp_trace.specs.LockUse.{held_after_use, HeldLocks, IsGoodUse, lock_us
 use Rattle.gp_window.specs.Formed.{IsFormed, mode_at_start, stands_at}
 use Rattle.gp_window.specs.Holders.{holder_cmp, Holding, Holdings}
 use Rattle.gp_window.specs.WindowForm.{WindowForm}
+use Rattle.gp_window.specs.HoldersLaws.{found_pair, stands_to}
 use Rattle.gp_replay.specs.LockUses.{use_of}
 use Rattle.gp_base.specs.ListLaws.{contains_from_map, contains_map, first_or_rest, here, nothing_in, there}
 use Rattle.gp_constraint.specs.HeldLocks.{held_as, holds_at_start}
@@ -81,28 +78,11 @@ given_between held (event ∷ events) (suc one) (suc at) lock m mode well less f
     let high = rest.2 in
     (suc rest.0, omega (arith, low), omega (arith, high), rest.3)
 
-same_holder : (one other : List ℕ × ℕ) → holder_cmp one other ≡ Equal → one ≡ other
-same_holder one other is = exact_pairs (slice_cmp nat_cmp) nat_cmp exact_bytes (λ x y e. ranked x y Equal (sym e)) one other is
-
-equal_from : (order : Ordering) → is_eq order ≡ true → order ≡ Equal
-equal_from Less e = cc
-equal_from Equal e = refl
-equal_from Greater e = cc
-
--- who stands at a lock is one of the list
-stands_has : (pairs : List (List ℕ × ℕ)) (lock : List ℕ) (thread : ℕ) → stands_at pairs lock thread ≡ true → Contains pairs (lock, thread)
-stands_has [] lock thread e = cc
-stands_has (pair ∷ pairs) lock thread e =
-    elim (cases_Bool (is_at (holder_cmp (lock, thread)) pair)) [
-      | inl tied ↦ (0, omega arith, sym (same_holder (lock, thread) pair (equal_from (holder_cmp (lock, thread) pair) tied)))
-      | inr apart ↦ there _ _ _ (stands_has pairs lock thread (rw apart at e))
-    ]
-
 -- what was put into the table of holds is there
 put_in : (hold : Holding) (rest more : Holdings) (key : List ℕ × ℕ) (mode : LockMode) (order : Ordering) → holder_cmp key hold.0 ≡ order
     → Contains more (key, mode) → Contains (match_ordering order ((key, mode) ∷ hold ∷ rest) ((hold.0, mode) ∷ rest) (hold ∷ more)) (key, mode)
 put_in hold rest more key mode Less is i = here _ (hold ∷ rest)
-put_in hold rest more key mode Equal is i = let same = same_holder key hold.0 is in (0, omega arith, (λ j. (sym same j, mode)))
+put_in hold rest more key mode Equal is i = let same = found_pair key hold.0 (ap is_eq is) in (0, omega arith, (λ j. (sym same j, mode)))
 put_in hold rest more key mode Greater is i = there _ _ _ i
 
 has_put : (held : Holdings) (key : List ℕ × ℕ) (mode : LockMode) → Contains (with_entry holder_cmp held key mode) (key, mode)
@@ -118,7 +98,7 @@ kept_in hold rest more key place mode other Less is apart go i = there _ (hold �
 kept_in hold rest more key place mode other Equal is apart go i =
     elim (first_or_rest _ _ _ i) [
       | inl same ↦
-          absurd (apart (sym (ap (λ (h : Holding). h.0) same) ∙ sym (same_holder key hold.0 is)))
+          absurd (apart (sym (ap (λ (h : Holding). h.0) same) ∙ sym (found_pair key hold.0 (ap is_eq is))))
       | inr i ↦ there _ _ _ i
     ]
 kept_in hold rest more key place mode other Greater is apart go i =
@@ -186,7 +166,7 @@ mode_held_at window lock thread m formed is =
       | inl holds ↦
           let mode : ◌≡◌ {A = Option LockMode} (Some Exclusive) (Some m) = rw holds at is in
           let own : Exclusive ≡ m = cc in
-          let i : Contains window.holders (lock, thread) = stands_has window.holders lock thread holds in
+          let i : Contains window.holders (lock, thread) = stands_to window.holders lock thread holds in
           let here : Contains (alone ++ shared) ((lock, thread), Exclusive) =
           Contains-append_left alone shared ((lock, thread), Exclusive) (contains_map (λ (h : List ℕ × ℕ). (h, Exclusive)) window.holders (lock, thread) i) in
           subst (λ k. Contains (holds_at_start window) ((lock, thread), k)) own
@@ -198,7 +178,7 @@ mode_held_at window lock thread m formed is =
         | inl reads ↦
             let mode : ◌≡◌ {A = Option LockMode} (Some Shared) (Some m) = rw (none, reads) at is in
             let own : Shared ≡ m = cc in
-            let i : Contains window.readers (lock, thread) = stands_has window.readers lock thread reads in
+            let i : Contains window.readers (lock, thread) = stands_to window.readers lock thread reads in
             let here : Contains (alone ++ shared) ((lock, thread), Shared) =
             Contains-append_right alone shared ((lock, thread), Shared) (contains_map (λ (h : List ℕ × ℕ). (h, Shared)) window.readers (lock, thread) i) in
             subst (λ k. Contains (holds_at_start window) ((lock, thread), k)) own

@@ -1,9 +1,9 @@
 -- Of each list exactly one other has the same elements in a given order, each once.
-use Rattle.std.proofs.Common.{◌≡◌, ◌⊎◌, suc, List, [], ◌∷◌, All, Contains, inl, inr, refl, ap, sym, subst, ◌∙◌, arith}
+use Rattle.std.proofs.Common.{◌≡◌, ◌⊎◌, suc, List, [], ◌∷◌, Contains, inl, inr, refl, ap, sym, subst, ◌∙◌, arith}
 use Rattle.std.specs.List.{AllPairs}
 use Rattle.std.proofs.lemmas.List.Elements.{All-nil, All-cons, All-contains}
 use Rattle.std.proofs.lemmas.List.Kept.{AllPairs-cons}
-use Rattle.gp_base.specs.ListLaws.{first_or_rest, here, nothing_in, there}
+use Rattle.gp_base.specs.ListLaws.{first_or_rest, here, nothing_in, there, all_from_contains}
 
 -- of two elements one comes first, or they are one
 abbrev pub Compares : {X : Type 0} → (X → X → Type 0) → Type 0
@@ -23,10 +23,6 @@ pub record IsInOrder {X : Type 0} (R : X → X → Type 0) (xs zs : List X) : Ty
   pub only : (x : X) → Contains zs x → Contains xs x
   pub all : (x : X) → Contains xs x → Contains zs x
 
-all_from : {X : Type 0} (P : X → Type 0) (xs : List X) → ((x : X) → Contains xs x → P x) → All P xs
-all_from P [] h = All-nil P
-all_from P (x ∷ xs) h = All-cons P x xs (h x (here x xs)) (all_from P xs (λ y i. h y (there x xs y i)))
-
 -- the first comes before all others, which are in order
 after_first : {X : Type 0} (R : X → X → Type 0) (x : X) (xs : List X) (y : X) → AllPairs R (x ∷ xs) → Contains xs y → R x y
 after_first R x xs y sorted i =
@@ -45,7 +41,7 @@ put R compares through x (y ∷ ys) sorted =
         x ∷ y ∷ ys,
         record {
           sorted = AllPairs-cons R x (y ∷ ys)
-              (All-cons (R x) y ys first (all_from (R x) ys (λ z i. through x y z first (after_first R y ys z sorted i)))) sorted;
+              (All-cons (R x) y ys first (all_from_contains (R x) ys (λ z i. through x y z first (after_first R y ys z sorted i)))) sorted;
           only = λ z i. i;
           all = λ z i. i;
         },
@@ -66,7 +62,7 @@ put R compares through x (y ∷ ys) sorted =
             y ∷ rest.0,
             record {
               sorted = AllPairs-cons R y rest.0
-                  (all_from (R y) rest.0 (λ z i. elim (first_or_rest x ys z (rest.1.only z i)) [
+                  (all_from_contains (R y) rest.0 (λ z i. elim (first_or_rest x ys z (rest.1.only z i)) [
                     | inl is ↦ subst (R y) is later
                     | inr old ↦ after_first R y ys z sorted old
                   ])) rest.1.sorted;

@@ -23,7 +23,6 @@ pub mod Ordered
 pub mod Placed
 pub mod PointActions
 pub mod Sought
-pub mod Standing
 pub mod Written
 pub mod Assumed
 pub mod Matched

@@ -1,4 +1,4 @@
--- Clauses from terms, and points in lists.
+-- Points in lists.
 use Rattle.std.proofs.Common.{ℕ, suc, ◌≡◌, ◌+◌, ◌≤◌, ap, sym, ◌∙◌, refl, subst, inl, inr, List, [], ◌∷◌, ◌++◌, Bool, true, false, arith, length}
 use Rattle.std.specs.Prelude.{Option, Some, None, find, Contains}
 use Rattle.std.proofs.lemmas.Bool.{cases_Bool}
@@ -6,7 +6,6 @@ use Rattle.gp_base.specs.ListLaws.{first_or_rest, nothing_in}
 use Rattle.gp_constraint.specs.declared.point.Point.{Point}
 use Rattle.gp_trace.specs.declared.event.Event.{Event}
 use Rattle.gp_constraint.specs.Points.{points_from, points_in}
-pub use Rattle.gp_constraint.specs.TrueLaws.{term_true, all_append, all_flat, all_if, all_either, clause_true, any_left, any_right, any_flat}
 
 -- what is not found passes nowhere
 pub find_none : (test : Point → Bool) (points : List Point) (p : Point) → find test points ≡ None → Contains points p → test p ≡ true → ⊥

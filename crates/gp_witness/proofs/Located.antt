@@ -8,6 +8,7 @@ use Rattle.gp_window.specs.declared.schedule.EventId.{EventId}
 use Rattle.gp_window.specs.Events.{segment_of}
 use Rattle.gp_window.specs.Formed.{IsFormed}
 use Rattle.gp_window.specs.WindowForm.{WindowForm}
+use Rattle.gp_constraint.specs.ClauseLaws.{got_before}
 use Rattle.gp_constraint.specs.declared.point.Point.{Point}
 use Rattle.gp_constraint.specs.declared.symbol.Symbol.{Symbol}
 use Rattle.gp_constraint.specs.declared.term.Term.{Term}
@@ -16,12 +17,11 @@ use Rattle.gp_constraint.specs.PointLaws.{IsEventOf, next_number, point_for, poi
 use Rattle.gp_constraint.specs.Points.{number_at, number_in, points_of, sizes_of}
 use Rattle.gp_constraint.specs.Terms.{before, constant, executed, first, needs, preceded, simplified}
 use Rattle.gp_constraint.specs.Truths.{AreTrue}
+use Rattle.gp_constraint.specs.TrueLaws.{or_here, all_append, any_left, any_right, clause_true, term_true}
 use Rattle.gp_witness.specs.Meaning.{MeetsAll, Precedes, Truth}
 use Rattle.gp_witness.specs.TruthOfSymbols.{id_at, id_in, symbol_true}
 use Rattle.gp_witness.proofs.PointActions.{IsPoint, point_event}
-use Rattle.gp_witness.proofs.Listed.{all_append, any_left, any_right, clause_true, find_none, term_true}
-use Rattle.gp_witness.proofs.Clauses.{got_before}
-pub use Rattle.gp_constraint.specs.TrueLaws.{neg_or, or_here}
+use Rattle.gp_witness.proofs.Listed.{find_none}
 
 -- a window and a truth that meets the families
 pub record Setting (window : WindowForm) (t : Truth) : Type 0 where

@@ -7,6 +7,7 @@ use Rattle.gp_trace.specs.declared.lock_use.LockMode.TheVariants.{Exclusive, Sha
 use Rattle.gp_window.specs.declared.schedule.EventId.{EventId}
 use Rattle.gp_window.specs.Formed.{IsFormed}
 use Rattle.gp_window.specs.WindowForm.{WindowForm}
+use Rattle.gp_window.specs.IdLaws.{in_back, is_head, is_later}
 use Rattle.gp_window.specs.Ids.{contains_event as is_in}
 use Rattle.gp_replay.specs.declared.state.State.{State}
 use Rattle.gp_replay.specs.Step.{count_of, start_state}
@@ -19,9 +20,9 @@ use Rattle.gp_replay.specs.RunLaws.{runs_split}
 use Rattle.gp_replay.specs.StepLaws.{stepped}
 use Rattle.gp_replay.specs.ToldLaws.{gives_own, one_holder, start_told, Tells, tells_run, tells_start, tells_step}
 use Rattle.gp_constraint.specs.Sections.{exclude}
+use Rattle.gp_constraint.specs.StandingLaws.{before_apart, found}
 use Rattle.gp_witness.specs.Meaning.{EndsHold, IsFreedFor, SectionsHold, StartHoldsHold}
 use Rattle.gp_witness.specs.ScheduleTruth.{before_of, schedule_place, schedule_truth}
-use Rattle.gp_witness.proofs.Standing.{before_apart, found, in_back, is_head, is_later}
 use Rattle.gp_witness.proofs.Done.{happened}
 use Rattle.gp_witness.proofs.Placed.{place_executed, precedes, stands_before}
 

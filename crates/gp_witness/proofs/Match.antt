@@ -4,6 +4,7 @@ use Rattle.std.specs.Prelude.{◌&&◌, Some, nat_lt, Contains}
 use Rattle.std.specs.List.{AllByRecursion, list_all, position_or_len}
 use Rattle.std.proofs.lemmas.Bool.{and_from, cases_Bool, false≢true, lt-ltb}
 use Rattle.gp_window.specs.declared.schedule.EventId.{EventId}
+use Rattle.gp_window.specs.IdLaws.{contains_means, same_id, same_itself}
 use Rattle.gp_window.specs.Ids.{contains_event, is_same}
 use Rattle.gp_property.specs.declared.property.PatternStep.{PatternStep}
 use Rattle.gp_property.specs.PropertyForm.{PropertyForm}
@@ -12,7 +13,7 @@ use Rattle.gp_base.specs.ListLaws.{contains_from_drop, contains_from_take, first
 use Rattle.gp_witness.specs.Meaning.{Truth}
 use Rattle.gp_witness.proofs.Group.{IsGroup}
 use Rattle.gp_witness.proofs.Sorted.{Before, Does, IsScheduleOf, IsSorted, MayPrecede, not_itself}
-use Rattle.gp_witness.proofs.Together.{groups_together, in_among, same_is, same_itself}
+use Rattle.gp_witness.proofs.Together.{groups_together}
 
 -- each event of a step stands before each of the next, and these, of the step before, before the first
 abbrev pub StepsStand : Truth → List EventId → List (List EventId) → Type 0
@@ -66,7 +67,7 @@ in_order t (x ∷ ids) one other sorted i j before =
     elim (cases_Bool (is_same x one)) [
       | inl first ↦ elim (cases_Bool (is_same x other)) [
         | inl second ↦
-            let same : other ≡ one = sym (same_is x other second) ∙ same_is x one first in
+            let same : other ≡ one = sym (same_id x other second) ∙ same_id x one first in
             absurd (not_itself t one (subst (λ o. Before t one o) same before))
         | inr differ ↦
             let here = at_first_place x one ids first in
@@ -78,7 +79,7 @@ in_order t (x ∷ ids) one other sorted i j before =
           elim (cases_Bool (is_same x other)) [
             | inl second ↦
                 let precedes = recursion_at (MayPrecede t x) ids one sorted.0 late in
-                absurd (precedes.1 (subst (λ o. Before t one o) (sym (same_is x other second)) before))
+                absurd (precedes.1 (subst (λ o. Before t one o) (sym (same_id x other second)) before))
             | inr differ ↦
                 let here = after_first_place x one ids apart in
                 let there = after_first_place x other ids differ in
@@ -128,7 +129,7 @@ single_together id (x ∷ ids) i =
       | inr not ↦ elim (first_or_rest _ _ _ i) [
         | inl same ↦
             let itself : is_same id x ≡ true = subst (λ o. is_same o x ≡ true) same (same_itself x) in
-            let among : contains_event (id ∷ []) x ≡ true = in_among (id ∷ []) x (0, omega arith, sym same) in
+            let among : contains_event (id ∷ []) x ≡ true = (contains_means (id ∷ []) x).1 (0, omega arith, sym same) in
             let begun : begins_with_group (id ∷ []) (x ∷ ids) ≡ true = rw itself refl in
             absurd (false≢true (sym not ∙ begun))
         | inr later ↦ rw not (single_together id ids later)
@@ -165,7 +166,7 @@ schedule_matches t ids property events s q =
     let groups : List (List EventId) = groups_of property.pattern events in
     let there : (id : EventId) → Contains events id → Contains ids id = λ id i. s.all id (q.does id i) in
     let inside = in_groups ids events property.pattern there in
-    let first = all_true (contains_event ids) events (λ id i. in_among ids id (there id i)) in
+    let first = all_true (contains_event ids) events (λ id i. (contains_means ids id).1 (there id i)) in
     let second = steps_follow t ids [] groups s.sorted (λ id none. absurd (nothing_in _ none)) inside q.follow in
     let third = all_together t ids groups s inside q.steps in
     and_from (list_all (contains_event ids) events && follow ids [] groups) (list_all (λ group. stands_together group ids) groups)

@@ -11,6 +11,7 @@ use Rattle.gp_instance.specs.Matches.{all_before, follow, groups_of, is_before, 
 use Rattle.gp_instance.specs.Rows.{GroupsStandInRows, IsRow, StandsInRow}
 use Rattle.gp_window.specs.declared.schedule.EventId.{EventId}
 use Rattle.gp_window.specs.WindowForm.{WindowForm}
+use Rattle.gp_window.specs.IdLaws.{in_middle}
 use Rattle.gp_window.specs.Ids.{contains_event as is_in, is_same}
 use Rattle.gp_replay.specs.CountLaws.{run_is_distinct}
 use Rattle.gp_replay.specs.Feasible.{IsFeasible}
@@ -21,7 +22,6 @@ use Rattle.gp_witness.specs.Asked.{IsDecided, IsNear, MeetsQuery, StepsFollow}
 use Rattle.gp_witness.specs.ScheduleTruth.{before_of, schedule_place, schedule_truth}
 use Rattle.gp_witness.proofs.Done.{happened, stands_at}
 use Rattle.gp_witness.proofs.Placed.{less_pos, numbers_differ, place_executed}
-use Rattle.gp_witness.proofs.Standing.{in_middle}
 
 -- the place in gp_instance's words
 position_is : (ids : List EventId) (e : EventId) → position_or_len (λ other. is_same other e) ids ≡ length (before_of ids e)

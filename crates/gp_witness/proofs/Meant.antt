@@ -19,11 +19,11 @@ use Rattle.gp_constraint.specs.ProgramOrder.{linked}
 use Rattle.gp_constraint.specs.Starts.{does_start, is_start_of, start_of}
 use Rattle.gp_constraint.specs.Terms.{executed, first, literal, needs, simplified}
 use Rattle.gp_constraint.specs.Truths.{AreTrue}
+use Rattle.gp_constraint.specs.TrueLaws.{all_either, all_if, clause_true, neg_or, or_here}
 use Rattle.gp_witness.specs.Meaning.{Precedes, Truth}
 use Rattle.gp_witness.specs.TruthOfSymbols.{id_at}
 use Rattle.gp_witness.proofs.PointActions.{event_action, point_event, point_joins, point_starts}
-use Rattle.gp_witness.proofs.Listed.{all_either, all_if, clause_true}
-use Rattle.gp_witness.proofs.Located.{before_link, by_number, IsFound, located, needs_true, neg_or, not_fails, not_zero, or_here, point_is, says, Setting}
+use Rattle.gp_witness.proofs.Located.{before_link, by_number, IsFound, located, needs_true, not_fails, not_zero, point_is, says, Setting}
 use Rattle.gp_witness.proofs.Actions.{start_is}
 
 pub linked_true : (window : WindowForm) (t : Truth) → Setting window t → (f : Point) → Contains (points_of window) f → AreTrue (says window t) (linked f)

@@ -11,9 +11,9 @@ use Rattle.gp_window.specs.Ids.{contains_event as is_in}
 use Rattle.gp_replay.specs.Feasible.{IsFeasible}
 use Rattle.gp_constraint.specs.Points.{first_of, number_in}
 use Rattle.gp_constraint.specs.PointLaws.{IsEventOf}
+use Rattle.gp_constraint.specs.StandingLaws.{before_absent, before_apart, before_in, before_shorter, before_within, shorter_before}
 use Rattle.gp_witness.specs.Meaning.{PlacesDiffer, PlacesRise, Precedes, ThreadsRun}
 use Rattle.gp_witness.specs.ScheduleTruth.{before_of, late, schedule_place, schedule_truth}
-use Rattle.gp_witness.proofs.Standing.{before_absent, before_apart, before_in, before_shorter, before_within, shorter_before}
 use Rattle.gp_witness.proofs.Done.{done_before, happened}
 
 -- places of numbers

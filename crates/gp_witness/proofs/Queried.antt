@@ -11,6 +11,7 @@ use Rattle.gp_property.specs.PropertyForm.{PropertyForm}
 use Rattle.gp_instance.specs.Matches.{groups_of}
 use Rattle.gp_window.specs.declared.schedule.EventId.{EventId}
 use Rattle.gp_window.specs.WindowForm.{WindowForm}
+use Rattle.gp_window.specs.IdLaws.{same_id}
 use Rattle.gp_window.specs.Ids.{is_same}
 use Rattle.gp_constraint.specs.declared.symbol.Symbol.{Symbol}
 use Rattle.gp_constraint.specs.declared.symbol.Symbol.TheVariants.{Order, Span}
@@ -26,10 +27,9 @@ use Rattle.gp_witness.specs.AnswerTruth.{truth_in}
 use Rattle.gp_witness.specs.Asked.{IsDecided, IsNear, MeetsQuery, StepsFollow}
 use Rattle.gp_witness.specs.Meaning.{PlacesRise, Truth}
 use Rattle.gp_witness.proofs.Clauses.{does_from}
-use Rattle.gp_witness.proofs.Feasible.{same_id}
+use Rattle.gp_witness.proofs.Feasible.{same_parts}
 use Rattle.gp_witness.proofs.Match.{InstanceStands, IsStep, StepsStand}
 use Rattle.gp_witness.proofs.Sorted.{Before, Does}
-use Rattle.gp_witness.proofs.Together.{same_is}
 
 -- these literals are true, and these symbols keep what they say
 abbrev AreTrue : SymbolTruth → List SymbolicLit → Type 0
@@ -105,7 +105,7 @@ near_means : (window : WindowForm) (t : SymbolTruth) (group : List EventId) → 
 near_means window t group all one other i j =
     let width : ℕ = length group - 1 in
     elim (cases_Bool (is_same one other)) [
-      | inl same ↦ let places = ap (λ id. t.places (number_in window id)) (same_is one other same) in omega (arith, ints, places)
+      | inl same ↦ let places = ap (λ id. t.places (number_in window id)) (same_id one other same) in omega (arith, ints, places)
       | inr differ ↦
           let lit : SymbolicLit = holds (Span (number_in window one) (number_in window other) width) in
           let own = contains_unless (is_same one other) lit differ in
@@ -131,7 +131,7 @@ decided_means window t (first ∷ second ∷ rest) rise events all large one oth
     let group : List EventId = first ∷ second ∷ rest in
     elim (cases_eq one.thread other.thread) [
       | inl same ↦ elim (cases_order one.index other.index) [
-        | inl alike ↦ absurd (differ (same_id one other same alike))
+        | inl alike ↦ absurd (differ (same_parts one other same alike))
         | inr (inl less) ↦ inl (rise one other (events one i) is same less)
         | inr (inr more) ↦ inr (rise other one is (events one i) (sym same) more)
       ]

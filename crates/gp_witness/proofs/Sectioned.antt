@@ -21,10 +21,11 @@ use Rattle.gp_constraint.specs.Points.{number_at, points_of, sizes_of}
 use Rattle.gp_constraint.specs.Sections.{apart, ends_hold, exclude, gives_back, in_either_order, sections_apart, takes_against}
 use Rattle.gp_constraint.specs.Terms.{executed, first, needs, preceded}
 use Rattle.gp_constraint.specs.Truths.{AreTrue}
+use Rattle.gp_constraint.specs.TrueLaws.{all_append, all_if}
 use Rattle.gp_witness.specs.Meaning.{EndsHold, IsFreedFor, Truth}
 use Rattle.gp_witness.specs.TruthOfSymbols.{id_at}
 use Rattle.gp_witness.proofs.PointActions.{gives_action, gives_event, point_gives, point_takes}
-use Rattle.gp_witness.proofs.Listed.{all_append, all_if, find_first, from_counted}
+use Rattle.gp_witness.proofs.Listed.{find_first, from_counted}
 use Rattle.gp_witness.proofs.Located.{at_point, by_number, IsFound, located, needs_true, neg_fails, not_fails, number_is, point_is, pos_fails, preceded_true, says, Setting}
 use Rattle.gp_witness.proofs.Actions.{does_give, gives_is}
 

@@ -4,9 +4,8 @@ use Rattle.std.specs.Prelude.{◌<ℤ◌, ◌≢◌, true, Contains}
 use Rattle.std.proofs.lemmas.Int.{ints}
 use Rattle.std.proofs.lemmas.List.Elements.{Contains-append_left}
 use Rattle.gp_window.specs.declared.schedule.EventId.{EventId}
-use Rattle.gp_base.specs.ListLaws.{first_or_rest, nothing_in, Pairwise, recursion_at, recursion_parts}
+use Rattle.gp_base.specs.ListLaws.{contains_middle, contains_parts, first_or_rest, nothing_in, Pairwise, recursion_at, recursion_parts}
 use Rattle.gp_witness.specs.Meaning.{Truth}
-pub use Rattle.gp_constraint.specs.AmongLaws.{in_middle, in_parts}
 
 -- the event is executed
 abbrev pub Does : Truth → EventId → Type 0
@@ -36,7 +35,7 @@ before_middle t id middle [] back sorted i = absurd (nothing_in _ i)
 before_middle t id middle (first ∷ front) back sorted i =
     elim (first_or_rest _ _ _ i) [
       | inl same ↦
-          subst (λ e. MayPrecede t e middle) same (recursion_at (MayPrecede t first) (front ++ middle ∷ back) middle sorted.0 (in_middle middle front back))
+          subst (λ e. MayPrecede t e middle) same (recursion_at (MayPrecede t first) (front ++ middle ∷ back) middle sorted.0 (contains_middle middle front back))
       | inr i ↦ before_middle t id middle front back sorted.1 i
     ]
 
@@ -66,7 +65,7 @@ pub record Stands (t : Truth) (done : List EventId) (id : EventId) : Type 0 wher
 later_in : (t : Truth) (front : List EventId) (middle : EventId) (back : List EventId) (other : EventId)
     → IsSorted t (front ++ middle ∷ back) → Contains (front ++ middle ∷ back) other → Before t middle other → Contains back other
 later_in t front middle back other sorted i before =
-    elim (in_parts other middle front back i) [
+    elim (contains_parts other middle front back i) [
       | inl early ↦ absurd ((before_middle t other middle front back sorted early).1 before)
       | inr (inl same) ↦ absurd (not_itself t middle (subst (λ e. Before t middle e) (sym same) before))
       | inr (inr late) ↦ late
@@ -75,7 +74,7 @@ later_in t front middle back other sorted i before =
 comes_in : (t : Truth) (done : List EventId) (id : EventId) (todo : List EventId) (other : EventId)
     → IsSorted t (done ++ id ∷ todo) → Contains (done ++ id ∷ todo) other → Before t other id → Contains done other
 comes_in t done id todo other sorted i before =
-    elim (in_parts other id done todo i) [
+    elim (contains_parts other id done todo i) [
       | inl early ↦ early
       | inr (inl same) ↦ absurd (not_itself t id (subst (λ e. Before t e id) (sym same) before))
       | inr (inr late) ↦ absurd ((after_middle t other id done todo sorted late).1 before)
@@ -87,7 +86,7 @@ stands t ids done id todo s is =
     let sorted : IsSorted t (done ++ id ∷ todo) = subst (IsSorted t) is s.sorted in
     let only : (other : EventId) → Contains (done ++ id ∷ todo) other → Does t other = λ other i. s.only other (subst (λ xs. Contains xs other) (sym is) i) in
     record {
-      does = only id (in_middle id done todo);
+      does = only id (contains_middle id done todo);
       came = λ other i. only other (Contains-append_left done (id ∷ todo) other i);
       kept = λ other i. (before_middle t other id done todo sorted i).1;
       comes = λ other does. comes_in t done id todo other sorted (subst (λ xs. Contains xs other) is (s.all other does));

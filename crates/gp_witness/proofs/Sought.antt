@@ -28,11 +28,11 @@ use Rattle.gp_constraint.specs.Sections.{sections_apart}
 use Rattle.gp_constraint.specs.Starts.{start_of}
 use Rattle.gp_constraint.specs.Terms.{before, chosen, executed, preceded, simplified, start_chosen}
 use Rattle.gp_constraint.specs.Truths.{AreTrue}
+use Rattle.gp_constraint.specs.TrueLaws.{all_append, all_flat, all_if, any_flat, any_left, any_right, clause_true, term_true, neg_or, or_here}
 use Rattle.gp_witness.specs.Meaning.{IsChoice, Truth}
 use Rattle.gp_witness.specs.TruthOfSymbols.{id_at}
 use Rattle.gp_witness.proofs.HeldFrom.{holds_from}
-use Rattle.gp_witness.proofs.Listed.{all_append, all_flat, all_if, any_flat, any_left, any_right, clause_true, term_true}
-use Rattle.gp_witness.proofs.Located.{at_point, before_true, by_number, neg_fails, neg_or, not_fails, or_here, or_rest, point_is, preceded_true, says, Setting}
+use Rattle.gp_witness.proofs.Located.{at_point, before_true, by_number, neg_fails, not_fails, or_rest, point_is, preceded_true, says, Setting}
 use Rattle.gp_witness.proofs.Meant.{join_true, linked_true, start_true}
 use Rattle.gp_witness.proofs.Sectioned.{apart_true, held_true}
 use Rattle.gp_witness.proofs.PointActions.{event_action, point_reads, point_writes}

@@ -6,13 +6,13 @@ use Rattle.std.proofs.lemmas.Bool.{and_from, cases_Bool, eq-eqb, false≢true}
 use Rattle.std.proofs.lemmas.List.{append-nil, length-take-le}
 use Rattle.std.proofs.lemmas.List.Elements.{Contains-append_left, Contains-append_right}
 use Rattle.gp_window.specs.declared.schedule.EventId.{EventId}
+use Rattle.gp_window.specs.IdLaws.{contains_means}
 use Rattle.gp_window.specs.Ids.{contains_event}
 use Rattle.gp_instance.specs.Matches.{begins_with_group, stands_together}
-use Rattle.gp_base.specs.ListLaws.{AreDifferent, first_or_rest, here, nothing_in, recursion_at, there}
+use Rattle.gp_base.specs.ListLaws.{AreDifferent, contains_middle, contains_parts, first_or_rest, here, nothing_in, recursion_at, there}
 use Rattle.gp_witness.specs.Meaning.{Truth}
 use Rattle.gp_witness.proofs.Group.{group_holds, IsGroup}
-use Rattle.gp_witness.proofs.Sorted.{after_middle, Before, before_middle, Does, in_middle, in_parts, IsScheduleOf, IsSorted}
-pub use Rattle.gp_constraint.specs.AmongLaws.{among_in, in_among, same_is, same_itself}
+use Rattle.gp_witness.proofs.Sorted.{after_middle, Before, before_middle, Does, IsScheduleOf, IsSorted}
 
 splits : (id : EventId) (ids : List EventId) → Contains ids id → (front : List EventId) × (back : List EventId) × (ids ≡ front ++ id ∷ back)
 splits id [] i = absurd (nothing_in _ i)
@@ -28,7 +28,7 @@ fewer [] ys different inside = omega arith
 fewer (x ∷ xs) ys different inside =
     let s = splits x ys (inside x (here _ _)) in
     let rest = fewer xs (s.0 ++ s.1) different.1 (λ id i.
-    elim (in_parts id x s.0 s.1 (subst (λ xs. Contains xs id) s.2 (inside id (there _ _ _ i)))) [
+    elim (contains_parts id x s.0 s.1 (subst (λ xs. Contains xs id) s.2 (inside id (there _ _ _ i)))) [
       | inl early ↦ Contains-append_left s.0 s.1 id early
       | inr (inl same) ↦ absurd (recursion_at (λ o. x ≡ o → ⊥) xs id different.0 i same)
       | inr (inr late) ↦ Contains-append_right s.0 s.1 id late
@@ -64,7 +64,7 @@ taken_among t group x rest (first ∷ front) y back g sorted begins does there p
     let order : IsSorted t ((first ∷ front) ++ y ∷ back) = subst (IsSorted t) parts sorted in
     let early = before_middle t x y (first ∷ front) back order (0, omega arith, sym is) in
     let few = fewer group (first ∷ front) g.different (λ id i.
-    elim (in_parts id y (first ∷ front) back (subst (λ xs. Contains xs id) parts (there id i))) [
+    elim (contains_parts id y (first ∷ front) back (subst (λ xs. Contains xs id) parts (there id i))) [
       | inl inside ↦ inside
       | inr (inl same) ↦ absurd (outside (subst (λ o. Contains group o) (sym same) i))
       | inr (inr later) ↦
@@ -90,7 +90,7 @@ begins_together t group x rest g sorted begins does there =
     elim (cases_Bool (contains_event group y)) [
       | inl among ↦ among
       | inr outside ↦ absurd (taken_among t group x rest front y back g sorted begins
-          (does y (subst (λ xs. Contains xs y) (sym parts) (in_middle y front back))) there parts less (λ i. false≢true (sym outside ∙ in_among group y i)))
+          (does y (subst (λ xs. Contains xs y) (sym parts) (contains_middle y front back))) there parts less (λ i. false≢true (sym outside ∙ (contains_means group y).1 i)))
     ]) in
     and_from (length (take (length group) (x ∷ rest)) == length group) (list_all (contains_event group) (take (length group) (x ∷ rest)))
     (eq-eqb (length (take (length group) (x ∷ rest))) (length group) long) all
@@ -105,21 +105,21 @@ together_from t ids group done [] s g parts none =
     none_left group (λ id i. none id i (subst (λ xs. Contains xs id) (parts ∙ append-nil done) (s.all id (g.does id i))))
 together_from t ids group done (x ∷ rest) s g parts none =
     let stays : (id : EventId) → Contains group id → Contains (x ∷ rest) id = (λ id i.
-    elim (in_parts id x done rest (subst (λ xs. Contains xs id) parts (s.all id (g.does id i)))) [
+    elim (contains_parts id x done rest (subst (λ xs. Contains xs id) parts (s.all id (g.does id i)))) [
       | inl early ↦ absurd (none id i early)
       | inr (inl same) ↦ (0, omega arith, same)
       | inr (inr later) ↦ there _ _ _ later
     ]) in
     elim (cases_Bool (contains_event group x)) [
       | inl among ↦
-          let begun = begins_together t group x rest g (sorted_back t done (x ∷ rest) (subst (IsSorted t) parts s.sorted)) (among_in group x among)
+          let begun = begins_together t group x rest g (sorted_back t done (x ∷ rest) (subst (IsSorted t) parts s.sorted)) ((contains_means group x).0 among)
           (λ y i. s.only y (subst (λ xs. Contains xs y) (sym parts) (Contains-append_right done (x ∷ rest) y i))) stays in
           rw begun refl
       | inr outside ↦
           let later = together_from t ids group (done ++ x ∷ []) rest s g (parts ∙ sym (append_assoc done (x ∷ []) rest)) (λ id i early.
-          elim (in_parts id x done [] early) [
+          elim (contains_parts id x done [] early) [
             | inl before ↦ none id i before
-            | inr (inl same) ↦ false≢true (sym outside ∙ in_among group x (subst (λ o. Contains group o) (sym same) i))
+            | inr (inl same) ↦ false≢true (sym outside ∙ (contains_means group x).1 (subst (λ o. Contains group o) (sym same) i))
             | inr (inr none_more) ↦ nothing_in _ none_more
           ]) in
           elim (cases_Bool (begins_with_group group (x ∷ rest))) [

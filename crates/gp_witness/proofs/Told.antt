@@ -18,6 +18,7 @@ use Rattle.gp_window.specs.WindowForm.{start_value, WindowForm}
 use Rattle.gp_window.specs.declared.schedule.EventId.{EventId}
 use Rattle.gp_replay.specs.LockUses.{use_of}
 use Rattle.gp_replay.specs.Value.{Reads}
+use Rattle.gp_constraint.specs.ClauseLaws.{AnyTerm, before_means, both, chain, clause_means, each_holds, got_before, Holds, last_one, one_term, skip, split_terms, unless, when, when_not}
 use Rattle.gp_constraint.specs.declared.action.Action.TheVariants as action
 use Rattle.gp_constraint.specs.declared.point.Point.{Point}
 use Rattle.gp_constraint.specs.declared.symbol.Symbol.TheVariants.{Executed, Choice, StartChoice}
@@ -25,7 +26,7 @@ use Rattle.gp_constraint.specs.declared.symbol.SymbolicLit.{SymbolicLit}
 use Rattle.gp_constraint.specs.declared.term.Term.{Term}
 use Rattle.gp_constraint.specs.Action.{action_of}
 use Rattle.gp_constraint.specs.Base.{clauses_of}
-use Rattle.gp_base.specs.ListLaws.{found_first, here, there}
+use Rattle.gp_base.specs.ListLaws.{any_first_or_rest, any_nothing, contains_from_flat_map, found_first}
 use Rattle.gp_constraint.specs.HeldLocks.{held_apart, held_locks, holds_at_start}
 use Rattle.gp_constraint.specs.Joins.{ended, is_last_of, join_of, joined, joins}
 use Rattle.gp_constraint.specs.PointLaws.{event_id, HasLesserNumber, IsEventOf, points_named, points_rise}
@@ -39,7 +40,7 @@ use Rattle.gp_constraint.specs.Terms.{before, chosen, executed, first, literal, 
 use Rattle.gp_witness.specs.AnswerTruth.{truth_in}
 use Rattle.gp_witness.specs.Meaning.{ChoicesHold, EndsHold, IsChoice, IsFreedFor, IsStartedFor, JoinHolds, JoinsHold, MeetsAll, PlacesRise, Precedes, ReadsHold, SectionsHold, StartChoicesHold, StartHoldsHold, StartsHold, ThreadsRun}
 use Rattle.gp_witness.proofs.Actions.{are_rivals, are_seen, does_give, does_take, event_lock, gives_is, lock_event, sees_is, start_event, start_is, use_event, write_event}
-use Rattle.gp_witness.proofs.Clauses.{AnyTerm, before_means, both, chain, clause_means, does_from, does_parts, each_holds, found_before, got_before, Holds, IsFound, last_one, needed_before, one_term, skip, split_terms, unless, when, when_not}
+use Rattle.gp_witness.proofs.Clauses.{does_from, does_parts, found_before, IsFound, needed_before}
 use Rattle.gp_witness.proofs.Holds.{mode_held_at}
 
 -- the point of an event
@@ -176,7 +177,7 @@ joins_told window t edges order begins all id thread is does =
     elim (cases_Bool (is_among window.exited thread)) [
       | inr stays ↦
           let none = when_not t (is_among window.exited thread) (ended window points j thread) (simplified (executed j false ∷ [])) stays h in
-          absurd (skip t (Executed (number_in window id)) [] d.2 (clause_means t (executed j false ∷ []) none))
+          absurd (any_nothing (Holds t) (skip t (Executed (number_in window id)) [] d.2 (clause_means t (executed j false ∷ []) none)))
       | inl exits ↦
           let k = when t (is_among window.exited thread) (ended window points j thread) (simplified (executed j false ∷ [])) exits h in
           let start : List (List SymbolicLit) = needs j (find (is_start_of thread) points) in
@@ -202,12 +203,11 @@ joins_told window t edges order begins all id thread is does =
 -- reads
 chosen_in : (t : SymbolTruth) (r : Point) (points : List Point) → AnyTerm t (flat_map (choice r) points)
     → (w : Point) × Contains points w × (is_choice r w ≡ true) × (t.symbols (Choice r.number w.number) ≡ true)
-chosen_in t r [] h = absurd h
-chosen_in t r (w ∷ points) h =
-    elim (split_terms t (choice r w) (flat_map (choice r) points) h) [
-      | inl first ↦ let c = one_term t (is_choice r w) (chosen r w true) first in (w, here _ _, c.0, c.1.0)
-      | inr later ↦ let rest = chosen_in t r points later in (rest.0, there _ _ _ rest.1, rest.2, rest.3)
-    ]
+chosen_in t r points (k, term, within, is, holds) =
+    let from = contains_from_flat_map (choice r) points term (k, within, is) in
+    let place = from.2 in
+    let one = one_term t (is_choice r from.0) (chosen r from.0 true) (place.0, term, place.1, place.2, holds) in
+    (from.0, from.1, one.0, one.1.0)
 
 not_true : (b : Bool) → not b ≡ true → b ≡ false
 not_true true e = cc
@@ -295,10 +295,9 @@ choices_told window t edges all rid wid variable value is is_ch picked =
           (are_rivals variable value found differ) (each_holds t (kept_apart r w) o points halves.1 has_o) in
           let rest = skip t (Executed (number_in window other)) terms d.2 (skip t (Choice r.number w.number) (executed o false ∷ terms) picked
           (clause_means t (not_chosen ∷ executed o false ∷ terms) k)) in
-          elim rest [
+          elim (any_first_or_rest (Holds t) (before o w) (before r o ∷ []) rest) [
             | inl before_w ↦ inl (before_means window t o w edges has_o has_w before_w)
-            | inr (inl after) ↦ inr (before_means window t r o edges has_r has_o after)
-            | inr (inr none) ↦ absurd none
+            | inr after ↦ inr (before_means window t r o edges has_r has_o (last_one t (before r o) after))
           ],
     )
 

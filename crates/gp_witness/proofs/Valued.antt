@@ -10,6 +10,7 @@ use Rattle.gp_clause.specs.Kind.{FitsKind}
 use Rattle.gp_clause.specs.Valuation.{IsValuation}
 use Rattle.gp_window.specs.declared.schedule.EventId.{EventId}
 use Rattle.gp_window.specs.WindowForm.{WindowForm}
+use Rattle.gp_window.specs.IdLaws.{in_middle}
 use Rattle.gp_window.specs.Ids.{contains_event as is_in}
 use Rattle.gp_replay.specs.Feasible.{IsFeasible}
 use Rattle.gp_constraint.specs.declared.point.Point.{Point}
@@ -32,7 +33,6 @@ use Rattle.gp_witness.proofs.Matched.{executed_event}
 use Rattle.gp_witness.proofs.Located.{before_link, int_lt_to, number_is, point_is, says}
 use Rattle.gp_witness.proofs.Placed.{place_absent, place_executed, places_differ, places_rise}
 use Rattle.gp_witness.proofs.PointActions.{point_event}
-use Rattle.gp_witness.proofs.Standing.{in_middle}
 
 -- the place of the point of a number
 abbrev pub place_at : WindowForm → Truth → ℕ → ℤ

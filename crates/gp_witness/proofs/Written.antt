@@ -11,14 +11,15 @@ use Rattle.gp_trace.specs.declared.event.Event.TheVariants.{Read, Write}
 use Rattle.gp_window.specs.declared.schedule.EventId.{EventId}
 use Rattle.gp_window.specs.Events.{event_at}
 use Rattle.gp_window.specs.WindowForm.{start_value, WindowForm}
+use Rattle.gp_window.specs.IdLaws.{in_cases, in_middle, in_parts, same_id, same_itself}
 use Rattle.gp_window.specs.Ids.{contains_event as is_in}
 use Rattle.gp_replay.specs.Step.{start_state, value_of}
 use Rattle.gp_replay.specs.Feasible.{IsFeasible, Runs}
 use Rattle.gp_replay.specs.Value.{NoneWrites, Reads, Writes}
 use Rattle.gp_replay.specs.ValueLaws.{read_in_run}
+use Rattle.gp_constraint.specs.StandingLaws.{before_apart, before_in}
 use Rattle.gp_witness.specs.Meaning.{ChoicesHold, ReadsHold, StartChoicesHold}
 use Rattle.gp_witness.specs.ScheduleTruth.{before_of, is_that, last_write, later_of, schedule_place, schedule_truth, sees_start, sees_write, writes_to}
-use Rattle.gp_witness.proofs.Standing.{before_apart, before_in, in_cases, in_middle, in_parts, same_is, same_itself}
 use Rattle.gp_witness.proofs.Done.{happened, stands_at}
 use Rattle.gp_witness.proofs.Placed.{less_back, less_pos, place_executed, precedes, rises, stands_before}
 
@@ -91,7 +92,7 @@ none_in : (window : WindowForm) (variable : List ℕ) (ids : List EventId) (e : 
 none_in window variable [] e value none is writes = cc
 none_in window variable (id ∷ ids) e value none is writes =
     elim (in_cases id ids e is) [
-      | inl same ↦ none.0 value (subst (λ x. Writes window x variable value) same writes)
+      | inl same ↦ none.0 value (subst (λ x. Writes window x variable value) (sym same) writes)
       | inr rest ↦ none_in window variable ids e value none.1 rest writes
     ]
 
@@ -126,7 +127,7 @@ both a b first second = rw (first, second) refl
 
 that_is : (w : EventId) (last : Option EventId) → is_that w last ≡ true → last ≡ Some w
 that_is w None e = cc
-that_is w (Some last) e = ap Some (sym (same_is w last e))
+that_is w (Some last) e = ap Some (same_id last w e)
 
 is_none : (last : Option EventId) → not (is_some last) ≡ true → last ≡ None
 is_none None e = refl
@@ -192,7 +193,7 @@ choices_hold window ids feasible r w variable value reads choice chosen =
             | inl early ↦ elim (in_parts l.front (w ∷ l.back) other (subst (λ list. is_in list other ≡ true) l.is early)) [
               | inl first ↦ inl (precedes window ids other w is_w (subst (λ list. is_in list other ≡ true) (sym stands) first)).1
               | inr rest ↦ elim (in_cases w l.back other rest) [
-                | inl same ↦ absurd (differ (one_value window w variable written value (subst (λ x. Writes window x variable written) same writes) choice.0))
+                | inl same ↦ absurd (differ (one_value window w variable written value (subst (λ x. Writes window x variable written) (sym same) writes) choice.0))
                 | inr late ↦ absurd (none_in window variable l.back other written l.none late writes)
               ]
             ]

@@ -1,19 +1,19 @@
 use Rattle.std.proofs.Common.{ap, subst, sym, ◌∙◌, ◌≡◌, List, ◌++◌}
 use Rattle.std.specs.Prelude.{flat_map}
+use Rattle.std.proofs.lemmas.List.{append-nil}
 use Rattle.gp_window.specs.WindowForm.{WindowForm}
 use Rattle.gp_constraint.specs.declared.point.Point.{Point}
 use Rattle.gp_constraint.specs.declared.symbol.SymbolicLit.{SymbolicLit}
 use Rattle.gp_constraint.specs.Adding.{Adds}
 use Rattle.gp_constraint.specs.Listed.{kept_from}
 use Rattle.gp_constraint.specs.Reads.{kept_later}
-use Rattle.gp_constraint.proofs.Lists.{append_none}
 use Rattle.gp_constraint.proofs.Tabled.{later_none, later_tabled}
 use Rattle.gp_constraint.proofs.reads.seen_at_start.Goals as goal
 
 pub returns-then-not-finds_at_start : goal.returns-then-not-finds_at_start
 returns-then-not-finds_at_start c =
     let missed = sym c.finds_at_start.ensures ∙ c.if-not-finds_at_start.true in
-    sym (ap (λ due. c.args.clauses.now ++ due) (later_none c.args.window.now c.args.points.now c.args.r.now missed) ∙ append_none c.args.clauses.now)
+    sym (ap (λ due. c.args.clauses.now ++ due) (later_none c.args.window.now c.args.points.now c.args.r.now missed) ∙ append-nil c.args.clauses.now)
 
 pub returns : goal.returns
 returns c =

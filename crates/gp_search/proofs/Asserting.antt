@@ -13,7 +13,7 @@ use Rattle.gp_clause.specs.declared.problem.Problem.{Problem}
 use Rattle.gp_clause.specs.declared.problem.Query.{Query}
 use Rattle.gp_clause.specs.Kind.{bound_of, bound_at}
 use Rattle.gp_clause.specs.Problem.{IsValidKind}
-use Rattle.gp_base.specs.ListLaws.{got_all, contains_map}
+use Rattle.gp_base.specs.ListLaws.{contains_from_take, contains_map, got_all}
 use Rattle.gp_difference.specs.declared.bound.Bound.{Bound}
 use Rattle.gp_difference.specs.Bounds.{tagged, untagged, Explains}
 use Rattle.gp_difference.specs.Graph.{GraphForm, bounds_of, IsKept, IsRefused}
@@ -27,7 +27,7 @@ use Rattle.gp_search.specs.Bounds.{under, bounds_along}
 use Rattle.gp_search.specs.Inside.{all_kinds, false_lit, IsTurning, IsConflict}
 use Rattle.gp_search.proofs.Cycles.{IsKnown, IsClash, known, clash, trail_true, kind_from_bound}
 use Rattle.gp_search.proofs.Cycles.IsKnown.{said}
-use Rattle.gp_search.proofs.Lists.{contains_front, filtered}
+use Rattle.gp_search.proofs.Lists.{filtered}
 use Rattle.gp_search.proofs.Wholes.{whole_moved}
 
 -- the bound of a valid kind is within a graph of its points
@@ -153,7 +153,7 @@ cycle_conflict problem query engine graph d edge turning left is refused =
     let s : SolverForm = engine.solver in
     let lit : Lit = get_or s.trail engine.asserted d in
     let holds : (l : Lit) → Contains s.trail l → IsTrueLit (assigned s) l = trail_true (assigned s) s.trail s.level turning.sound.ordered in
-    let front : Each (IsTrueLit (assigned s)) (take engine.asserted s.trail) = λ l among. holds l (contains_front engine.asserted s.trail l among) in
+    let front : Each (IsTrueLit (assigned s)) (take engine.asserted s.trail) = λ l among. holds l (contains_from_take engine.asserted s.trail l among) in
     let same : bounds_of engine.graph ≡ map untagged problem.edges ++ bounds_along (all_kinds problem query) (take engine.asserted s.trail) =
     λ i. map untagged (turning.whole.graph.edges i) ++ turning.asserted.kept i in
     let olds : (b : Bound) → Contains (bounds_of engine.graph) b → IsKnown problem.edges (all_kinds problem query) (assigned s) b =

@@ -11,14 +11,13 @@ use Rattle.gp_clause.specs.Clause.{NamesBelow}
 use Rattle.gp_clause.specs.Closure.Derived.{given}
 use Rattle.gp_clause.specs.Lit.{opposite}
 use Rattle.gp_certificate.specs.Step.{Passes}
-use Rattle.gp_base.specs.ListLaws.{contains_map}
+use Rattle.gp_base.specs.ListLaws.{contains_map, here}
 use Rattle.gp_sat.specs.State.{SolverForm, assigned, clause_at}
 use Rattle.gp_sat.specs.Standing.{IsFalse, Each}
 use Rattle.gp_sat.specs.Changes.{IsConflict as IsFalseClause}
 use Rattle.gp_sat.specs.SolverLaws.{within_values}
 use Rattle.gp_search.specs.declared.engine.Engine.{Engine}
 use Rattle.gp_search.specs.Inside.{all_kinds, false_lit, IsTurning, IsConflict}
-use Rattle.gp_search.proofs.Lists.{here}
 use Rattle.gp_search.proofs.Trails.{conflict_present}
 
 -- a clause passes with itself

@@ -13,7 +13,7 @@ use Rattle.gp_clause.specs.Kind.{bound_of, bound_in, bound_at}
 use Rattle.gp_clause.specs.Lit.{opposite, negations}
 use Rattle.gp_clause.specs.Walk.{IsWalk, IsAmong, weight}
 use Rattle.gp_certificate.specs.Step.{IsDerivedBound, Passes}
-use Rattle.gp_base.specs.ListLaws.{contains_map, all_from_contains}
+use Rattle.gp_base.specs.ListLaws.{all_from_contains, contains_from_map, contains_map, first_or_rest, here, there}
 use Rattle.gp_difference.specs.declared.bound.Bound.{Bound}
 use Rattle.gp_difference.specs.Bounds.{edges_of, tags_of, untagged, tagged, AreAmong, Explains}
 use Rattle.gp_sat.specs.declared.assigned.Assigned.{Assigned}
@@ -23,8 +23,8 @@ use Rattle.gp_sat.specs.Standing.{IsFalse, Each}
 use Rattle.gp_sat.specs.Sound.{IsOrdered, true_lit}
 use Rattle.gp_search.specs.Bounds.{under, bounds_along}
 use Rattle.gp_search.specs.Inside.{is_false, false_lit}
-use Rattle.gp_search.proofs.Heads.{opposite_twice}
-use Rattle.gp_search.proofs.Lists.{contains_cases, here, there, mapped_cases, filtered, filtered_cases}
+use Rattle.gp_search.proofs.Lists.{filtered, filtered_cases}
+use Rattle.gp_clause.specs.LitLaws.{opposite_twice}
 
 -- the literals of a trail are true
 pub trail_true : (values : ℕ → Option Assigned) (trail : List Lit) (level : ℕ) → IsOrdered values trail level → (lit : Lit) → Contains trail lit → IsTrueLit values lit
@@ -62,7 +62,7 @@ pub known : (edges : List Edge) (kinds : List Kind) (values : ℕ → Option Ass
     → (b : Bound) → Contains (map untagged edges ++ bounds_along kinds lits) b → IsKnown edges kinds values b
 known edges kinds values lits all_true b is = elim (Contains-append_cases (map untagged edges) (bounds_along kinds lits) b is) [
   | inl front ↦
-      let one = mapped_cases untagged edges b front in
+      let one = contains_from_map untagged edges b front in
       subst (λ (x : Bound). IsKnown edges kinds values x) one.2 (fixed one.0 one.1)
   | inr back ↦
       let one = filtered_cases (λ (lit : Lit). under lit.variable (bound_at kinds lit)) lits b back in
@@ -98,7 +98,7 @@ edges_among edges (b ∷ bounds) each = (each b (here b bounds), edges_among edg
 
 among_each : (bounds walk : List Bound) → AreAmong bounds walk → (b : Bound) → Contains walk b → Contains bounds b
 among_each bounds [] among b (k, within, is) = absurd (omega arith)
-among_each bounds (first ∷ walk) among b is = elim (contains_cases first walk b is) [
+among_each bounds (first ∷ walk) among b is = elim (first_or_rest first walk b is) [
   | inl same ↦ subst (λ (x : Bound). Contains bounds x) same among.0
   | inr rest ↦ among_each bounds walk among.1 b rest
 ]
@@ -176,12 +176,12 @@ clash_all edges kinds s walk new each leads negative =
     record {
       known = λ tag is. let told = tags_told edges kinds s bounds each tag is in (told.2.0, ap (assigned s) (sym told.1) ∙ told.2.1);
       all_false = λ lit is.
-          let tag = mapped_cases (false_lit s) (tags_of bounds) lit is in
+          let tag = contains_from_map (false_lit s) (tags_of bounds) lit is in
           let told = tags_told edges kinds s bounds each tag.0 tag.1 in
           subst (λ (l : Lit). IsFalse (assigned s) l) tag.2 (false_is_false s tag.0 told.2.0 (ap (assigned s) (sym told.1) ∙ told.2.1));
       passes = record {
         in_range = all_from_contains (λ (lit : Lit). lit.variable < length kinds) (map (false_lit s) (tags_of bounds)) (λ lit is.
-            let tag = mapped_cases (false_lit s) (tags_of bounds) lit is in
+            let tag = contains_from_map (false_lit s) (tags_of bounds) lit is in
             let told = tags_told edges kinds s bounds each tag.0 tag.1 in
             subst (λ (v : ℕ). v < length kinds) (told.1 ∙ ap (λ (l : Lit). l.variable) tag.2) told.3);
         refuted = inr (

@@ -19,13 +19,12 @@ use Rattle.gp_derivation.specs.declared.log.Origin.{Origin}
 use Rattle.gp_derivation.specs.declared.log.Origin.TheVariants.{Learned, Taken}
 use Rattle.gp_derivation.specs.declared.record.Turn.{Turn}
 use Rattle.gp_certificate.specs.declared.step.Step.{Step}
-use Rattle.gp_base.specs.ListLaws.{contains_map}
+use Rattle.gp_base.specs.ListLaws.{contains_map, first_or_rest, here, there}
 use Rattle.gp_derivation.specs.Log.{IsLearned, OriginPasses}
 use Rattle.gp_derivation.specs.Spent.{IsNewBy, turned}
 use Rattle.gp_derivation.specs.Tight.{left_out}
 use Rattle.gp_search.specs.declared.engine.Engine.{Engine}
 use Rattle.gp_search.specs.Inside.{IsTurning, turn_from}
-use Rattle.gp_search.proofs.Lists.{contains_cases, here, there}
 use Rattle.gp_search.proofs.Turns.{some_entry}
 
 -- the clause of an entry
@@ -35,7 +34,7 @@ clause_of entry = entry.step.clause
 -- another literal of a clause is left when one is left out
 left_in : (lit : Lit) (clause : List Lit) (other : Lit) → Contains clause other → other ≢ lit → Contains (left_out lit clause) other
 left_in lit [] other is apart = absurd (let short : is.0 < 0 = is.1 in omega (arith, short))
-left_in lit (x ∷ clause) other is apart = at (not (lit_eq x lit)) refl (contains_cases x clause other is) (λ rest. left_in lit clause other rest apart)
+left_in lit (x ∷ clause) other is apart = at (not (lit_eq x lit)) refl (first_or_rest x clause other is) (λ rest. left_in lit clause other rest apart)
   where
     not_same : (b : Bool) → not b ≡ false → b ≡ true
     not_same true kept = refl

@@ -1,52 +1,26 @@
 -- From a conflict, and clauses each of which has one true literal, a refutation without the conflict.
-use Rattle.std.proofs.Common.{◌≡◌, ◌≢◌, refl, sym, ◌∙◌, ap, subst, ℕ, Bool, true, false, not, Option, List, ◌∷◌, All, Contains, ◌⊎◌, inl, inr}
+use Rattle.std.proofs.Common.{◌≡◌, ◌≢◌, sym, ◌∙◌, subst, ℕ, Option, List, ◌∷◌, All, Contains, ◌⊎◌, inl, inr}
 use Rattle.std.proofs.lemmas.List.Elements.{All-contains, All-weaker}
-use Rattle.std.proofs.lemmas.Bool.{false≢true, true≢false}
 use Rattle.gp_clause.specs.declared.edge.Edge.{Edge}
 use Rattle.gp_clause.specs.declared.kind.Kind.{Kind}
 use Rattle.gp_clause.specs.declared.lit.Lit.{Lit}
 use Rattle.gp_clause.specs.Closure.{Derived, Conflicts}
 use Rattle.gp_clause.specs.Closure.Derived.{given, forced}
-use Rattle.gp_clause.specs.Lit.{opposite, lit_eq, negations}
-use Rattle.gp_clause.specs.LitLaws.{lit_eq_decides}
+use Rattle.gp_clause.specs.Lit.{opposite, negations}
+use Rattle.gp_clause.specs.LitLaws.{lits_cases, opposite_twice}
 use Rattle.gp_sat.specs.declared.assigned.Assigned.{Assigned}
 use Rattle.gp_sat.specs.Looking.{IsTrueLit}
 use Rattle.gp_sat.specs.Standing.{IsFalse, Each, EachOther}
 use Rattle.gp_certificate.specs.Step.{IsDerivedBound, LeadsToConflict}
-use Rattle.gp_search.proofs.Lists.{contains_cases, mapped_cases}
-
--- two literals are the same or differ
-pub lits_cases : (a b : Lit) → (a ≡ b) ⊎ (a ≢ b)
-lits_cases a b = at (lit_eq a b) refl
-  where
-    at : (same : Bool) → lit_eq a b ≡ same → (a ≡ b) ⊎ (a ≢ b)
-    at true is = inl ((lit_eq_decides a b).0 is)
-    at false is = inr (λ e. let clash : false ≡ true = sym is ∙ (lit_eq_decides a b).1 e in false≢true clash)
-
-not_twice : (b : Bool) → not (not b) ≡ b
-not_twice true = refl
-not_twice false = refl
-
--- the negation of a negation is the literal
-pub opposite_twice : (lit : Lit) → opposite (opposite lit) ≡ lit
-opposite_twice lit = λ i. record { variable = lit.variable; positive = not_twice lit.positive i }
-
--- no literal is true and false
-pub true_false : (values : ℕ → Option Assigned) (lit : Lit) → IsTrueLit values lit → IsFalse values lit → ⊥
-true_false values lit (a, is, same) (b, also, other) =
-    let one : a ≡ b = cc in
-    let clash : lit.positive ≡ not lit.positive = sym same ∙ (ap (λ (x : Assigned). x.positive) one ∙ other) in
-    differs lit.positive clash
-  where
-    differs : (sign : Bool) → sign ≡ not sign → ⊥
-    differs true e = true≢false e
-    differs false e = false≢true e
+use Rattle.gp_base.specs.ListLaws.{contains_from_map, first_or_rest}
+use Rattle.std.proofs.Math.Bool.{not-not}
+use Rattle.gp_sat.specs.SolverLaws.{true_not_false}
 
 pub true_opposite : (values : ℕ → Option Assigned) (lit : Lit) → IsFalse values lit → IsTrueLit values (opposite lit)
 true_opposite values lit false_is = false_is
 
 pub false_opposite : (values : ℕ → Option Assigned) (lit : Lit) → IsTrueLit values lit → IsFalse values (opposite lit)
-false_opposite values lit (a, is, same) = (a, is, same ∙ sym (not_twice lit.positive))
+false_opposite values lit (a, is, same) = (a, is, same ∙ sym (not-not lit.positive))
 
 -- a clause has a true literal, and its others are false
 pub record IsHeaded (values : ℕ → Option Assigned) (clause : List Lit) : Type 0 where
@@ -74,11 +48,11 @@ headed_told values start clauses conflict clause lit among headed within others 
     at (inl same) = record {
       of_true = λ _. forced clause lit among within (λ other is apart. (others other is apart).of_true
           (true_opposite values other (headed.others other is (λ e. apart (e ∙ sym same)))));
-      of_false = λ false_is _. absurd (true_false values headed.head headed.holds (subst (λ (l : Lit). IsFalse values l) same false_is));
+      of_false = λ false_is _. absurd (true_not_false values headed.head headed.holds (subst (λ (l : Lit). IsFalse values l) same false_is));
     }
     at (inr differ) =
         let lit_false : IsFalse values lit = headed.others lit within differ in record {
-          of_true = λ holds. absurd (true_false values lit holds lit_false);
+          of_true = λ holds. absurd (true_not_false values lit holds lit_false);
           of_false = λ _ negated.
               let head_told : IsTold values start clauses conflict (opposite headed.head) = others headed.head headed.within (λ e. differ (sym e)) in
               let derived : Derived start clauses headed.head = forced clause headed.head among headed.within (λ other is apart. each other is apart negated) in
@@ -96,7 +70,7 @@ conflict_told : (values : ℕ → Option Assigned) (start : List Lit) (clauses :
     → Contains conflict lit → ((other : Lit) → Contains conflict other → other ≢ lit → IsTold values start clauses conflict (opposite other))
     → IsTold values start clauses conflict lit
 conflict_told values start clauses conflict lit all_false within others = record {
-  of_true = λ holds. absurd (true_false values lit holds (all_false lit within));
+  of_true = λ holds. absurd (true_not_false values lit holds (all_false lit within));
   of_false = λ _ negated. λ other is. elim (lits_cases other lit) [
     | inl same ↦ subst (λ (l : Lit). Derived start clauses (opposite l)) (sym same) negated
     | inr differs ↦ (others other is differs).of_true (true_opposite values other (all_false other is))
@@ -109,11 +83,11 @@ told : (values : ℕ → Option Assigned) (start : List Lit) (clauses : List (Li
     → (lit : Lit) → Derived start (conflict ∷ clauses) lit → IsTold values start clauses conflict lit
 told values start clauses conflict starts heads all_false lit (given l is) = record {
   of_true = λ _. given l is;
-  of_false = λ false_is _. absurd (true_false values l (starts l is) false_is);
+  of_false = λ false_is _. absurd (true_not_false values l (starts l is) false_is);
 }
 told values start clauses conflict starts heads all_false lit (forced clause l among within others) =
     let rest = λ (other : Lit) (is : Contains clause other) (apart : other ≢ l). told values start clauses conflict starts heads all_false (opposite other) (others other is apart) in
-    elim (contains_cases conflict clauses clause among) [
+    elim (first_or_rest conflict clauses clause among) [
       | inl same ↦ conflict_told values start clauses conflict l all_false (subst (λ (c : List Lit). Contains c l) (sym same) within)
           (λ other is apart. rest other (subst (λ (c : List Lit). Contains c other) same is) apart)
       | inr one ↦ headed_told values start clauses conflict clause l one (heads clause one) within rest
@@ -123,7 +97,7 @@ told values start clauses conflict starts heads all_false lit (forced clause l a
 pub reached : (values : ℕ → Option Assigned) (start : List Lit) (clauses : List (List Lit)) (conflict : List Lit) → Each (IsTrueLit values) start
     → ((clause : List Lit) → Contains clauses clause → IsHeaded values clause) → Each (IsFalse values) conflict
     → Conflicts start (conflict ∷ clauses) → IsReached start clauses conflict
-reached values start clauses conflict starts heads all_false (clause, among, negated) = at (contains_cases conflict clauses clause among)
+reached values start clauses conflict starts heads all_false (clause, among, negated) = at (first_or_rest conflict clauses clause among)
   where
     rest : (lit : Lit) → Contains clause lit → IsTold values start clauses conflict (opposite lit)
     rest lit is = told values start clauses conflict starts heads all_false (opposite lit) (negated lit is)
@@ -140,7 +114,7 @@ reached values start clauses conflict starts heads all_false (clause, among, neg
 through_derived : (start : List Lit) (clauses own : List (List Lit)) (conflict : List Lit) → IsReached start clauses conflict → All (Contains clauses) own
     → (lit : Lit) → Derived (negations conflict) own lit → Derived start clauses lit
 through_derived start clauses own conflict reaches among lit (given l is) =
-    let one = mapped_cases opposite conflict l is in
+    let one = contains_from_map opposite conflict l is in
     subst (λ (x : Lit). Derived start clauses x) one.2 (reaches one.0 one.1)
 through_derived start clauses own conflict reaches among lit (forced clause l one within others) =
     forced clause l (All-contains (Contains clauses) own clause among one) within (λ other is apart. through_derived start clauses own conflict reaches among (opposite other) (others other is apart))

@@ -8,12 +8,6 @@ use Rattle.gp_sat.specs.Changes.{IsOfLevel}
 use Rattle.gp_sat.specs.Learning.{IsHighestBelow}
 use Rattle.gp_search.specs.Moves.{IsHigher}
 
-pub highest_none : (s : SolverForm) → IsHighestBelow s [] 0
-highest_none s = record {
-  highest = λ lit a within _ _. absurd (let short : within.0 < 0 = within.1 in omega (arith, short));
-  reached = inl (omega arith);
-}
-
 -- one literal more
 pub highest_more : (s : SolverForm) (lits : List Lit) (i : ℕ) (d : Lit) (level next : ℕ) → i < length lits → IsHighestBelow s (take i lits) level → IsHigher s (get_or lits i d) level next → IsHighestBelow s (take (i + 1) lits) next
 highest_more s lits i d level next within was higher = subst (λ (ls : List Lit). IsHighestBelow s ls next) (sym (take_more lits i d within)) (record {

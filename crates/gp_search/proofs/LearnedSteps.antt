@@ -14,7 +14,7 @@ use Rattle.gp_clause.specs.Lit.{opposite, negations}
 use Rattle.gp_derivation.specs.declared.log.LogEntry.{LogEntry}
 use Rattle.gp_derivation.specs.Log.{logged, LearnedPasses, IsUsable}
 use Rattle.gp_certificate.specs.Step.{named, LeadsToConflict}
-use Rattle.gp_base.specs.ListLaws.{contains_map, all_from_contains}
+use Rattle.gp_base.specs.ListLaws.{all_from_contains, contains_from_map, contains_map, first_or_rest, here}
 use Rattle.gp_certificate.specs.NamedLaws.{named_contains}
 use Rattle.gp_clause.specs.ClosureLaws.{derived_more}
 use Rattle.gp_sat.specs.Stored.{Stored}
@@ -27,8 +27,8 @@ use Rattle.gp_sat.specs.SolverLaws.{attached_within}
 use Rattle.gp_search.specs.declared.engine.Engine.{Engine}
 use Rattle.gp_search.specs.Inside.{all_kinds, IsTurning, IsConflict, IsNumber, numbered, IsReasoned}
 use Rattle.gp_search.specs.Moves.{with_number}
-use Rattle.gp_search.proofs.Heads.{IsHeaded, IsReached, reached, through, true_opposite, lits_cases, opposite_twice}
-use Rattle.gp_search.proofs.Lists.{contains_cases, here, mapped_cases}
+use Rattle.gp_search.proofs.Heads.{IsHeaded, IsReached, reached, through, true_opposite}
+use Rattle.gp_clause.specs.LitLaws.{lits_cases, opposite_twice}
 
 -- the reason of an assignment has one true literal
 pub reason_headed : (s : SolverForm) (number : ℕ) → IsSound s → IsReason s number → IsHeaded (assigned s) (clause_at s.clauses number)
@@ -48,11 +48,11 @@ learned_reached s conflict clause hints sound all_false learned =
     reached (assigned s) (negations clause) (hinted s hints) conflict starts heads all_false learned.passes
   where
     starts : Each (IsTrueLit (assigned s)) (negations clause)
-    starts lit is = let one = mapped_cases opposite clause lit is in
+    starts lit is = let one = contains_from_map opposite clause lit is in
         subst (λ (l : Lit). IsTrueLit (assigned s) l) one.2 (true_opposite (assigned s) one.0 (learned.all_false one.0 one.1))
 
     heads : (c : List Lit) → Contains (hinted s hints) c → IsHeaded (assigned s) c
-    heads c is = let one = mapped_cases (clause_at s.clauses) hints c is in
+    heads c is = let one = contains_from_map (clause_at s.clauses) hints c is in
         subst (λ (x : List Lit). IsHeaded (assigned s) x) one.2 (reason_headed s one.0 sound (learned.reasons one.0 one.1))
 
 -- the clause of a number in the list of all
@@ -85,7 +85,7 @@ hints_attached s names hints None reasoned reasons attached hint is =
     let why = reasons hint is in reasoned.attached why.0 why.1 hint why.2 why.3
 hints_attached s names hints (Some number) reasoned reasons attached hint is = elim (Contains-append_cases hints (number ∷ []) hint is) [
   | inl front ↦ let why = reasons hint front in reasoned.attached why.0 why.1 hint why.2 why.3
-  | inr back ↦ elim (contains_cases number [] hint back) [
+  | inr back ↦ elim (first_or_rest number [] hint back) [
     | inl same ↦ subst (λ (n : ℕ). IsAttached s.clauses n) same attached
     | inr none ↦ absurd (let short : none.0 < 0 = none.1 in omega (arith, short))
   ]
@@ -96,7 +96,7 @@ numbered_among : (problem : Problem) (log : List LogEntry) (s : SolverForm) (hin
     → All (Contains (named (logged problem log) (with_number hints number))) (numbered s number)
 numbered_among problem log s hints None same attached = λ k d within. absurd (omega (arith, within))
 numbered_among problem log s hints (Some number) same attached = all_from_contains (Contains (named (logged problem log) (hints ++ number ∷ []))) (clause_at s.clauses number ∷ []) (λ clause is.
-    elim (contains_cases (clause_at s.clauses number) [] clause is) [
+    elim (first_or_rest (clause_at s.clauses number) [] clause is) [
       | inl one ↦ subst (λ (c : List Lit). Contains (named (logged problem log) (hints ++ number ∷ [])) c) one
           (named_contains (logged problem log) (hints ++ number ∷ []) number (clause_at s.clauses number) (Contains-append_right hints (number ∷ []) number (here number []))
           (clause_got problem log s.clauses number same (attached_within s.clauses number attached)))
@@ -107,7 +107,7 @@ numbered_among problem log s hints (Some number) same attached = all_from_contai
 hinted_among : (problem : Problem) (log : List LogEntry) (s : SolverForm) (names : ℕ) (hints : List ℕ) (number : Option ℕ) → map (λ (stored : Stored). stored.clause) s.clauses ≡ logged problem log → IsReasoned names s
     → ((hint : ℕ) → Contains hints hint → IsReason s hint) → All (Contains (named (logged problem log) (with_number hints number))) (hinted s hints)
 hinted_among problem log s names hints number same reasoned reasons = all_from_contains (Contains (named (logged problem log) (with_number hints number))) (hinted s hints) (λ clause is.
-    let one = mapped_cases (clause_at s.clauses) hints clause is in
+    let one = contains_from_map (clause_at s.clauses) hints clause is in
     let why = reasons one.0 one.1 in
     let within : one.0 < length s.clauses = attached_within s.clauses one.0 (reasoned.attached why.0 why.1 one.0 why.2 why.3) in
     subst (λ (c : List Lit). Contains (named (logged problem log) (with_number hints number)) c) one.2
@@ -188,17 +188,17 @@ final_passes problem query engine lit clause final hints turning fell learned lo
     (inl (forced_false (negations final) more lit there_is apart (opposite lit) refl derived))
   where
     alone : Each (IsFalse (assigned engine.solver)) (lit ∷ [])
-    alone other is = elim (contains_cases lit [] other is) [
+    alone other is = elim (first_or_rest lit [] other is) [
       | inl one ↦ subst (λ (l : Lit). IsFalse (assigned engine.solver) l) one fell
       | inr none ↦ absurd (let short : none.0 < 0 = none.1 in omega (arith, short))
     ]
 
     starts : All (Contains (negations final)) (negations clause)
     starts = all_from_contains (Contains (negations final)) (negations clause) (λ l is.
-        let one = mapped_cases opposite clause l is in
+        let one = contains_from_map opposite clause l is in
         subst (λ (x : Lit). Contains (negations final) x) one.2 (contains_map opposite final one.0 (longer one.0 one.1)))
 
     apart : Contains (negations final) (opposite lit) → ⊥
     apart is =
-        let one = mapped_cases opposite final (opposite lit) is in
+        let one = contains_from_map opposite final (opposite lit) is in
         absent (subst (λ (l : Lit). Contains final l) (sym (opposite_twice one.0) ∙ (ap opposite one.2 ∙ opposite_twice lit)) one.1)

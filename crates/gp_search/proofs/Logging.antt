@@ -37,9 +37,10 @@ use Rattle.gp_search.specs.Inside.{all_kinds, IsPlain, IsMarked, IsStored, IsKee
 use Rattle.gp_search.specs.Mail.{taken_entry}
 use Rattle.gp_search.specs.Moves.{IsLesson, RestsOnMarked}
 use Rattle.gp_search.proofs.LearnedSteps.{clauses_counted}
-use Rattle.gp_search.proofs.Purity.{pure_longer, pure_rests, pure_shorter, pure_within}
+use Rattle.gp_search.proofs.Purity.{pure_rests, pure_shorter, pure_within}
 use Rattle.gp_search.proofs.Taught.{entry_of, last_got, old_or_last, taught_more, taught_none}
 use Rattle.gp_search.proofs.Levels.{back_was, back_stays, begun_same}
+use Rattle.gp_derivation.specs.GrowthLaws.{pure_longer}
 
 -- a literal of the level that was left is unassigned
 left_free : (old new : SolverForm) (level v : ℕ) (a : Assigned) → Backjumps old new level → assigned old v ≡ Some a → level < a.level → assigned new v ≡ None

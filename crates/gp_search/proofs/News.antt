@@ -23,8 +23,7 @@ use Rattle.gp_sat.specs.declared.assigned.Assigned.{Assigned}
 use Rattle.gp_sat.specs.State.{SolverForm, assigned, clause_at, IsAttached}
 use Rattle.gp_sat.specs.Standing.{IsClosed, IsFalseTo}
 use Rattle.gp_search.specs.Inside.{IsTrueTo}
-use Rattle.gp_base.specs.ListLaws.{all_from_contains}
-use Rattle.gp_search.proofs.Lists.{mapped_cases}
+use Rattle.gp_base.specs.ListLaws.{all_from_contains, contains_from_map}
 
 -- the sign of an assignment, if it is of a level or of one below
 abbrev pub sign_to : ℕ → Option Assigned → Option Bool
@@ -111,7 +110,7 @@ not_refuted law edges kinds clauses values place start calm starts (inr (bounds,
 -- the negations of literals that are false are true
 pub negations_true : (values : ℕ → Option Bool) (clause : List Lit) → ((lit : Lit) → Contains clause lit → IsFalseIn values lit) → All (IsTrueIn values) (negations clause)
 negations_true values clause all_false = all_from_contains (IsTrueIn values) (negations clause) (λ lit is.
-    let one = mapped_cases opposite clause lit is in
+    let one = contains_from_map opposite clause lit is in
     subst (λ (l : Lit). IsTrueIn values l) one.2 (all_false one.0 one.1))
 
 -- what is left of a clause without a literal

@@ -24,7 +24,8 @@ use Rattle.gp_search.specs.OfferLaws.{StandsAt, fit_alike, offers_alike, offers_
 use Rattle.gp_search.specs.Moves.{AddsAndOffers, AddsFewAndOffers, IsCopyOf, KeepsLog, LearnsAndOffers, LearnsOne, OffersAll, OffersEntry}
 use Rattle.gp_search.proofs.Refuting.{can_number}
 use Rattle.gp_search.proofs.Running.{adds_more, adds_none, adds_few}
-use Rattle.gp_search.proofs.Taught.{hints_before, last_got}
+use Rattle.gp_search.proofs.Taught.{last_got}
+use Rattle.gp_derivation.specs.GrowthLaws.{hints_before}
 
 -- at first nothing was offered
 offers_none : (problem : Problem) (log : List LogEntry) (place : ℕ) (before : Option MailForm) → OffersAll problem log place [] before before

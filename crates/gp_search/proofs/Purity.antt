@@ -8,7 +8,7 @@ use Rattle.std.proofs.lemmas.List.Elements.{All-contains, Contains-get_or}
 use Rattle.gp_clause.specs.declared.kind.Kind.{Kind}
 use Rattle.gp_clause.specs.declared.problem.Problem.{Problem}
 use Rattle.gp_clause.specs.Clause.{NamesBelow}
-use Rattle.gp_base.specs.ListLaws.{got_front, slice_get_front}
+use Rattle.gp_base.specs.ListLaws.{slice_get_front}
 use Rattle.gp_derivation.specs.declared.log.LogEntry.{LogEntry}
 use Rattle.gp_derivation.specs.declared.log.Origin.{Origin}
 use Rattle.gp_derivation.specs.declared.log.Origin.TheVariants.{Learned, Taken}
@@ -18,11 +18,6 @@ use Rattle.gp_derivation.specs.Log.IsPure.{taken, learned}
 use Rattle.gp_search.specs.Inside.{IsMarked}
 use Rattle.gp_search.specs.Moves.{is_marked, RestsOnMarked}
 use Rattle.gp_search.proofs.Taught.{entry_of, last_got}
-
--- what is pure stays pure in a longer log
-pub pure_longer : (problem : Problem) (log more : List LogEntry) (place : ℕ) → IsPure problem log place → IsPure problem (log ++ more) place
-pure_longer problem log more place (taken p own got took) = taken p own (got_front log more p own got) took
-pure_longer problem log more place (learned p own got below others) = learned p own (got_front log more p own got) below (λ other by. pure_longer problem log more other (others other by))
 
 -- what is pure is an entry of the log
 pub pure_within : (problem : Problem) (log : List LogEntry) (place : ℕ) → IsPure problem log place → place < length log

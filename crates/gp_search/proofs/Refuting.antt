@@ -1,7 +1,6 @@
 -- The last steps of refutations, and their cones.
 use Rattle.std.proofs.Common.{◌≡◌, ◌≢◌, refl, sym, ◌∙◌, ap, subst, ℕ, zero, suc, ◌+◌, ◌<◌, ◌≤◌, ◌==◌, Bool, true, false, cond, not, Some, List, [], ◌∷◌, ◌++◌, length, All, Contains, sum_by, IsPermutation, inl, inr, arith}
-use Rattle.std.specs.Prelude.{Result, Ok, Err, IsOk, IsErr, IfOk}
-use Rattle.std.proofs.lemmas.Bool.{cases_eq}
+use Rattle.std.proofs.lemmas.Bool.{cases_eq, eq-eqb, ne_eqb}
 use Rattle.std.proofs.lemmas.Bool.Decides.{nat_tests}
 use Rattle.std.specs.List.{slice_get}
 use Rattle.std.proofs.lemmas.Option.{same_Some}
@@ -11,10 +10,9 @@ use Rattle.std.proofs.lemmas.List.Elements.{All-contains, All-head, All-tail, Co
 use Rattle.gp_clause.specs.declared.lit.Lit.{Lit}
 use Rattle.gp_clause.specs.declared.problem.Problem.{Problem}
 use Rattle.gp_clause.specs.declared.problem.Query.{Query}
-use Rattle.gp_clause.specs.Clause.{occurrences, IsRising, NamesTwice}
-use Rattle.gp_clause.specs.declared.clause.BadClause.{BadClause}
+use Rattle.gp_clause.specs.Clause.{occurrences, IsRising}
 use Rattle.gp_clause.specs.Lit.{opposite}
-use Rattle.gp_base.specs.CountLaws.{once_from_rising}
+use Rattle.gp_base.specs.CountLaws.{count_none, count_two, once_from_rising}
 use Rattle.gp_derivation.specs.declared.log.LogEntry.{LogEntry}
 use Rattle.gp_derivation.specs.declared.log.Origin.{Origin}
 use Rattle.gp_derivation.specs.declared.log.Origin.TheVariants.{Learned, Taken}
@@ -30,18 +28,8 @@ use Rattle.gp_sat.specs.Learning.{IsLearned as Follows, IsDecided}
 use Rattle.gp_search.specs.declared.engine.Engine.{Engine}
 use Rattle.gp_search.specs.Inside.{all_kinds, IsTurning, IsAssuming, most_steps}
 use Rattle.gp_base.specs.ListLaws.{all_from_contains}
-use Rattle.gp_search.proofs.Heads.{opposite_twice}
 use Rattle.gp_search.proofs.LearnedSteps.{final_passes}
-use Rattle.gp_search.proofs.Lists.{contains_cases, here, there}
-
--- literals of which none has the variable of another one make a clause
-pub makes_clause : (r : Result (List Lit) BadClause) (lits : List Lit) → (IsErr r → NamesTwice lits) → ((variable : ℕ) → occurrences variable lits ≤ 1) → IsOk r
-makes_clause (Ok clause) lits twice once = refl
-makes_clause (Err e) lits twice once = let both : NamesTwice lits = twice refl in absurd (omega (arith, both.1, once both.0))
-
--- the clause has the literals in another order
-pub clause_sorted : (r : Result (List Lit) BadClause) (lits clause : List Lit) → IfOk r (λ c. IsPermutation lits c) → r ≡ Ok clause → IsPermutation lits clause
-clause_sorted r lits clause sorted is = let P : Result (List Lit) BadClause → Type 0 = λ x. IfOk x (λ c. IsPermutation lits c) in subst P is sorted
+use Rattle.gp_clause.specs.LitLaws.{opposite_twice}
 
 learned_one : (origin : Origin) → IsLearned origin → steps_by origin ≡ 1
 learned_one Learned is = refl
@@ -82,32 +70,6 @@ counted_one v lit is = grind (arith, nat_tests)
 counted_none : (v : ℕ) (lit : Lit) → lit.variable ≢ v → counted v lit ≡ 0
 counted_none v lit apart = grind (arith, nat_tests)
 
--- a variable of one literal occurs, and one of two literals occurs twice
-occurs : (v : ℕ) (lits : List Lit) (a : Lit) → Contains lits a → a.variable ≡ v → 1 ≤ occurrences v lits
-occurs v [] a (k, within, is) of = absurd (omega arith)
-occurs v (lit ∷ lits) a among of = elim (contains_cases lit lits a among) [
-  | inl same ↦ omega (arith, sum_by-cons (counted v) lit lits, counted_one v lit (ap (λ (l : Lit). l.variable) same ∙ of))
-  | inr rest ↦ omega (arith, sum_by-cons (counted v) lit lits, occurs v lits a rest of)
-]
-
-occurs_twice : (v : ℕ) (lits : List Lit) (a b : Lit) → a ≢ b → Contains lits a → Contains lits b → a.variable ≡ v → b.variable ≡ v → 2 ≤ occurrences v lits
-occurs_twice v [] a b apart (k, within, is) other of_a of_b = absurd (omega arith)
-occurs_twice v (lit ∷ lits) a b apart among other of_a of_b = elim (contains_cases lit lits a among) [
-  | inl first ↦ elim (contains_cases lit lits b other) [
-    | inl second ↦ absurd (apart (sym first ∙ second))
-    | inr rest ↦ omega (arith, sum_by-cons (counted v) lit lits, counted_one v lit (ap (λ (l : Lit). l.variable) first ∙ of_a), occurs v lits b rest of_b)
-  ]
-  | inr later ↦ elim (contains_cases lit lits b other) [
-    | inl second ↦ omega (arith, sum_by-cons (counted v) lit lits, counted_one v lit (ap (λ (l : Lit). l.variable) second ∙ of_b), occurs v lits a later of_a)
-    | inr rest ↦ omega (arith, sum_by-cons (counted v) lit lits, occurs_twice v lits a b apart later rest of_a of_b)
-  ]
-]
-
-occurs_nowhere : (v : ℕ) (lits : List Lit) → ((lit : Lit) → Contains lits lit → lit.variable ≢ v) → occurrences v lits ≡ 0
-occurs_nowhere v [] apart = refl
-occurs_nowhere v (lit ∷ lits) apart =
-    omega (arith, sum_by-cons (counted v) lit lits, counted_none v lit (apart lit (here lit lits)), occurs_nowhere v lits (λ other is. apart other (there lit lits other is)))
-
 -- a false literal that was decided is the negation of what is assumed, where every decision is
 pub decided_negated : (query : Query) (s : SolverForm) (assumed : ℕ) (lit : Lit) → IsAssuming query.assumed s assumed → s.level ≤ assumed → ((v : ℕ) (a : Assigned) → assigned s v ≡ Some a → a.level ≤ s.level) → IsDecided s lit → IsFalse (assigned s) lit
     → Contains query.assumed (opposite lit)
@@ -140,7 +102,8 @@ apart_from_false problem query engine lit clause turning low among (b, also, sig
     turning.assuming.decided other.variable a.0 a.1 a.2 (omega (arith, (turning.sound.ordered.present other.variable a.0 a.1).0, low)) in
     let negation : Contains query.assumed (opposite lit) =
     subst (λ (l : Lit). Contains query.assumed l) (λ i. record { variable = same i; positive = (ap (λ (x : Assigned). x.positive) one ∙ sign) i }) assumed in
-    omega (arith, occurs_twice lit.variable query.assumed lit (opposite lit) (differs lit) among negation refl refl, turning.whole.asked.once lit.variable)
+    let own : (lit.variable == lit.variable) ≡ true = eq-eqb lit.variable lit.variable refl in
+    omega (arith, count_two (λ (l : Lit). l.variable == lit.variable) query.assumed lit (opposite lit) (differs lit) among negation own own, turning.whole.asked.once lit.variable)
 
 -- so the negation of the assumption may stand beside the clause of the analysis
 pub once_beside : (lits clause : List Lit) (lit : Lit) → IsRising clause → lits ≡ clause ++ opposite lit ∷ [] → ((other : Lit) → Contains clause other → other.variable ≢ lit.variable)
@@ -152,7 +115,7 @@ once_beside lits clause lit rising same apart v =
     let last : occurrences v (opposite lit ∷ []) ≡ counted v lit + 0 = sum_by-cons count (opposite lit) [] in
     subst P (sym same) (elim (cases_eq lit.variable v) [
       | inl here_it_is ↦
-          let none : occurrences v clause ≡ 0 = occurs_nowhere v clause (λ other is equal. apart other is (equal ∙ sym here_it_is)) in
+          let none : occurrences v clause ≡ 0 = count_none (λ (l : Lit). l.variable == v) clause (λ other is. ne_eqb other.variable v (λ equal. apart other is (equal ∙ sym here_it_is))) in
           omega (arith, sum, last, none, counted_one v lit here_it_is)
       | inr elsewhere ↦ omega (arith, sum, last, counted_none v lit elsewhere, once_from_rising (λ (l : Lit). l.variable) v clause rising)
     ])

@@ -6,7 +6,7 @@ use Rattle.gp_derivation.specs.declared.log.LogEntry.{LogEntry}
 use Rattle.gp_search.specs.declared.engine.Engine.{Engine}
 use Rattle.gp_search.specs.Mail.{Gives, MailForm, taken_entry}
 use Rattle.gp_base.specs.Counts.{one_more}
-use Rattle.gp_search.specs.Moves.{FindsNone, HasGiven, HasGivenAll, HasTaken, KeepsLog, TakesAll, TakesOne, TakesSome}
+use Rattle.gp_search.specs.Moves.{FindsNone, HasGiven, HasGivenAll, HasTaken, TakesAll, TakesOne}
 
 -- at first a mail gave nothing
 given_none : (before : Option MailForm) → HasGiven [] before before
@@ -43,9 +43,6 @@ taken_more count old now new before mid after has one = record {
   counted = let longer : length (has.gave ++ one.shared ∷ []) ≡ length has.gave + 1 = length_push has.gave one.shared in omega (arith, longer, has.counted);
   told = given_more has.gave one.shared before mid after has.told one.told;
 }
-
-pub takes_some : (count : ℕ) (old now new : Engine) (before mid : Option MailForm) → HasTaken count old now before mid → KeepsLog now new → count ≤ 256 → TakesSome old new
-takes_some count old now new before mid has keeps few = record { gave = has.gave; log = keeps.log ∙ has.log; begins = keeps.begins ∙ has.begins; few = omega (arith, has.counted, few) }
 
 pub takes_all : (count : ℕ) (old now new : Engine) (before mid after : Option MailForm) → HasTaken count old now before mid → FindsNone now new mid after → count ≤ 256 → TakesAll old new before after
 takes_all count old now new before mid after has none few = record {

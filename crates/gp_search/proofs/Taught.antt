@@ -1,18 +1,16 @@
 -- What a turn has learned, as its log grows.
-use Rattle.std.proofs.Common.{◌≡◌, refl, sym, ◌∙◌, ap, subst, ℕ, ◌+◌, ◌-◌, ◌<◌, ◌≤◌, Option, Some, List, [], ◌∷◌, ◌++◌, length, map, take, drop, All, ◌⊎◌, inl, inr, append_assoc, arith}
+use Rattle.std.proofs.Common.{◌≡◌, sym, ◌∙◌, ap, subst, ℕ, ◌+◌, ◌-◌, ◌<◌, ◌≤◌, Some, List, [], ◌∷◌, ◌++◌, length, map, take, drop, All, ◌⊎◌, inl, inr, append_assoc, arith}
 use Rattle.std.specs.List.{slice_get}
 use Rattle.std.proofs.lemmas.Bool.{cases_lt}
 use Rattle.std.proofs.lemmas.Option.{same_Some, slice_get_within}
 use Rattle.std.proofs.lemmas.List.{map-append, length-append, length-map, length-drop, length_push, drop-append-le, take-append-le}
-use Rattle.std.proofs.lemmas.List.Elements.{All-head, All-tail, All-weaker}
-use Rattle.gp_clause.specs.declared.kind.Kind.{Kind}
+use Rattle.std.proofs.lemmas.List.Elements.{All-weaker}
 use Rattle.gp_clause.specs.declared.lit.Lit.{Lit}
 use Rattle.gp_clause.specs.declared.problem.Problem.{Problem}
 use Rattle.gp_clause.specs.declared.problem.Query.{Query}
 use Rattle.gp_clause.specs.Clause.{IsRising}
 use Rattle.gp_derivation.specs.declared.log.LogEntry.{LogEntry}
-use Rattle.gp_derivation.specs.declared.log.Origin.{Origin}
-use Rattle.gp_derivation.specs.declared.log.Origin.TheVariants.{Learned, Taken}
+use Rattle.gp_derivation.specs.declared.log.Origin.TheVariants.{Learned}
 use Rattle.gp_certificate.specs.declared.step.Step.{Step}
 use Rattle.gp_derivation.specs.Log.{IsLearned, OriginPasses, logged}
 use Rattle.gp_base.specs.ListLaws.{slice_get_front, slice_get_back}
@@ -21,6 +19,8 @@ use Rattle.gp_certificate.specs.Step.{named}
 use Rattle.gp_derivation.specs.Tight.{IsTight}
 use Rattle.gp_search.specs.Inside.{all_kinds, turn_from, IsPassing, IsTaught}
 use Rattle.gp_search.specs.Moves.{IsLesson}
+use Rattle.gp_certificate.specs.NamedLaws.{named_longer}
+use Rattle.gp_derivation.specs.GrowthLaws.{hints_before}
 
 -- a learned entry
 abbrev pub entry_of : Step → LogEntry
@@ -53,17 +53,6 @@ logged_longer problem log more = ap (λ (xs : List (List Lit)). problem.clauses 
 logged_counted : (problem : Problem) (log : List LogEntry) → length (logged problem log) ≡ length problem.clauses + length log
 logged_counted problem log = omega (arith, length-append problem.clauses (map clause_of log), length-map log clause_of)
 
--- hints name the same clauses of a longer list
-named_longer : (xs ys : List (List Lit)) (hints : List ℕ) → All (λ hint. hint < length xs) hints → named (xs ++ ys) hints ≡ named xs hints
-named_longer xs ys [] all = refl
-named_longer xs ys (hint ∷ hints) all = at (slice_get xs hint) refl (named_longer xs ys hints (All-tail (λ h. h < length xs) hint hints all))
-  where
-    front : slice_get (xs ++ ys) hint ≡ slice_get xs hint
-    front = slice_get_front xs ys hint (All-head (λ h. h < length xs) hint hints all)
-
-    at : (o : Option (List Lit)) → slice_get xs hint ≡ o → named (xs ++ ys) hints ≡ named xs hints → named (xs ++ ys) (hint ∷ hints) ≡ named xs (hint ∷ hints)
-    at o is rest = rw (front, is, rest) refl
-
 -- so what is tight in a log is tight in a longer one
 tight_longer : (problem : Problem) (query : Query) (log more : List LogEntry) (step : Step) (place : ℕ) → place ≤ length log → All (λ hint. hint < length problem.clauses + place) step.hints
     → IsTight problem.edges (all_kinds problem query) (named (logged problem log) step.hints) step.clause → IsTight problem.edges (all_kinds problem query) (named (logged problem (log ++ more)) step.hints) step.clause
@@ -93,12 +82,6 @@ taught_none problem query log begins learned all = record {
   where
     none : (place : ℕ) (entry : LogEntry) → slice_get log place ≡ Some entry → learned ≤ place → ⊥
     none place entry got late = omega (arith, slice_get_within log place entry got, late, all)
-
--- the hints of a learned entry that passes name what comes before it
-pub hints_before : (problem : Problem) (locals : List Kind) (log : List LogEntry) (begins place : ℕ) (step : Step) (origin : Origin) → IsLearned origin → OriginPasses problem locals log begins place step origin
-    → All (λ hint. hint < length problem.clauses + place) step.hints
-hints_before problem locals log begins place step Learned is passes = passes.hints
-hints_before problem locals log begins place step (Taken sender certificate) wrong passes = absurd wrong
 
 -- then one step more
 pub taught_more : (problem : Problem) (query : Query) (log : List LogEntry) (begins learned : ℕ) (step : Step) → IsPassing problem query.locals log begins learned → IsTaught problem query log (turn_from begins learned (length log))

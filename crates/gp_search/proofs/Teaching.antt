@@ -35,13 +35,13 @@ use Rattle.gp_sat.specs.SolverLaws.{attached_within, within_values}
 use Rattle.gp_search.specs.declared.engine.Engine.{Engine}
 use Rattle.gp_search.specs.Inside.{all_kinds, turn_from, IsConflict, IsTurning, IsTrueTo}
 use Rattle.gp_search.specs.Moves.{IsStudied, IsTightened, with_number}
-use Rattle.gp_base.specs.ListLaws.{all_from_contains}
-use Rattle.gp_search.proofs.Heads.{lits_cases}
+use Rattle.gp_base.specs.ListLaws.{all_from_contains, contains_from_map, contains_from_take, first_or_rest, here, there}
 use Rattle.gp_search.proofs.LearnedSteps.{clause_got, hints_attached, learned_passes}
-use Rattle.gp_search.proofs.Lists.{contains_cases, contains_front, filtered_cases, here, mapped_cases, there}
+use Rattle.gp_search.proofs.Lists.{filtered_cases}
 use Rattle.gp_search.proofs.Meeting.{base_at, bound_kept, edge_among}
 use Rattle.gp_search.proofs.News.{AreAttached, IsCalm, closed_leaves, false_in, free_in, negations_true, new_by, not_refuted, true_from, true_in, values_to}
 use Rattle.gp_search.proofs.Turns.{entry_clause}
+use Rattle.gp_clause.specs.LitLaws.{lits_cases}
 
 -- a literal that is true below the present level is one whose bound the graph has
 asserted_front : (problem : Problem) (query : Query) (engine : Engine) (level : ℕ) (lit : Lit) → IsTurning problem query engine → level < engine.solver.level → IsTrueTo engine.solver level lit
@@ -90,7 +90,7 @@ pub turned_attached : (problem : Problem) (query : Query) (engine : Engine) (tur
 turned_attached problem query engine turn turning same clause among =
     elim (Contains-append_cases problem.clauses (map clause_of (take (length log - turn.begins) (drop turn.begins log))) clause among) [
       | inl base ↦ let one = base_at problem query engine turning clause base in (one.0, turning.whole.stored.base one.0 one.1, one.2)
-      | inr entry ↦ own (mapped_cases clause_of (take (length log - turn.begins) (drop turn.begins log)) clause entry)
+      | inr entry ↦ own (contains_from_map clause_of (take (length log - turn.begins) (drop turn.begins log)) clause entry)
     ]
   where
     log : List LogEntry
@@ -103,7 +103,7 @@ turned_attached problem query engine turn turning same clause among =
         → (number : ℕ) × IsAttached engine.solver.clauses number × (clause_at engine.solver.clauses number ≡ clause)
     own (e, there, is) =
         let items : List LogEntry = engine.log.items in
-        let inside : Contains (drop turn.begins items) e = contains_front (length items - turn.begins) (drop turn.begins items) e there in
+        let inside : Contains (drop turn.begins items) e = contains_from_take (length items - turn.begins) (drop turn.begins items) e there in
         let place : ℕ = turn.begins + inside.0 in
         let within : place < length items = omega (arith, inside.1, length-drop turn.begins items) in
         let got : get_or items place e ≡ e = sym (get_or-drop turn.begins items inside.0 e) ∙ inside.2 in (
@@ -129,7 +129,7 @@ contains_or_not (x ∷ clause) lit = at (lits_cases x lit) (contains_or_not clau
     at : (x ≡ lit) ⊎ (x ≢ lit) → Contains clause lit ⊎ (Contains clause lit → ⊥) → Contains (x ∷ clause) lit ⊎ (Contains (x ∷ clause) lit → ⊥)
     at (inl same) rest = inl (subst (λ (l : Lit). Contains (x ∷ clause) l) same (here x clause))
     at (inr differ) (inl rest) = inl (there x clause lit rest)
-    at (inr differ) (inr none) = inr (λ is. elim (contains_cases x clause lit is) [ inl same ↦ differ same | inr rest ↦ none rest ])
+    at (inr differ) (inr none) = inr (λ is. elim (first_or_rest x clause lit is) [ inl same ↦ differ same | inr rest ↦ none rest ])
 
 -- a false literal of a level below the present one is false to the level below it
 false_below : (s : SolverForm) (level : ℕ) (lit : Lit) → level + 1 ≡ s.level → IsFalse (assigned s) lit → IsBelowLevel s s.level lit → IsFalseTo level (assigned s) lit

@@ -25,9 +25,9 @@ use Rattle.gp_search.specs.Bounds.{under, bounds_along}
 use Rattle.gp_clause.specs.Kind.{bound_at}
 use Rattle.gp_search.specs.Inside.{all_kinds, IsTurning, IsAsserted, IsReasoned, IsAssuming, IsGraphOf, IsLevelled, IsTrueTo, no_level}
 use Rattle.gp_search.specs.Moves.{BeginsLevel}
-use Rattle.gp_search.proofs.Lists.{contains_cases, here, there}
 use Rattle.gp_search.proofs.Levels.{at_place, back_was, back_stays, bounds_back, levelled_more, levelled_decided, levelled_back}
 use Rattle.gp_search.proofs.Wholes.{HasSameLog, taught_moved, whole_moved}
+use Rattle.gp_base.specs.ListLaws.{first_or_rest, here, there}
 
 -- the reasons after a propagation
 reasoned_more : (names : ℕ) (old new : SolverForm) → ((number : ℕ) → IsAttached old.clauses number → NamesBelow names (clause_at old.clauses number)) → Propagates old new → IsReasoned names old → IsReasoned names new
@@ -379,7 +379,7 @@ present_or_below s (lit ∷ lits) sound all_false = at (present_or_below s lits 
         → HasPresent s (lit ∷ lits) ⊎ ((l : Lit) → Contains (lit ∷ lits) l → (a : Assigned) × (assigned s l.variable ≡ Some a) × (a.positive ≡ not l.positive) × (a.level < s.level))
     at (inl one) fell = inl (one.0, there lit lits one.0 one.1, one.2)
     at (inr below) (a, is, sign) = elim (cases_lt a.level s.level) [
-      | inl less ↦ inr (λ l among. elim (contains_cases lit lits l among) [
+      | inl less ↦ inr (λ l among. elim (first_or_rest lit lits l among) [
         | inl same ↦ (a, ap (λ (x : Lit). assigned s x.variable) (sym same) ∙ is, sign ∙ ap (λ (x : Lit). not x.positive) same, less)
         | inr rest ↦ below l rest
       ])

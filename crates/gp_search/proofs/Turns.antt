@@ -19,10 +19,10 @@ use Rattle.gp_derivation.specs.Numbering.{size_of}
 use Rattle.gp_difference.specs.Graph.{GraphForm}
 use Rattle.gp_sat.specs.declared.assigned.Assigned.{Assigned}
 use Rattle.gp_sat.specs.Stored.{Stored}
-use Rattle.gp_sat.specs.State.{SolverForm, assigned, clause_at, no_clause, IsAttached, grown, without_clause}
+use Rattle.gp_sat.specs.State.{SolverForm, assigned, clause_at, no_clause, IsAttached, without_clause}
 use Rattle.gp_sat.specs.Sound.{IsSound}
 use Rattle.gp_sat.specs.Looking.{IsTrueLit}
-use Rattle.gp_sat.specs.SolverLaws.{attached_within, free_at, grown_at}
+use Rattle.gp_sat.specs.SolverLaws.{attached_within, free_at}
 use Rattle.gp_search.specs.declared.engine.Engine.{Engine}
 use Rattle.gp_search.specs.declared.engine.Level.{Level}
 use Rattle.gp_search.specs.Bounds.{bounds_along}
@@ -32,25 +32,7 @@ use Rattle.gp_search.proofs.LearnedSteps.{clauses_counted, clause_got}
 use Rattle.gp_search.proofs.Purity.{pure_within}
 use Rattle.gp_search.proofs.Taught.{taught_none}
 
--- a solver that grows has room
-pub grown_roomy : (s : SolverForm) (variables : ℕ) → IsRoomy s (grown s variables) variables
-grown_roomy s variables =
-    let sum : length (grown s variables).values ≡ length s.values + length (replicate {A = Option Assigned} (variables - length s.values) None) = length-append s.values (replicate (variables - length s.values) None) in
-    let more : length (replicate {A = Option Assigned} (variables - length s.values) None) ≡ variables - length s.values = length-replicate (variables - length s.values) None in
-    record {
-      values = λ v. grown_at s.values (variables - length s.values) v;
-      trail = refl;
-      clauses = refl;
-      level = refl;
-      more = omega (arith, sum, more);
-      room = omega (arith, sum, more);
-    }
-
--- so has a solver that has as many
-pub same_roomy : (s : SolverForm) (variables : ℕ) → variables ≤ length s.values → IsRoomy s s variables
-same_roomy s variables room = record { values = λ v. refl; trail = refl; clauses = refl; level = refl; more = omega arith; room = room }
-
--- so has a solver that takes other variables into use
+-- a solver with room has it where it takes other variables into use
 pub used_roomy : (s t next : SolverForm) (variables used : ℕ) → IsRoomy s t variables → next ≡ record t { used = used } → IsRoomy s next variables
 used_roomy s t next variables used room is = record {
   values = λ v. ap (λ (x : SolverForm). assigned x v) is ∙ room.values v;

@@ -2,7 +2,8 @@ use Rattle.std.proofs.Common.{subst, false, List}
 use Rattle.std.proofs.lemmas.List.{take_all}
 use Rattle.gp_clause.specs.declared.lit.Lit.{Lit}
 use Rattle.gp_sat.specs.Learning.{IsHighestBelow}
-use Rattle.gp_search.proofs.Highest.{highest_none, highest_more}
+use Rattle.gp_search.proofs.Highest.{highest_more}
+use Rattle.gp_sat.specs.SolverLaws.{highest_none}
 use Rattle.gp_search.proofs.engine.Engine.highest_below.Goals as goal
 
 -- the literal that stands for none

@@ -3,7 +3,8 @@ use Rattle.gp_clause.specs.Lit.{opposite}
 use Rattle.gp_derivation.specs.Log.{LearnedPasses}
 use Rattle.gp_search.specs.declared.engine.Engine.{Engine}
 use Rattle.gp_search.specs.Inside.{IsTurning}
-use Rattle.gp_search.proofs.Refuting.{makes_clause, clause_sorted, once_beside, apart_from_false, assumption_passes, assumption_negated}
+use Rattle.gp_search.proofs.Refuting.{once_beside, apart_from_false, assumption_passes, assumption_negated}
+use Rattle.gp_sat.specs.SolverLaws.{clause_sorted, makes_clause}
 use Rattle.gp_search.proofs.engine.Engine.refute_assumption.Goals as goal
 
 pub unwrap-requires : goal.unwrap-requires

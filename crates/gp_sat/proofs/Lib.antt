@@ -4,6 +4,7 @@ pub mod Shorts
 pub mod Ranging
 pub mod Cutting
 pub mod Consisting
+pub mod Forcing
 pub mod Scanning
 pub mod Steps
 pub mod Marked

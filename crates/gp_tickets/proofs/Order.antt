@@ -9,9 +9,6 @@ use Rattle.gp_tickets.specs.Hand.{once_below}
 abbrev pub in_row : ℕ → ℕ → ℕ → ℕ
 in_row first count number = if nat_lt number first then 0 else (if nat_lt number (first + count) then 1 else 0)
 
-row_low : (first count number : ℕ) → number < first → in_row first count number ≡ 0
-row_low first count number low = grind arith
-
 row_from : (first count number : ℕ) → 0 < in_row first count number → first ≤ number
 row_from first count number some = grind arith
 

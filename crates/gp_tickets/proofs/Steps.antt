@@ -1,17 +1,17 @@
 -- The steps on the word, as the table asks for them.
-use Rattle.std.proofs.Common.{◌≡◌, refl, sym, ap, subst, ℕ, zero, suc, ◌+◌, ◌%◌, ◌^◌, ◌<◌, ◌≤◌, Bool, true, false, List, [], ◌∷◌, nat_lt, set, if◌then◌else◌, sum_by, arith}
+use Rattle.std.proofs.Common.{◌≡◌, refl, sym, ap, subst, ℕ, ◌+◌, ◌%◌, ◌^◌, ◌<◌, ◌≤◌, Bool, true, false, List, [], ◌∷◌, nat_lt, set, if◌then◌else◌, sum_by, arith}
 use Rattle.std.specs.List.{slice_index}
 use Rattle.std.proofs.Math.Nat.{mod-eq_of_lt}
 use Rattle.std.proofs.lemmas.List.{set-get_or}
 use Rattle.std.proofs.lemmas.Bool.{ltb-false, ltb-true}
-use mathlib.Core.Option.{some, some-injective, some-ne-none}
+use mathlib.Core.Option.{some}
 use lib.ListN.{get_elem?}
 use Rattle.atomic_table.proofs.Lists.{set_again, set_here}
-use Rattle.atomic_table.specs.Table.{Allows, Joins, keeps, Me, opening, Splits, State}
+use Rattle.atomic_table.specs.Table.{Allows, Joins, keeps, Me, Splits, State}
 use Rattle.gp_tickets.specs.declared.hand.Hand.{Hand}
-use Rattle.gp_tickets.specs.Hand.{Draws, drew, IsSound, IsWhole, joined, left_of, one_of, spent, told_none, unused}
+use Rattle.gp_tickets.specs.Hand.{Draws, drew, IsSound, IsWhole, joined, left_of, one_of, spent, told_none}
 use Rattle.gp_base.specs.SumLaws.{one_most, sum_least, stands_within}
-use Rattle.gp_tickets.specs.Rule.{drawn_in, Fits, Kept, nones_in}
+use Rattle.gp_tickets.specs.Rule.{drawn_in, Kept, nones_in}
 use Rattle.gp_tickets.proofs.Hands.{sound, whole}
 use Rattle.gp_tickets.proofs.Moves.{keeps_drawn, keeps_join, keeps_none, keeps_split}
 
@@ -97,18 +97,3 @@ splits count crew seat hand several unfinished s kept at = keeps_split count cre
 -- two drawers become one
 pub joins : (count crew seat : ℕ) (hand : Hand) (other : ℕ) (one : Hand) → 0 < hand.drawers → Joins (Holds count crew) seat hand other one (joined hand one) spent
 joins count crew seat hand other one some_one s kept at apart there = keeps_join count crew s.words s.views seat other hand one kept at some_one apart there
-
--- the rule at the start
-pub opens : (count crew : ℕ) → count ≤ 4294967296 → crew ≤ 16 → Holds count crew (opening (0 ∷ []) [] (unused count crew crew))
-opens count crew few most = record {
-  small = (few, most);
-  word = refl;
-  fits = λ seat hand at. first_fits seat hand at;
-  each = λ number. grind arith;
-  drawn = omega arith;
-  parts = omega arith;
-}
-  where
-    first_fits : (seat : ℕ) (hand : Hand) → get_elem? (unused count crew crew ∷ []) seat ≡ some hand → Fits count crew hand
-    first_fits zero hand at = subst (Fits count crew) (some-injective (unused count crew crew) hand at) (record { same = λ some_one. (refl, refl); few = omega arith; idle = λ none. refl })
-    first_fits (suc seat) hand at = absurd (some-ne-none hand (sym at))

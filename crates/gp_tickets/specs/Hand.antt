@@ -1,5 +1,5 @@
 -- What the drawers of tickets know: what each drew, and how often it was told that no number is left.
-use Rattle.std.specs.Prelude.{ℕ, ◌≡◌, ◌+◌, ◌-◌, ◌<◌, ◌≤◌, ◌==◌, nat_lt, Bool, true, false, List, [], ◌∷◌, ◌++◌, length, count_by, if◌then◌else◌}
+use Rattle.std.specs.Prelude.{ℕ, ◌≡◌, ◌+◌, ◌-◌, ◌<◌, ◌≤◌, ◌==◌, nat_lt, Bool, true, false, [], ◌∷◌, ◌++◌, length, count_by, if◌then◌else◌}
 use Rattle.gp_tickets.specs.declared.hand.Hand.{Hand}
 
 -- once for a number below the count, and never for another

@@ -1,9 +1,9 @@
-use Rattle.std.proofs.Common.{◌≡◌, ◌≢◌, ℕ, ◌+◌, ◌^◌, ◌<◌, List, [], ◌∷◌, ◌++◌, length, get_or, sym, ap, subst, arith, ℤ, pos, ◌+ℤ◌, ◌≤ℤ◌, ◌<ℤ◌, w64, to_z, of_z}
+use Rattle.std.proofs.Common.{◌≡◌, ◌≢◌, ℕ, ◌+◌, ◌^◌, ◌<◌, List, [], ◌∷◌, ◌++◌, length, get_or, sym, ap, ◌∙◌, subst, arith, ℤ, pos, ◌+ℤ◌, ◌≤ℤ◌, ◌<ℤ◌, w64, to_z, of_z}
 use Rattle.std.proofs.lemmas.Int.{ints, by_lt_z}
 use Rattle.gp_clause.specs.declared.edge.Edge.{Edge}
 use Rattle.gp_difference.specs.declared.bound.Bound.{Bound}
 use Rattle.gp_difference.specs.Places.{place_at}
-use Rattle.gp_difference.specs.Bounds.{edge_at}
+use Rattle.gp_difference.specs.Bounds.{edge_at, no_bound}
 use Rattle.gp_difference.specs.Lower.{IsInput, IsScan, Scanning, Closing}
 use Rattle.gp_difference.specs.Placement.{PlacementForm, lowered, with_fallen}
 use Rattle.gp_difference.proofs.RunLemmas.{unsettled, lowered_work}
@@ -118,7 +118,7 @@ pub record AreNear (p : PlacementForm) (e : Edge) : Type 0 where
   pub low : pos 0 ≤ℤ (e.c +ℤ pos 4096)
   pub high : e.c ≤ℤ pos 4096
 
-pub near_read : (bounds : List Bound) (new : Edge) (p : PlacementForm) (i : ℕ) (e : Edge) → edge_at bounds i ≡ e →
+near_read : (bounds : List Bound) (new : Edge) (p : PlacementForm) (i : ℕ) (e : Edge) → edge_at bounds i ≡ e →
     IsInput bounds new p.places → i < length bounds →
     ((done : ℕ) × Scanning bounds new p done (edge_at bounds i).b (i + 1)) → AreNear p e
 near_read bounds new p i e q input i_in (done, (ranks, scan)) =
@@ -144,3 +144,15 @@ near_read bounds new p i e q input i_in (done, (ranks, scan)) =
       low = (input.edges i i_in).low;
       high = (input.edges i i_in).high;
     })
+
+-- the same of a bound that was read
+pub near_bound : (bounds : List Bound) (new : Edge) (p : PlacementForm) (i : ℕ) (bound : Bound) → bound ≡ get_or bounds i no_bound →
+    IsInput bounds new p.places → i < length bounds →
+    ((done : ℕ) × Scanning bounds new p done (edge_at bounds i).b (i + 1)) → AreNear p bound.edge
+near_bound bounds new p i bound is = near_read bounds new p i bound.edge (sym (ap (λ (b : Bound). b.edge) is))
+
+-- the label that a bound offers its first point does not wrap
+pub near_sum : (p : PlacementForm) (e : Edge) (label : ℤ) → AreNear p e → label ≡ place_at p.labels e.b →
+    to_z w64 (of_z w64 (to_z w64 (of_z w64 label) +ℤ to_z w64 (of_z w64 e.c))) ≡ (place_at p.labels e.b +ℤ e.c)
+near_sum p e label near is =
+    sum_is label e.c (omega (arith, ints, is, near.second_low)) (omega (arith, ints, is, near.second_high)) near.low near.high ∙ ap (λ l. l +ℤ e.c) is

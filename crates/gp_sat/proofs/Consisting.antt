@@ -210,6 +210,19 @@ pub record IsTakenBack (s : SolverForm) (end : ℕ) (values : List (Option Assig
   pub gone : (place : ℕ) (d : Lit) → end ≤ place → place < length s.trail → get_or values (get_or s.trail place d).variable None ≡ None
   pub kept : (v : ℕ) → ((place : ℕ) (d : Lit) → end ≤ place → place < length s.trail → (get_or s.trail place d).variable ≢ v) → get_or values v None ≡ get_or s.values v None
 
+-- the same by the slices that were lent, one of which was written
+pub taken_back : (s : SolverForm) (end : ℕ) (lent new values : List (Option Assigned)) (trail : List Lit) → lent ≡ s.values → trail ≡ s.trail → values ≡ new → length new ≡ length lent
+    → ((place : ℕ) (d : Lit) → end ≤ place → place < length trail → get_or new (get_or trail place d).variable None ≡ None)
+    → ((v : ℕ) → ((place : ℕ) (d : Lit) → end ≤ place → place < length trail → (get_or trail place d).variable ≢ v) → get_or new v None ≡ get_or lent v None)
+    → IsTakenBack s end values
+taken_back s end lent new values trail lent_is trail_is values_is size gone kept =
+    subst (λ (vs : List (Option Assigned)). IsTakenBack s end vs) (sym values_is) (record {
+      size = size ∙ ap (λ (vs : List (Option Assigned)). length vs) lent_is;
+      gone = subst (λ (ts : List Lit). (place : ℕ) (d : Lit) → end ≤ place → place < length ts → get_or new (get_or ts place d).variable None ≡ None) trail_is gone;
+      kept = subst (λ (ts : List Lit). (v : ℕ) → ((place : ℕ) (d : Lit) → end ≤ place → place < length ts → (get_or ts place d).variable ≢ v) → get_or new v None ≡ get_or s.values v None) trail_is
+          (subst (λ (vs : List (Option Assigned)). (v : ℕ) → ((place : ℕ) (d : Lit) → end ≤ place → place < length trail → (get_or trail place d).variable ≢ v) → get_or new v None ≡ get_or vs v None) lent_is kept);
+    })
+
 -- what it leaves of one variable
 taken_one : (s : SolverForm) (end : ℕ) (values : List (Option Assigned)) → IsSound s → IsTakenBack s end values → (v : ℕ)
     → ((assigned s v ≡ None) × (get_or values v None ≡ None)) ⊎ ((a : Assigned) × (assigned s v ≡ Some a) × ((end ≤ a.place) × (get_or values v None ≡ None) ⊎ ((a.place < end) × (get_or values v None ≡ Some a))))
@@ -440,6 +453,13 @@ trail_named s sound place d below =
     let there : (a : Assigned) × (assigned s (get_or s.trail place d).variable ≡ Some a) × (a.place ≡ place) = sound.ordered.off_trail place d below in
     within_values s.values (get_or s.trail place d).variable there.0 there.1
 
+-- the variables of a lent trail are within the lent values
+pub lent_named : (s : SolverForm) (lent : List (Option Assigned)) (trail : List Lit) → lent ≡ s.values → trail ≡ s.trail → IsSound s
+    → (place : ℕ) (d : Lit) → place < length trail → (get_or trail place d).variable < length lent
+lent_named s lent trail lent_is trail_is sound =
+    subst (λ (ts : List Lit). (place : ℕ) (d : Lit) → place < length ts → (get_or ts place d).variable < length lent) (sym trail_is)
+    (subst (λ (vs : List (Option Assigned)). (place : ℕ) (d : Lit) → place < length s.trail → (get_or s.trail place d).variable < length vs) (sym lent_is) (trail_named s sound))
+
 -- a solver after a backjump, by its parts
 pub cut_parts : (s : SolverForm) (level end : ℕ) (values : List (Option Assigned)) (trail : List Lit) (starts less : List ℕ) (place next : Option ℕ) (trail_room starts_room more_trail more_starts : ℕ) → level ≤ s.level → IsEndOf (assigned s) (length s.trail) level end
     → IsTakenBack s end values → trail ≡ take end s.trail → less ≡ take level starts → next ≡ slice_get s.order 0 → more_trail ≡ trail_room → more_starts ≡ starts_room → IsConsistent s starts place trail_room starts_room
@@ -453,9 +473,9 @@ cut_parts s level end values trail starts less place next trail_room starts_room
     (subst (λ (n : ℕ). IsConsistent (record s { values = map (kept_to level) s.values; trail = take end s.trail; level = level }) (take level starts) next trail_room n) (sym starts_same)
     (consistent_cut s level end starts place next trail_room starts_room below ends front old))))
 
-pub back_parts : (s : SolverForm) (level end : ℕ) (values : List (Option Assigned)) (trail : List Lit) → IsSound s → IsEndOf (assigned s) (length s.trail) level end → IsTakenBack s end values → trail ≡ take end s.trail
-    → Backjumps s (record s { values = values; trail = trail; level = level }) level
-back_parts s level end values trail sound ends taken trail_is = record {
+pub back_parts : (s view : SolverForm) (level end : ℕ) (values : List (Option Assigned)) (trail : List Lit) → s ≡ view → IsSound s → IsEndOf (assigned s) (length s.trail) level end → IsTakenBack s end values → trail ≡ take end s.trail
+    → Backjumps view (record s { values = values; trail = trail; level = level }) level
+back_parts s view level end values trail same sound ends taken trail_is = subst (λ (t : SolverForm). Backjumps t (record s { values = values; trail = trail; level = level }) level) same (record {
   reached = refl;
   clauses = refl;
   order = refl;
@@ -465,7 +485,7 @@ back_parts s level end values trail sound ends taken trail_is = record {
   trail = ap (λ (ts : List Lit). ts ++ drop end s.trail) trail_is ∙ take-append-drop end s.trail;
   stays = subst (λ (ts : List Lit). Each (IsUpTo s level) ts) (sym trail_is) (front_low s level end sound ends);
   goes = rest_high s level end sound ends;
-}
+})
 
 -- a solver without assignments, by its parts
 pub clear_parts : (s : SolverForm) (values : List (Option Assigned)) (trail : List Lit) (starts none : List ℕ) (place next : Option ℕ) (trail_room starts_room more_trail more_starts : ℕ) → IsTakenBack s 0 values → trail ≡ [] → none ≡ [] → next ≡ slice_get s.order 0 → more_trail ≡ trail_room → more_starts ≡ starts_room

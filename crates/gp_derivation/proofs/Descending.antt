@@ -197,6 +197,10 @@ descended_all bases log hints bound places todo empty old place (through p other
   | inr waiting ↦ absurd (nothing_in p (subst (λ (xs : List ℕ). Contains xs p) empty waiting))
 ]
 
+-- the last place that is queued is queued
+pub last_queued : (todo rest : List ℕ) (place : ℕ) → todo ≡ rest ++ place ∷ [] → Contains todo place
+last_queued todo rest place is = subst (λ (xs : List ℕ). Contains xs place) (sym is) (Contains-push rest place)
+
 -- the numbers that come before the last one in a set are below it
 pub below_last : (rest : List ℕ) (place : ℕ) → All (λ q. nat_cmp q place ≡ Less) rest → (q : ℕ) → Contains rest q → q < place
 below_last rest place all q is = ranked q place Less (sym (All-contains (λ x. nat_cmp x place ≡ Less) rest q all is))

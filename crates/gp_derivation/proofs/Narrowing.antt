@@ -1,9 +1,9 @@
 -- The entries on which a step rests, as far as they leave room.
-use Rattle.std.proofs.Common.{◌≡◌, ℕ, suc, ◌+◌, ◌<◌, ◌≤◌, ◌↔◌, ◌⊎◌, inl, inr, Bool, true, false, IsTrue, Some, List, [], ◌∷◌, ◌++◌, length, Contains, refl, sym, ◌∙◌, subst, ap, append_assoc, arith}
+use Rattle.std.proofs.Common.{◌≡◌, ℕ, suc, ◌+◌, ◌<◌, ◌≤◌, ◌↔◌, ◌⊎◌, inl, inr, Bool, true, false, IsTrue, Some, List, [], ◌∷◌, ◌++◌, length, Contains, refl, sym, ◌∙◌, subst, ap, append_assoc, arith, All, get_or}
 use Rattle.std.specs.List.{slice_get}
 use Rattle.std.specs.Prelude.{AllPairs, IsPermutation}
 use Rattle.std.proofs.lemmas.List.{map-append}
-use Rattle.std.proofs.lemmas.List.Elements.{All-contains, Contains-push, Contains-push_cases}
+use Rattle.std.proofs.lemmas.List.Elements.{All-contains, Contains-push_cases}
 use Rattle.gp_clause.specs.declared.lit.Lit.{Lit}
 use Rattle.gp_clause.specs.declared.problem.Problem.{Problem}
 use Rattle.gp_certificate.specs.declared.certificate.Certificate.{Certificate}
@@ -19,9 +19,12 @@ use Rattle.gp_derivation.specs.Reach.{IsReached, rests_on}
 use Rattle.gp_derivation.specs.Reach.IsReached.{direct, through}
 use Rattle.gp_derivation.specs.Room.{HasNoSmallCone, HasPlace, HasSmallCone, Leaves, clauses_by, whole_room}
 use Rattle.gp_derivation.proofs.Coning.{clauses_moved}
-use Rattle.gp_derivation.proofs.Descending.{IsDescended, IsQueued, descended_none, descended_more, descended_all, rests_earlier, told_in_order}
+use Rattle.gp_derivation.proofs.Descending.{IsDescended, IsQueued, descended_none, descended_more, descended_all, rests_earlier, told_in_order, below_last, last_queued}
 use Rattle.gp_derivation.proofs.Drafts.{cone_gap}
 use Rattle.gp_derivation.proofs.Rooms.{leaves_before, place_before, place_last, small_place, place_small}
+use Rattle.std.specs.Ordering.{nat_cmp}
+use Rattle.std.specs.declared.cmp.Ordering.TheVariants.{Less}
+use Rattle.std.proofs.lemmas.Option.{slice_get_read}
 
 -- a test tells on which entries of a log a step rests
 abbrev pub TellsReached : Problem → List LogEntry → Step → (ℕ → Bool) → Type 0
@@ -81,8 +84,19 @@ pub record IsNextPlace (problem : Problem) (log : List LogEntry) (last : Step) (
   pub parts : todo ≡ rest ++ place ∷ []
   pub below : (q : ℕ) → Contains rest q → q < place
 
+-- so it is found at the end of the queue
+pub next_place : (problem : Problem) (log : List LogEntry) (last : Step) (todo rest : List ℕ) (place : ℕ) (entry : LogEntry) (bound : ℕ) → CanBeNumbered (length problem.clauses) log last
+    → todo ≡ rest ++ place ∷ [] → All (λ q. nat_cmp q place ≡ Less) rest → ((q : ℕ) → Contains todo q → q < bound) → bound ≤ length log → entry ≡ get_or log place entry
+    → IsNextPlace problem log last todo rest place entry
+next_place problem log last todo rest place entry bound can parts all below within is = record {
+  can = can;
+  got = slice_get_read log (length log) place entry refl (omega (arith, below place (last_queued todo rest place parts), within)) is;
+  parts = parts;
+  below = below_last rest place all;
+}
+
 waits : (problem : Problem) (log : List LogEntry) (last : Step) (todo rest : List ℕ) (place : ℕ) (entry : LogEntry) → IsNextPlace problem log last todo rest place entry → Contains todo place
-waits problem log last todo rest place entry next = subst (λ (xs : List ℕ). Contains xs place) (sym next.parts) (Contains-push rest place)
+waits problem log last todo rest place entry next = last_queued todo rest place next.parts
 
 least : (problem : Problem) (log : List LogEntry) (last : Step) (todo rest : List ℕ) (place : ℕ) (entry : LogEntry) → IsNextPlace problem log last todo rest place entry → (q : ℕ) → Contains todo q → q ≤ place
 least problem log last todo rest place entry next q is = elim (Contains-push_cases rest place q (subst (λ (xs : List ℕ). Contains xs q) next.parts is)) [

@@ -1,9 +1,7 @@
 use Rattle.std.proofs.Common.{◌≡◌, ℕ, ◌<◌, Some, List, length, refl, sym, subst, inl, arith}
-use Rattle.std.specs.Prelude.{Contains}
 use Rattle.std.specs.List.{slice_get}
-use Rattle.std.proofs.lemmas.List.Elements.{Contains-push}
 use Rattle.std.proofs.lemmas.Option.{slice_get_read}
-use Rattle.gp_derivation.proofs.Descending.{IsDescended, IsQueued, descended_none, descended_more, descended_all, below_last, none_left}
+use Rattle.gp_derivation.proofs.Descending.{IsDescended, IsQueued, below_last, descended_all, descended_more, descended_none, last_queued, none_left}
 use Rattle.gp_derivation.specs.Reach.{rests_on}
 use Rattle.gp_derivation.proofs.reach.descend.Goals as goal
 
@@ -13,15 +11,15 @@ loop-place-init c = subst (λ (ps : List ℕ). IsDescended c.args.base_clauses c
 
 pub bounds-log-bound : goal.bounds-log-bound
 bounds-log-bound c =
-    let among : Contains c.loop-place.todo.keys c.in-Some.place = subst (λ (xs : List ℕ). Contains xs c.in-Some.place) (sym c.in-Some.ensures.removal) (Contains-push c.pop_last.new.self.keys c.in-Some.place) in
+    let among = last_queued _ c.pop_last.new.self.keys c.in-Some.place c.in-Some.ensures.removal in
     omega (arith, c.loop-place.invariant.below c.in-Some.place among, c.loop-place.invariant.within)
 
 pub loop-place-smaller : goal.loop-place-smaller
-loop-place-smaller c = c.loop-place.invariant.below c.in-Some.place (subst (λ (xs : List ℕ). Contains xs c.in-Some.place) (sym c.in-Some.ensures.removal) (Contains-push c.pop_last.new.self.keys c.in-Some.place))
+loop-place-smaller c = c.loop-place.invariant.below c.in-Some.place (last_queued _ c.pop_last.new.self.keys c.in-Some.place c.in-Some.ensures.removal)
 
 pub loop-place-preserved : goal.loop-place-preserved
 loop-place-preserved c =
-    let among : Contains c.loop-place.todo.keys c.in-Some.place = subst (λ (xs : List ℕ). Contains xs c.in-Some.place) (sym c.in-Some.ensures.removal) (Contains-push c.pop_last.new.self.keys c.in-Some.place) in
+    let among = last_queued _ c.pop_last.new.self.keys c.in-Some.place c.in-Some.ensures.removal in
     let within : c.in-Some.place < length c.args.log.now = omega (arith, c.loop-place.invariant.below c.in-Some.place among, c.loop-place.invariant.within) in
     let got : slice_get c.args.log.now c.in-Some.place ≡ Some c.index-log-bound.result = slice_get_read c.args.log.now (length c.args.log.now) c.in-Some.place c.index-log-bound.result refl within c.index-log-bound.is in
     let queued : IsQueued c.args.base_clauses (rests_on c.index-log-bound.result.step c.index-log-bound.result.origin) c.pop_last.new.self.keys c.queue-in-Some.new.todo.keys =

@@ -1,9 +1,6 @@
-use Rattle.std.proofs.Common.{ℕ, ◌<◌, List, length, refl, sym, subst, arith}
-use Rattle.std.specs.Prelude.{Contains}
-use Rattle.std.proofs.lemmas.List.Elements.{Contains-push}
-use Rattle.std.proofs.lemmas.Option.{slice_get_read}
-use Rattle.gp_derivation.proofs.Descending.{below_last, none_left}
-use Rattle.gp_derivation.proofs.Narrowing.{IsNextPlace, narrowed_none, narrowed_more, narrowed_all, none_from_here}
+use Rattle.std.proofs.Common.{arith}
+use Rattle.gp_derivation.proofs.Descending.{last_queued, none_left}
+use Rattle.gp_derivation.proofs.Narrowing.{narrowed_all, narrowed_more, narrowed_none, next_place, none_from_here}
 use Rattle.gp_derivation.proofs.reach.descend_within.Goals as goal
 
 pub loop-place-init : goal.loop-place-init
@@ -13,35 +10,23 @@ loop-place-init c =
 
 pub bounds-log-bound : goal.bounds-log-bound
 bounds-log-bound c =
-    let among : Contains c.loop-place.todo.keys c.in-Some.place = subst (λ (xs : List ℕ). Contains xs c.in-Some.place) (sym c.in-Some.ensures.removal) (Contains-push c.pop_last.new.self.keys c.in-Some.place) in
+    let among = last_queued _ c.pop_last.new.self.keys c.in-Some.place c.in-Some.ensures.removal in
     omega (arith, c.loop-place.invariant.descended.below c.in-Some.place among, c.loop-place.invariant.descended.within)
 
 pub loop-place-smaller : goal.loop-place-smaller
-loop-place-smaller c = c.loop-place.invariant.descended.below c.in-Some.place (subst (λ (xs : List ℕ). Contains xs c.in-Some.place) (sym c.in-Some.ensures.removal) (Contains-push c.pop_last.new.self.keys c.in-Some.place))
+loop-place-smaller c = c.loop-place.invariant.descended.below c.in-Some.place (last_queued _ c.pop_last.new.self.keys c.in-Some.place c.in-Some.ensures.removal)
 
 pub returns-in_default-after_entry : goal.returns-in_default-after_entry
 returns-in_default-after_entry c =
-    let among : Contains c.loop-place.todo.keys c.in-Some.place = subst (λ (xs : List ℕ). Contains xs c.in-Some.place) (sym c.in-Some.ensures.removal) (Contains-push c.pop_last.new.self.keys c.in-Some.place) in
-    let within : c.in-Some.place < length c.args.log.now = omega (arith, c.loop-place.invariant.descended.below c.in-Some.place among, c.loop-place.invariant.descended.within) in
-    let next : IsNextPlace c.args.problem.now c.args.log.now c.args.last.now c.loop-place.todo.keys c.pop_last.new.self.keys c.in-Some.place c.index-log-bound.result = record {
-      can = c.requires.numbered;
-      got = slice_get_read c.args.log.now (length c.args.log.now) c.in-Some.place c.index-log-bound.result refl within c.index-log-bound.is;
-      parts = c.in-Some.ensures.removal;
-      below = below_last c.pop_last.new.self.keys c.in-Some.place c.in-Some.ensures.all_below;
-    } in
+    let next = next_place c.args.problem.now c.args.log.now c.args.last.now _ c.pop_last.new.self.keys c.in-Some.place c.index-log-bound.result _ c.requires.numbered c.in-Some.ensures.removal
+    c.in-Some.ensures.all_below c.loop-place.invariant.descended.below c.loop-place.invariant.descended.within c.index-log-bound.is in
     none_from_here c.args.problem.now c.args.log.now c.args.last.now c.loop-place.bound c.loop-place.places.items c.loop-place.todo.keys c.pop_last.new.self.keys c.loop-place.room c.in-Some.place c.index-log-bound.result c.len.result
     c.len.ensures next c.loop-place.invariant c.in_default-after_entry.ensures
 
 pub loop-place-preserved : goal.loop-place-preserved
 loop-place-preserved c =
-    let among : Contains c.loop-place.todo.keys c.in-Some.place = subst (λ (xs : List ℕ). Contains xs c.in-Some.place) (sym c.in-Some.ensures.removal) (Contains-push c.pop_last.new.self.keys c.in-Some.place) in
-    let within : c.in-Some.place < length c.args.log.now = omega (arith, c.loop-place.invariant.descended.below c.in-Some.place among, c.loop-place.invariant.descended.within) in
-    let next : IsNextPlace c.args.problem.now c.args.log.now c.args.last.now c.loop-place.todo.keys c.pop_last.new.self.keys c.in-Some.place c.index-log-bound.result = record {
-      can = c.requires.numbered;
-      got = slice_get_read c.args.log.now (length c.args.log.now) c.in-Some.place c.index-log-bound.result refl within c.index-log-bound.is;
-      parts = c.in-Some.ensures.removal;
-      below = below_last c.pop_last.new.self.keys c.in-Some.place c.in-Some.ensures.all_below;
-    } in
+    let next = next_place c.args.problem.now c.args.log.now c.args.last.now _ c.pop_last.new.self.keys c.in-Some.place c.index-log-bound.result _ c.requires.numbered c.in-Some.ensures.removal
+    c.in-Some.ensures.all_below c.loop-place.invariant.descended.below c.loop-place.invariant.descended.within c.index-log-bound.is in
     narrowed_more c.args.problem.now c.args.log.now c.args.last.now c.loop-place.bound c.loop-place.places.items c.loop-place.todo.keys c.pop_last.new.self.keys c.loop-place.room c.in-Some.place c.index-log-bound.result c.len.result
     c.len-base_clauses.result c.rests_on.result.now c.push.new.self.items c.queue-in-Some.new.todo.keys c.in-Some-after_entry.left c.len.ensures c.len-base_clauses.ensures c.rests_on.ensures c.in_ok-push.ensures.items next
     c.in-Some-after_entry.ensures c.in_ok-queue-2.ensures c.loop-place.invariant

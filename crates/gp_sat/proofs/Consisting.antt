@@ -2,9 +2,9 @@
 use Rattle.std.proofs.Common.{◌≡◌, ◌≢◌, refl, sym, ◌∙◌, ap, subst, ℕ, ◌+◌, ◌-◌, ◌<◌, ◌≤◌, false, Option, Some, None, List, [], ◌∷◌, ◌++◌, length, get_or, take, drop, map, MatchOption, IfSome, ◌⊎◌, inl, inr, arith}
 use Rattle.std.specs.Prelude.{Contains, slice_set, slice_get, replicate}
 use Rattle.std.proofs.lemmas.Bool.{cases_eq, cases_lt}
-use Rattle.std.proofs.lemmas.List.{length-set, length_push, length-map, length-take-le, get_or-take, get_or_push, get_or_append_left, length-replicate, length-append, append_assoc, append-nil, get_or-append-add, take-append-drop}
+use Rattle.std.proofs.lemmas.List.{length-set, length_push, length-map, length-take-le, get_or-take, get_or_push, get_or_append_left, length-replicate, length-append, append_assoc, append-nil, take-append-drop}
 use Rattle.std.proofs.lemmas.List.FromFn.{length-range_with_len, get_or-range_with_len}
-use Rattle.std.proofs.lemmas.List.Elements.{Contains-push_cases}
+use Rattle.std.proofs.lemmas.List.Elements.{Contains-push_cases, Contains-append_right}
 use Rattle.std.proofs.lemmas.List.Sorted.{Contains-permutation, IsPermutation-sym}
 use Rattle.gp_clause.specs.declared.lit.Lit.{Lit}
 use Rattle.gp_queue.specs.Order.{IsOrder, numbers_between}
@@ -21,6 +21,7 @@ use Rattle.gp_sat.proofs.Adding.{sound_more, laid_is}
 use Rattle.gp_sat.proofs.Cutting.{Cuts, cuts_at, kept_all, sound_cut, front_low, rest_high}
 use Rattle.gp_sat.proofs.Storing.{sound_empty, all_unassigned}
 use Rattle.gp_sat.specs.SolverLaws.{Adds, added, added_cases, added_stays, adds_literal, kept_was, kept_stays, free_at, room_left, within_values}
+use Rattle.gp_base.specs.ListLaws.{here, nothing_in}
 
 -- the front of the order is a place in it
 pub placed_front : (values : ℕ → Option Assigned) (used : ℕ) (order : List ℕ) (place : Option ℕ) → place ≡ slice_get order 0 → IsPlaced values used order place
@@ -29,11 +30,8 @@ placed_front values used order place is = record {
   rest = order;
   parts = refl;
   there = is;
-  passed = λ variable among. absurd (none variable among);
+  passed = λ variable among. absurd (nothing_in variable among);
 }
-  where
-    none : (variable : ℕ) → Contains {X = ℕ} [] variable → ⊥
-    none variable (k, below, is) = omega (arith, below)
 
 -- a place stays one while more is assigned
 pub placed_more : (f g : ℕ → Option Assigned) (used : ℕ) (order : List ℕ) (place : Option ℕ) → ((v : ℕ) (a : Assigned) → f v ≡ Some a → g v ≡ Some a) → IsPlaced f used order place → IsPlaced g used order place
@@ -48,52 +46,44 @@ placed_more f g used order place stays old = record {
   ];
 }
 
--- the next place, where the variable at this one needs no decision
-pub placed_next : (f : ℕ → Option Assigned) (used : ℕ) (order : List ℕ) (place : Option ℕ) (variable : ℕ) (next : Option ℕ) → place ≡ Some variable → (old : IsPlaced f used order place)
-    → ((front back : List ℕ) → order ≡ front ++ variable ∷ back → next ≡ slice_get back 0)
-    → IsPassed f used variable → (new : IsPlaced f used order next) × (length new.front ≡ length old.front + 1)
-placed_next f used order place variable next has old after is = at old.rest refl
+-- at a place that is not the end its variable stands
+placed_parts : (f : ℕ → Option Assigned) (used : ℕ) (order : List ℕ) (place : Option ℕ) (variable : ℕ) → place ≡ Some variable → (old : IsPlaced f used order place)
+    → (back : List ℕ) × (order ≡ old.front ++ variable ∷ back)
+placed_parts f used order place variable has old = at old.rest refl
   where
-    at : (rest : List ℕ) → old.rest ≡ rest → (new : IsPlaced f used order next) × (length new.front ≡ length old.front + 1)
+    at : (rest : List ℕ) → old.rest ≡ rest → (back : List ℕ) × (order ≡ old.front ++ variable ∷ back)
     at [] none =
         let gone : Some variable ≡ None = sym has ∙ old.there ∙ ap (λ (xs : List ℕ). slice_get xs 0) none in
         let clash : ⊥ = cc in absurd clash
     at (x ∷ back) some =
         let here : Some variable ≡ Some x = sym has ∙ old.there ∙ ap (λ (xs : List ℕ). slice_get xs 0) some in
         let same : variable ≡ x = cc in
-        let parts : order ≡ old.front ++ variable ∷ back = old.parts ∙ ap (λ (xs : List ℕ). old.front ++ xs) some ∙ ap (λ (y : ℕ). old.front ++ y ∷ back) (sym same) in (
-          record {
-            front = old.front ++ variable ∷ [];
-            rest = back;
-            parts = parts ∙ sym (append_assoc old.front (variable ∷ []) back);
-            there = after old.front back parts;
-            passed = λ v among. elim (Contains-push_cases old.front variable v among) [
-              | inl before ↦ old.passed v before
-              | inr last ↦ subst (λ (n : ℕ). IsPassed f used n) last is
-            ];
-          },
-          length_push old.front variable,
-        )
+        (back, old.parts ∙ ap (λ (xs : List ℕ). old.front ++ xs) some ∙ ap (λ (y : ℕ). old.front ++ y ∷ back) (sym same))
+
+-- the next place, where the variable at this one needs no decision
+pub placed_next : (f : ℕ → Option Assigned) (used : ℕ) (order : List ℕ) (place : Option ℕ) (variable : ℕ) (next : Option ℕ) → place ≡ Some variable → (old : IsPlaced f used order place)
+    → ((front back : List ℕ) → order ≡ front ++ variable ∷ back → next ≡ slice_get back 0)
+    → IsPassed f used variable → (new : IsPlaced f used order next) × (length new.front ≡ length old.front + 1)
+placed_next f used order place variable next has old after is =
+    let parts = placed_parts f used order place variable has old in (
+      record {
+        front = old.front ++ variable ∷ [];
+        rest = parts.0;
+        parts = parts.1 ∙ sym (append_assoc old.front (variable ∷ []) parts.0);
+        there = after old.front parts.0 parts.1;
+        passed = λ v among. elim (Contains-push_cases old.front variable v among) [
+          | inl before ↦ old.passed v before
+          | inr last ↦ subst (λ (n : ℕ). IsPassed f used n) last is
+        ];
+      },
+      length_push old.front variable,
+    )
 
 -- a place that is not the end has a variable
 pub next_at : (s : SolverForm) (variable : ℕ) → IsPlaced (assigned s) s.used s.order (Some variable) → variable < s.used → assigned s variable ≡ None → IsNextFree s variable
-next_at s variable placed within free = at placed.rest refl
-  where
-    at : (rest : List ℕ) → placed.rest ≡ rest → IsNextFree s variable
-    at [] none =
-        let gone : Some variable ≡ None = placed.there ∙ ap (λ (xs : List ℕ). slice_get xs 0) none in
-        let clash : ⊥ = cc in absurd clash
-    at (x ∷ back) some =
-        let here : Some variable ≡ Some x = placed.there ∙ ap (λ (xs : List ℕ). slice_get xs 0) some in
-        let same : variable ≡ x = cc in
-        record {
-          within = within;
-          free = free;
-          front = placed.front;
-          back = back;
-          parts = placed.parts ∙ ap (λ (xs : List ℕ). placed.front ++ xs) some ∙ ap (λ (y : ℕ). placed.front ++ y ∷ back) (sym same);
-          passed = placed.passed;
-        }
+next_at s variable placed within free =
+    let parts = placed_parts (assigned s) s.used s.order (Some variable) variable refl placed in
+    record { within = within; free = free; front = placed.front; back = parts.0; parts = parts.1; passed = placed.passed }
 
 -- where a level ends goes on ending it with one more literal of a higher level
 end_more : (f g : ℕ → Option Assigned) (variable : ℕ) (new : Assigned) (size level end : ℕ) → Adds f g variable new → new.place ≡ size → level < new.level → IsEndOf f size level end → IsEndOf g (size + 1) level end
@@ -426,17 +416,9 @@ placed_far f used order place placed far = at placed.rest refl
 
 -- the variable at a place is one of the order
 pub placed_in : (f : ℕ → Option Assigned) (used : ℕ) (order : List ℕ) (variable : ℕ) → IsPlaced f used order (Some variable) → Contains order variable
-placed_in f used order variable placed = at placed.rest refl
-  where
-    at : (rest : List ℕ) → placed.rest ≡ rest → Contains order variable
-    at [] none =
-        let gone : Some variable ≡ None = placed.there ∙ ap (λ (xs : List ℕ). slice_get xs 0) none in
-        let clash : ⊥ = cc in absurd clash
-    at (x ∷ back) some =
-        let here : Some variable ≡ Some x = placed.there ∙ ap (λ (xs : List ℕ). slice_get xs 0) some in
-        let same : variable ≡ x = cc in
-        subst (λ (xs : List ℕ). Contains xs variable) (sym (placed.parts ∙ ap (λ (xs : List ℕ). placed.front ++ xs) some))
-        (length placed.front + 0, omega (arith, length-append placed.front (x ∷ back)), get_or-append-add placed.front (x ∷ back) 0 variable ∙ sym same)
+placed_in f used order variable placed =
+    let parts = placed_parts f used order (Some variable) variable refl placed in
+    subst (λ (xs : List ℕ). Contains xs variable) (sym parts.1) (Contains-append_right placed.front (variable ∷ parts.0) variable (here variable parts.0))
 
 -- what the place says of the next variable
 pub free_at_place : (s : SolverForm) (place : Option ℕ) → s.used ≤ length s.values → IsPlaced (assigned s) s.used s.order place → IfSome place (λ v. (v < s.used) × (assigned s v ≡ None)) → (place ≡ None → (v : ℕ) → v < length s.values → IsPassed (assigned s) s.used v)

@@ -11,11 +11,10 @@ use Rattle.gp_base.specs.Table.{with_entries, with_entry}
 use Rattle.gp_trace.specs.declared.lock_use.LockMode.{LockMode}
 use Rattle.gp_trace.specs.declared.lock_use.LockMode.TheVariants.{Exclusive, Shared}
 use Rattle.gp_window.specs.Formed.{IsFormed, mode_at_start, stands_at}
-use Rattle.gp_window.specs.Holders.{Holding, Holdings, holder_cmp}
+use Rattle.gp_window.specs.Holders.{Holding, Holdings, holder_cmp, held_as}
 use Rattle.gp_window.specs.HoldersLaws.{found_itself, found_pair, stands_to}
-use Rattle.gp_window.specs.WindowForm.{WindowForm}
+use Rattle.gp_window.specs.WindowForm.{WindowForm, held_at_start}
 use Rattle.gp_base.specs.ListLaws.{first_or_rest, nothing_in, recursion_append, recursion_at, recursion_map}
-use Rattle.gp_constraint.specs.HeldLocks.{held_as, holds_at_start}
 
 -- the window tells the hold
 abbrev pub IsHold : WindowForm → Holding → Type 0
@@ -63,7 +62,7 @@ put_all_told window entries (entry ∷ more) all told =
     put_all_told window (with_entry holder_cmp entries entry.0 entry.1) more (put_told window entries entry.0 entry.1 all told.0) told.1
 
 -- each hold at the start is told by the window
-pub holds_from : (window : WindowForm) → IsFormed window → (hold : Holding) → Contains (holds_at_start window) hold → IsHold window hold
+pub holds_from : (window : WindowForm) → IsFormed window → (hold : Holding) → Contains (held_at_start window) hold → IsHold window hold
 holds_from window formed hold has =
     let alone : Holdings = held_as Exclusive window.holders in
     let beside : Holdings = held_as Shared window.readers in
@@ -75,4 +74,4 @@ holds_from window formed hold has =
     let reads = stands_here window.readers pair among in
     second_mode (stands_at window.holders pair.0 pair.1) (stands_at window.readers pair.0 pair.1)
     (false_from_ne_true _ (λ holds. formed.alone pair.0 pair.1 pair.1 (stands_to window.holders pair.0 pair.1 holds) (stands_to window.readers pair.0 pair.1 reads))) reads) in
-    recursion_at (IsHold window) (holds_at_start window) hold (put_all_told window [] (alone ++ beside) tt (recursion_append (IsHold window) alone beside holders readers)) has
+    recursion_at (IsHold window) (held_at_start window) hold (put_all_told window [] (alone ++ beside) tt (recursion_append (IsHold window) alone beside holders readers)) has

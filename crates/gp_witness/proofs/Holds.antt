@@ -15,12 +15,11 @@ use Rattle.gp_trace.specs.declared.lock_use.LockUse.{LockUse}
 use Rattle.gp_trace.specs.declared.lock_use.LockUse.TheVariants.{Take, GiveBack}
 use Rattle.gp_trace.specs.LockUse.{held_after_use, HeldLocks, IsGoodUse, lock_use_of, LocksAreUsedWell, mode_held}
 use Rattle.gp_window.specs.Formed.{IsFormed, mode_at_start, stands_at}
-use Rattle.gp_window.specs.Holders.{holder_cmp, Holding, Holdings}
-use Rattle.gp_window.specs.WindowForm.{WindowForm}
+use Rattle.gp_window.specs.Holders.{holder_cmp, Holding, Holdings, held_as}
+use Rattle.gp_window.specs.WindowForm.{WindowForm, held_at_start}
 use Rattle.gp_window.specs.HoldersLaws.{found_pair, stands_to}
 use Rattle.gp_replay.specs.LockUses.{use_of}
 use Rattle.gp_base.specs.ListLaws.{contains_from_map, contains_map, first_or_rest, here, nothing_in, there}
-use Rattle.gp_constraint.specs.HeldLocks.{held_as, holds_at_start}
 
 -- a lock that is held is given back in that way, or still held so
 held_or_given : (held : HeldLocks) (lock_use : Option LockUse) (lock : List ℕ) (m : LockMode) → mode_held held lock ≡ Some m → IsGoodUse held lock_use
@@ -158,7 +157,7 @@ not_both window lock thread formed i j =
 
 -- a lock that a thread holds when the window begins is one of the holds at the start
 pub mode_held_at : (window : WindowForm) (lock : List ℕ) (thread : ℕ) (m : LockMode) → IsFormed window → mode_at_start window thread lock ≡ Some m
-    → Contains (holds_at_start window) ((lock, thread), m)
+    → Contains (held_at_start window) ((lock, thread), m)
 mode_held_at window lock thread m formed is =
     let alone : Holdings = held_as Exclusive window.holders in
     let shared : Holdings = held_as Shared window.readers in
@@ -169,7 +168,7 @@ mode_held_at window lock thread m formed is =
           let i : Contains window.holders (lock, thread) = stands_to window.holders lock thread holds in
           let here : Contains (alone ++ shared) ((lock, thread), Exclusive) =
           Contains-append_left alone shared ((lock, thread), Exclusive) (contains_map (λ (h : List ℕ × ℕ). (h, Exclusive)) window.holders (lock, thread) i) in
-          subst (λ k. Contains (holds_at_start window) ((lock, thread), k)) own
+          subst (λ k. Contains (held_at_start window) ((lock, thread), k)) own
           (has_entries [] (alone ++ shared) (lock, thread) Exclusive (λ k j. elim (Contains-append_cases alone shared ((lock, thread), k) j) [
             | inl one ↦ sym (mode_as Exclusive window.holders (lock, thread) k one).0
             | inr other ↦ absurd (not_both window lock thread formed i (mode_as Shared window.readers (lock, thread) k other).1)
@@ -181,7 +180,7 @@ mode_held_at window lock thread m formed is =
             let i : Contains window.readers (lock, thread) = stands_to window.readers lock thread reads in
             let here : Contains (alone ++ shared) ((lock, thread), Shared) =
             Contains-append_right alone shared ((lock, thread), Shared) (contains_map (λ (h : List ℕ × ℕ). (h, Shared)) window.readers (lock, thread) i) in
-            subst (λ k. Contains (holds_at_start window) ((lock, thread), k)) own
+            subst (λ k. Contains (held_at_start window) ((lock, thread), k)) own
             (has_entries [] (alone ++ shared) (lock, thread) Shared (λ k j. elim (Contains-append_cases alone shared ((lock, thread), k) j) [
               | inl one ↦ absurd (not_both window lock thread formed (mode_as Exclusive window.holders (lock, thread) k one).1 i)
               | inr other ↦ sym (mode_as Shared window.readers (lock, thread) k other).0

@@ -10,7 +10,7 @@ use Rattle.std.proofs.lemmas.Slice.Eq.{bytes_eq-Decides}
 use Rattle.gp_trace.specs.declared.event.Event.TheVariants as event
 use Rattle.gp_window.specs.declared.schedule.EventId.{EventId}
 use Rattle.gp_window.specs.Events.{event_at}
-use Rattle.gp_window.specs.WindowForm.{start_value, WindowForm}
+use Rattle.gp_window.specs.WindowForm.{start_value, WindowForm, held_at_start}
 use Rattle.gp_replay.specs.Value.{Reads, Writes}
 use Rattle.gp_constraint.specs.declared.action.Action.{Action}
 use Rattle.gp_constraint.specs.declared.action.Action.TheVariants.{Read, Write}
@@ -18,7 +18,7 @@ use Rattle.gp_constraint.specs.declared.point.Point.{Point}
 use Rattle.gp_constraint.specs.declared.symbol.Symbol.{Symbol}
 use Rattle.gp_constraint.specs.declared.symbol.SymbolicLit.{SymbolicLit}
 use Rattle.gp_constraint.specs.Base.{clauses_of}
-use Rattle.gp_constraint.specs.HeldLocks.{held_apart, holds_at_start}
+use Rattle.gp_constraint.specs.HeldLocks.{held_apart}
 use Rattle.gp_constraint.specs.Joins.{join_of}
 use Rattle.gp_constraint.specs.PointLaws.{point_for}
 use Rattle.gp_constraint.specs.Points.{points_of}
@@ -209,6 +209,6 @@ all_true window t s =
     let seen = pairs_true truth points (seen_from points) (seen_true window t s) in
     let start_choices = pairs_true truth points (kept_later window) (start_apart_true window t s) in
     let sections = pairs_true truth points (sections_apart points) (apart_true window t s) in
-    let held = all_flat truth (λ hold. flat_map (held_apart points hold) points) (holds_at_start window) (λ hold in_holds.
+    let held = all_flat truth (λ hold. flat_map (held_apart points hold) points) (held_at_start window) (λ hold in_holds.
     all_flat truth (held_apart points hold) points (held_true window t s hold (holds_from window s.formed hold in_holds))) in
     all_append truth _ _ links (all_append truth _ _ starts (all_append truth _ _ joins (all_append truth _ _ reads (all_append truth _ _ seen (all_append truth _ _ start_choices (all_append truth _ _ sections held))))))

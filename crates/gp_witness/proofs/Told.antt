@@ -14,7 +14,7 @@ use Rattle.gp_window.specs.Events.{event_at, segment_of, size_of}
 use Rattle.gp_window.specs.Formed.{IsFormed}
 use Rattle.gp_window.specs.Holders.{Holding}
 use Rattle.gp_window.specs.Starts.{is_among}
-use Rattle.gp_window.specs.WindowForm.{start_value, WindowForm}
+use Rattle.gp_window.specs.WindowForm.{start_value, WindowForm, held_at_start}
 use Rattle.gp_window.specs.declared.schedule.EventId.{EventId}
 use Rattle.gp_replay.specs.LockUses.{use_of}
 use Rattle.gp_replay.specs.Value.{Reads}
@@ -27,7 +27,7 @@ use Rattle.gp_constraint.specs.declared.term.Term.{Term}
 use Rattle.gp_constraint.specs.Action.{action_of}
 use Rattle.gp_constraint.specs.Base.{clauses_of}
 use Rattle.gp_base.specs.ListLaws.{any_first_or_rest, any_nothing, contains_from_flat_map, found_first}
-use Rattle.gp_constraint.specs.HeldLocks.{held_apart, held_locks, holds_at_start}
+use Rattle.gp_constraint.specs.HeldLocks.{held_apart, held_locks}
 use Rattle.gp_constraint.specs.Joins.{ended, is_last_of, join_of, joined, joins}
 use Rattle.gp_constraint.specs.PointLaws.{event_id, HasLesserNumber, IsEventOf, points_named, points_rise}
 use Rattle.gp_constraint.specs.Points.{number_at, number_in, points_of, sizes_of}
@@ -407,7 +407,7 @@ start_holds_told window t formed edges all lock mode other thread cid held takes
     let has_c = has_point window cid ec.0 ec.1 in
     let d = does_parts window t cid does in
     let k = each_holds t (held_apart points hold) c points
-    (each_holds t (λ x. flat_map (held_apart points x) points) hold (holds_at_start window) all (mode_held_at window lock thread mode formed held)) has_c in
+    (each_holds t (λ x. flat_map (held_apart points x) points) hold (held_at_start window) all (mode_held_at window lock thread mode formed held)) has_c in
     let takes_test : takes_against mode lock c.action ≡ true =
     subst (λ a. takes_against mode lock a ≡ true) (sym (event_lock ec.0 (Take other lock) ec.2)) (does_take mode other lock against) in
     let threads : not (cid.thread == thread) ≡ true = ap not (ne_eqb cid.thread thread apart_c) in

@@ -2,6 +2,7 @@
 use crate::numbered::window_numbered;
 use crate::recorded::{pair_of, recording_of};
 use gp_text::Name;
+use gp_trace::LockMode;
 use gp_window::{Recording, RecordingFault, Window, Windows};
 use std::alloc::{AllocError, Global};
 use std::test::Fail;
@@ -22,20 +23,30 @@ const FOUR: [(&str, &str); 5] = [
     ("t4.trace", "exit\nmark\nmark\n"),
 ];
 
-/// Whether the entry at a place has this name and this value.
-fn has<V: PartialEq>(entries: &[(Name, V)], place: usize, name: &str, value: &V) -> bool {
-    match entries.get(place) {
-        Some((found, kept)) => found.as_bytes() == name.as_bytes() && kept == value,
-        None => false,
-    }
+/// The value of a variable when a window begins.
+fn value(window: &Window, variable: &str) -> Option<i64> {
+    Some(window.start_value(&Name::of(variable.as_bytes())?))
+}
+
+/// How a thread holds a lock when a window begins.
+fn mode(window: &Window, lock: &str, thread: u32) -> Option<LockMode> {
+    window
+        .held()
+        .get(&(Name::of(lock.as_bytes())?, thread))
+        .copied()
+}
+
+/// Whether a thread holds a lock by an acquire when a window begins.
+fn holds(window: &Window, lock: &str, thread: u32) -> bool {
+    matches!(mode(window, lock, thread), Some(LockMode::Exclusive))
 }
 
 /// Whether this is the first window of that recording.
 fn is_first(window: &Window) -> bool {
     window.number() == 1
-        && window.start_values().len() == 1
-        && has(window.start_values(), 0, "z", &5)
-        && window.holders().is_empty()
+        && window.start_values().iter().len() == 1
+        && value(window, "z") == Some(5)
+        && window.held().is_empty()
         && window.started() == [1u32, 3].as_slice()
         && window.exited() == [4u32].as_slice()
 }
@@ -44,12 +55,12 @@ fn is_first(window: &Window) -> bool {
 fn is_third(window: &Window) -> bool {
     window.number() == 3
         && window.segments().len() == 4
-        && window.start_values().len() == 2
-        && has(window.start_values(), 0, "a", &2)
-        && has(window.start_values(), 1, "y", &-7)
-        && window.holders().len() == 2
-        && has(window.holders(), 0, "b", &3)
-        && has(window.holders(), 1, "m", &1)
+        && window.start_values().iter().len() == 2
+        && value(window, "a") == Some(2)
+        && value(window, "y") == Some(-7)
+        && window.held().iter().len() == 2
+        && holds(window, "b", 3)
+        && holds(window, "m", 1)
         && window.started() == [1u32, 3, 4].as_slice()
         && window.exited() == [3u32, 4].as_slice()
 }
@@ -123,14 +134,44 @@ fn contested_locks_are_refused(rt: HostRuntime) {
     assert!(rt; marks_hold(&rt));
 }
 
+/// Whether two windows begin with the same values.
+fn values_alike(alloc: Global, one: &Window, other: &Window) -> Result<bool, AllocError> {
+    let values = one.start_values().to_row(alloc)?;
+    let others = other.start_values().to_row(alloc)?;
+    Ok(values.as_slice() == others.as_slice())
+}
+
+/// Whether a lock is held by one thread in one way.
+fn is_same(one: &((Name, u32), LockMode), other: &((Name, u32), LockMode)) -> bool {
+    let exclusive = matches!(one.1, LockMode::Exclusive);
+    one.0 == other.0 && exclusive == matches!(other.1, LockMode::Exclusive)
+}
+
+/// Whether the locks are held by the same threads in the same ways.
+fn are_same(held: &[((Name, u32), LockMode)], others: &[((Name, u32), LockMode)]) -> bool {
+    held.iter()
+        .zip(others)
+        .all(|(one, other)| is_same(one, other))
+}
+
+/// Whether two windows begin with the same locks held.
+fn held_alike(alloc: Global, one: &Window, other: &Window) -> Result<bool, AllocError> {
+    let held = one.held().to_row(alloc)?;
+    let others = other.held().to_row(alloc)?;
+    Ok(held.len() == others.len() && are_same(held.as_slice(), others.as_slice()))
+}
+
 /// Whether two windows are the same, apart from their events.
-fn are_alike(one: &Window, other: &Window) -> bool {
-    one.number() == other.number()
-        && one.start_values() == other.start_values()
-        && one.holders() == other.holders()
-        && one.readers() == other.readers()
-        && one.started() == other.started()
-        && one.exited() == other.exited()
+fn are_alike(alloc: Global, one: &Window, other: &Window) -> Result<bool, AllocError> {
+    let values = values_alike(alloc, one, other)?;
+    let held = held_alike(alloc, one, other)?;
+    Ok(
+        values
+            && held
+            && one.number() == other.number()
+            && one.started() == other.started()
+            && one.exited() == other.exited(),
+    )
 }
 
 /// The third of the windows of a recording: the first is taken, and the second is gone past.
@@ -147,7 +188,7 @@ fn agrees_with_cut(alloc: Global, recording: &Recording) -> Result<bool, AllocEr
         return Ok(false);
     };
     Ok(match window_numbered(alloc, recording, 3)? {
-        Some(alone) => third.number() == 3 && are_alike(&third, &alone),
+        Some(alone) => third.number() == 3 && are_alike(alloc, &third, &alone)?,
         None => false,
     })
 }

@@ -16,7 +16,6 @@ pub mod PointLaws
 pub mod InstanceLaws
 pub mod SymbolTruth
 pub mod Laws
-pub mod Adding
 pub mod Tables
 pub mod Lasts
 pub mod Listed

@@ -1,5 +1,5 @@
--- Clauses that are put behind others, up to the limit of both together.
-use Rattle.std.specs.Prelude.{ℕ, ◌≡◌, ◌+◌, ◌<◌, ◌++◌, List, Result, Ok, Err, length}
+-- Clauses that are put behind others, or behind none, up to the limit of both together.
+use Rattle.std.specs.Prelude.{ℕ, ◌≡◌, ◌+◌, ◌<◌, ◌++◌, List, Result, Ok, Err, if◌then◌else◌, length, nat_lt}
 use Rattle.gp_constraint.specs.declared.fault.Full.{Full}
 use Rattle.gp_constraint.specs.declared.fault.Full.TheVariants.{Memory, TooMany}
 use Rattle.gp_constraint.specs.declared.symbol.SymbolicLit.{SymbolicLit}
@@ -18,3 +18,7 @@ abbrev pub IsAdded : Result (Unit {0}) Full → LimitedForm → LimitedForm → 
 IsAdded (Ok done) old new due = new ≡ with_clauses old due
 IsAdded (Err TooMany) old new due = 500000 < old.before + length old.clauses + length due
 IsAdded (Err Memory) old new due = Unit {0}
+
+-- the clauses, where they are not too many
+abbrev pub limited : List (List SymbolicLit) → Result (List (List SymbolicLit)) Full
+limited clauses = if nat_lt 500000 (length clauses) then Err TooMany else Ok clauses

@@ -1,11 +1,11 @@
 ghost use Rattle.std.specs.Prelude.{◌≡◌, ◌≢◌, ◌≤◌, Err, IfOk, length};
 ghost use Rattle.gp_constraint.specs.Base.{all_families};
-ghost use Rattle.gp_constraint.specs.Adding.{limited};
+ghost use Rattle.gp_constraint.specs.Limited.{limited};
 
-use crate::adding::SymbolicClauses;
 use crate::fault::Full;
 use crate::held_locks::held_locks;
 use crate::joins::joins;
+use crate::limited::LimitedClauses;
 use crate::points::Points;
 use crate::program_order::program_order;
 use crate::reads::{choices, reads, start_choices};
@@ -26,14 +26,14 @@ pub fn all_families(
     ensures due { result ≢ Err Full.Memory → result ≡ limited (all_families window.now points.now) }
     ensures few { IfOk result (λ clauses. length clauses ≤ 500000) }
 {
-    let mut clauses = SymbolicClauses::new(alloc);
-    program_order(alloc, &mut clauses, points.as_slice())?;
-    starts(alloc, &mut clauses, window, points)?;
+    let mut clauses = LimitedClauses::new(alloc);
+    program_order(&mut clauses, points.as_slice())?;
+    starts(&mut clauses, window, points)?;
     joins(alloc, &mut clauses, window, points)?;
     reads(alloc, &mut clauses, window, points)?;
     choices(alloc, &mut clauses, points)?;
-    start_choices(alloc, &mut clauses, window, points)?;
+    start_choices(&mut clauses, window, points)?;
     sections(alloc, &mut clauses, points)?;
-    held_locks(alloc, &mut clauses, window, points)?;
+    held_locks(&mut clauses, window, points)?;
     Ok(clauses.into_row())
 }

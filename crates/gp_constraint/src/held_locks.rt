@@ -1,19 +1,19 @@
 ghost use Rattle.std.specs.Prelude.{◌≡◌, ◌==◌, ◌&&◌, not, flat_map};
-ghost use Rattle.gp_constraint.specs.Adding.{Adds};
+ghost use Rattle.gp_constraint.specs.Limited.{IsAdded};
 ghost use Rattle.gp_constraint.specs.HeldLocks.{held_apart, held_locks};
 ghost use Rattle.gp_constraint.specs.HeldUses.{held_with};
 ghost use Rattle.gp_constraint.specs.Sections.{ends_hold, takes_against};
 
 use crate::action::Action;
-use crate::adding::{SymbolicClauses, needs};
+use crate::adding::needs;
 use crate::fault::Full;
+use crate::limited::LimitedClauses;
 use crate::point::Point;
 use crate::points::Points;
 use crate::sections::{exclude, first_end};
 use gp_text::Name;
 use gp_trace::{LockMode, LockUse};
 use gp_window::Window;
-use std::alloc::Global;
 
 /// A lock, a thread that holds it when the window begins, and how.
 pub type Holding = ((Name, u32), LockMode);
@@ -29,60 +29,52 @@ fn takes_against(mode: LockMode, lock: &Name, action: &Action) -> bool
 
 /// Who holds a lock when the window begins gives it back before another thread takes it against that.
 pub fn held_locks(
-    alloc: Global,
-    clauses: &mut SymbolicClauses,
+    clauses: &mut LimitedClauses,
     window: &Window,
     points: &Points,
 ) -> Result<(), Full>
-    ensures { Adds result clauses.old clauses.new (held_locks window.now points.now) }
+    ensures { IsAdded result clauses.old clauses.new (held_locks window.now points.now) }
 {
     for (holder, mode) in window.held().iter() {
-        held_by(alloc, clauses, points, &(*holder, *mode))?;
+        held_by(clauses, points, &(*holder, *mode))?;
     }
     Ok(())
 }
 
-fn held_by(
-    alloc: Global,
-    clauses: &mut SymbolicClauses,
-    points: &Points,
-    hold: &Holding,
-) -> Result<(), Full>
-    ensures { Adds result clauses.old clauses.new (flat_map (held_apart points.now hold.now) points.now) }
+fn held_by(clauses: &mut LimitedClauses, points: &Points, hold: &Holding) -> Result<(), Full>
+    ensures { IsAdded result clauses.old clauses.new (flat_map (held_apart points.now hold.now) points.now) }
 {
     let uses = points.uses_of(&hold.0.0);
     let end = first_end(uses, hold.1, &hold.0.0, hold.0.1, 0);
-    held_among(alloc, clauses, uses, &end, hold)
+    held_among(clauses, uses, &end, hold)
 }
 
 fn held_among(
-    alloc: Global,
-    clauses: &mut SymbolicClauses,
+    clauses: &mut LimitedClauses,
     uses: &[Point],
     end: &Option<Point>,
     hold: &Holding,
 ) -> Result<(), Full>
-    ensures { Adds result clauses.old clauses.new (flat_map (held_with end.now hold.now) uses.now) }
+    ensures { IsAdded result clauses.old clauses.new (flat_map (held_with end.now hold.now) uses.now) }
 {
     for c in uses {
-        held_with(alloc, clauses, end, hold, c)?;
+        held_with(clauses, end, hold, c)?;
     }
     Ok(())
 }
 
 fn held_with(
-    alloc: Global,
-    clauses: &mut SymbolicClauses,
+    clauses: &mut LimitedClauses,
     end: &Option<Point>,
     hold: &Holding,
     c: &Point,
 ) -> Result<(), Full>
-    ensures { Adds result clauses.old clauses.new (held_with end.now hold.now c.now) }
+    ensures { IsAdded result clauses.old clauses.new (held_with end.now hold.now c.now) }
 {
     if !is_against(hold, c) {
         return Ok(());
     }
-    needs(alloc, clauses, c, *end)
+    needs(clauses, c, *end)
 }
 
 fn is_against(hold: &Holding, c: &Point) -> bool

@@ -1,11 +1,12 @@
 ghost use Rattle.std.specs.Prelude.{◌≡◌, IfOk, find};
-ghost use Rattle.gp_constraint.specs.Adding.{Adds};
+ghost use Rattle.gp_constraint.specs.Limited.{IsAdded};
 ghost use Rattle.gp_constraint.specs.Joins.{ended, is_last_of, join_of, joined, joins};
 ghost use Rattle.gp_constraint.specs.Lasts.{is_last, lasts_of};
 
 use crate::action::Action;
-use crate::adding::{SymbolicClauses, add, needs};
+use crate::adding::needs;
 use crate::fault::Full;
+use crate::limited::LimitedClauses;
 use crate::point::Point;
 use crate::points::Points;
 use crate::term::executed;
@@ -16,39 +17,37 @@ use std::alloc::{AllocError, Global};
 /// A join of a thread is executed only where the thread has ended.
 pub fn joins(
     alloc: Global,
-    clauses: &mut SymbolicClauses,
+    clauses: &mut LimitedClauses,
     window: &Window,
     points: &Points,
 ) -> Result<(), Full>
-    ensures { Adds result clauses.old clauses.new (joins window.now points.now) }
+    ensures { IsAdded result clauses.old clauses.new (joins window.now points.now) }
 {
     let lasts = lasts_of(alloc, window, points.as_slice())?;
     for j in points.as_slice() {
-        join_of(alloc, clauses, window, points, lasts.as_slice(), j)?;
+        join_of(clauses, window, points, lasts.as_slice(), j)?;
     }
     Ok(())
 }
 
 fn join_of(
-    alloc: Global,
-    clauses: &mut SymbolicClauses,
+    clauses: &mut LimitedClauses,
     window: &Window,
     points: &Points,
     lasts: &[Point],
     j: &Point,
 ) -> Result<(), Full>
     requires { lasts.now ≡ lasts_of window.now points.now }
-    ensures { Adds result clauses.old clauses.new (join_of window.now points.now j.now) }
+    ensures { IsAdded result clauses.old clauses.new (join_of window.now points.now j.now) }
 {
     match j.action {
-        Action::Join(thread) => joined(alloc, clauses, window, points, lasts, j, thread),
+        Action::Join(thread) => joined(clauses, window, points, lasts, j, thread),
         _ => Ok(()),
     }
 }
 
 fn joined(
-    alloc: Global,
-    clauses: &mut SymbolicClauses,
+    clauses: &mut LimitedClauses,
     window: &Window,
     points: &Points,
     lasts: &[Point],
@@ -56,17 +55,16 @@ fn joined(
     thread: u32,
 ) -> Result<(), Full>
     requires { lasts.now ≡ lasts_of window.now points.now }
-    ensures { Adds result clauses.old clauses.new (joined window.now points.now j.now thread) }
+    ensures { IsAdded result clauses.old clauses.new (joined window.now points.now j.now thread) }
 {
     if is_among(window.exited(), thread) {
-        return ended(alloc, clauses, window, points, lasts, j, thread);
+        return ended(clauses, window, points, lasts, j, thread);
     }
-    add(alloc, clauses, &[executed(j, false)])
+    clauses.add(&[executed(j, false)])
 }
 
 fn ended(
-    alloc: Global,
-    clauses: &mut SymbolicClauses,
+    clauses: &mut LimitedClauses,
     window: &Window,
     points: &Points,
     lasts: &[Point],
@@ -74,15 +72,15 @@ fn ended(
     thread: u32,
 ) -> Result<(), Full>
     requires { lasts.now ≡ lasts_of window.now points.now }
-    ensures { Adds result clauses.old clauses.new (ended window.now points.now j.now thread) }
+    ensures { IsAdded result clauses.old clauses.new (ended window.now points.now j.now thread) }
 {
     if !window.segment(thread).is_empty() {
-        return needs(alloc, clauses, j, last_of(window, points, lasts, thread));
+        return needs(clauses, j, last_of(window, points, lasts, thread));
     }
     if is_among(window.started(), thread) {
         return Ok(());
     }
-    needs(alloc, clauses, j, points.start_of(thread))
+    needs(clauses, j, points.start_of(thread))
 }
 
 /// The last points of the threads.

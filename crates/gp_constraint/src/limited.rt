@@ -1,10 +1,10 @@
-ghost use Rattle.std.specs.Prelude.{◌≡◌, ◌+◌, ◌≤◌, ◌<◌, [], Err, IfOk, length};
+ghost use Rattle.std.specs.Prelude.{◌≡◌, ◌+◌, ◌≤◌, ◌<◌, ◌++◌, ◌∷◌, [], Err, IfOk, length};
 ghost use Rattle.gp_constraint.specs.Limited.{IsAdded};
 ghost use Rattle.gp_constraint.specs.Terms.{simplified};
 
 use crate::fault::{Full, MOST_CLAUSES};
 use crate::symbol::SymbolicLit;
-use crate::term::{Term, has_always, lits_of};
+use crate::term::{Term, has_always, is_always, lits_of, push_lit};
 use gp_base::Row;
 use std::alloc::Global;
 use std::marker::Model;
@@ -29,6 +29,17 @@ impl Model for LimitedClauses {
 }
 
 impl LimitedClauses {
+    /// No clause yet, behind no others.
+    pub fn new(alloc: Global) -> LimitedClauses
+        ensures { result ≡ record { before = 0; clauses = [] } }
+    {
+        LimitedClauses {
+            alloc,
+            before: 0,
+            clauses: Row::new(alloc),
+        }
+    }
+
     /// No clause yet, behind so many others.
     pub fn behind(alloc: Global, before: usize) -> Result<LimitedClauses, Full>
         ensures ok { IfOk result (λ limited. limited ≡ record { before = before; clauses = [] }) }
@@ -51,11 +62,33 @@ impl LimitedClauses {
         if has_always(terms) {
             return Ok(());
         }
+        let lits = lits_of(self.alloc, terms)?;
+        self.push(lits)
+    }
+
+    /// Adds the clause of the guards and one more term, where there is one.
+    pub fn add_guarded(&mut self, guards: &[Term], term: Term) -> Result<(), Full>
+        ensures { IsAdded result self.old self.new (simplified (guards.now ++ term ∷ [])) }
+    {
+        if has_always(guards) {
+            return Ok(());
+        }
+        if is_always(term) {
+            return Ok(());
+        }
+        let mut lits = lits_of(self.alloc, guards)?;
+        push_lit(&mut lits, term)?;
+        self.push(lits)
+    }
+
+    /// Adds a clause, where there is room.
+    fn push(&mut self, clause: Row<SymbolicLit>) -> Result<(), Full>
+        ensures { IsAdded result self.old self.new (clause ∷ []) }
+    {
         if self.before + self.clauses.len() >= MOST_CLAUSES {
             return Err(Full::TooMany);
         }
-        let lits = lits_of(self.alloc, terms)?;
-        self.clauses.push(lits)?;
+        self.clauses.push(clause)?;
         Ok(())
     }
 
@@ -64,5 +97,17 @@ impl LimitedClauses {
         ensures few { self.now.before + length self.now.clauses ≤ 500000 }
     {
         self.clauses.as_slice()
+    }
+
+    pub fn into_row(self) -> Row<Row<SymbolicLit>>
+        ensures clauses { result ≡ self.clauses }
+        ensures few { self.before + length result ≤ 500000 }
+    {
+        let LimitedClauses {
+            alloc: _,
+            before: _,
+            clauses,
+        } = self;
+        clauses
     }
 }

@@ -1,9 +1,9 @@
 ghost use Rattle.std.specs.Prelude.{◌≡◌, ◌++◌, IfOk, OnOk, flat_map};
-ghost use Rattle.gp_constraint.specs.Adding.{Adds};
+ghost use Rattle.gp_constraint.specs.Limited.{IsAdded};
 ghost use Rattle.gp_constraint.specs.ProgramOrder.{edge_to, linked, program_order};
 
-use crate::adding::{SymbolicClauses, add};
 use crate::fault::Full;
+use crate::limited::LimitedClauses;
 use crate::point::Point;
 use crate::symbol::Symbol;
 use crate::term::{executed, literal};
@@ -12,27 +12,23 @@ use gp_clause::Edge;
 use std::alloc::{AllocError, Global};
 
 /// An event is executed only where the one before it in its thread is.
-pub fn program_order(
-    alloc: Global,
-    clauses: &mut SymbolicClauses,
-    points: &[Point],
-) -> Result<(), Full>
-    ensures { Adds result clauses.old clauses.new (program_order points.now) }
+pub fn program_order(clauses: &mut LimitedClauses, points: &[Point]) -> Result<(), Full>
+    ensures { IsAdded result clauses.old clauses.new (program_order points.now) }
 {
     for f in points {
-        linked(alloc, clauses, f)?;
+        linked(clauses, f)?;
     }
     Ok(())
 }
 
-fn linked(alloc: Global, clauses: &mut SymbolicClauses, f: &Point) -> Result<(), Full>
-    ensures { Adds result clauses.old clauses.new (linked f.now) }
+fn linked(clauses: &mut LimitedClauses, f: &Point) -> Result<(), Full>
+    ensures { IsAdded result clauses.old clauses.new (linked f.now) }
 {
     if f.id.index == 0 {
         return Ok(());
     }
     let previous = literal(Symbol::Executed(f.number.saturating_sub(1)), true);
-    add(alloc, clauses, &[executed(f, false), previous])
+    clauses.add(&[executed(f, false), previous])
 }
 
 /// The edges to the events from those before them in their threads.

@@ -1,12 +1,13 @@
 ghost use Rattle.std.specs.Prelude.{◌≡◌, ◌++◌, ◌∷◌, [], ℤ, IfOk, OnOk, false, filter, flat_map};
-ghost use Rattle.gp_constraint.specs.Adding.{Adds};
+ghost use Rattle.gp_constraint.specs.Limited.{IsAdded};
 ghost use Rattle.gp_constraint.specs.Reads.{choice, choices, choices_of, finds_at_start, is_choice, is_read, is_rival, kept_apart, kept_later, reads, seen_from, sees, start_choice, start_choices};
 ghost use Rattle.gp_constraint.specs.Listed.{choices_in, kept_from, rivals_in, seen};
 ghost use Rattle.gp_constraint.specs.Terms.{chosen, executed, simplified};
 
 use crate::action::Action;
-use crate::adding::{SymbolicClauses, add, preceded};
+use crate::adding::preceded;
 use crate::fault::Full;
+use crate::limited::LimitedClauses;
 use crate::point::Point;
 use crate::points::Points;
 use crate::term::{Term, before, chosen, executed, start_chosen};
@@ -60,11 +61,11 @@ fn is_choice(r: &Point, w: &Point) -> bool
 /// For each read: that it sees a value.
 pub fn reads(
     alloc: Global,
-    clauses: &mut SymbolicClauses,
+    clauses: &mut LimitedClauses,
     window: &Window,
     points: &Points,
 ) -> Result<(), Full>
-    ensures { Adds result clauses.old clauses.new (reads window.now points.now) }
+    ensures { IsAdded result clauses.old clauses.new (reads window.now points.now) }
 {
     for r in points.as_slice() {
         choices_of(alloc, clauses, window, points, r)?;
@@ -74,12 +75,12 @@ pub fn reads(
 
 fn choices_of(
     alloc: Global,
-    clauses: &mut SymbolicClauses,
+    clauses: &mut LimitedClauses,
     window: &Window,
     points: &Points,
     r: &Point,
 ) -> Result<(), Full>
-    ensures { Adds result clauses.old clauses.new (choices_of window.now points.now r.now) }
+    ensures { IsAdded result clauses.old clauses.new (choices_of window.now points.now r.now) }
 {
     if !is_read(&r.action) {
         return Ok(());
@@ -90,15 +91,15 @@ fn choices_of(
 /// The read is not executed, or it sees one of its choices or the start value.
 fn choice_clause(
     alloc: Global,
-    clauses: &mut SymbolicClauses,
+    clauses: &mut LimitedClauses,
     window: &Window,
     points: &Points,
     r: &Point,
 ) -> Result<(), Full>
-    ensures { Adds result clauses.old clauses.new (simplified (executed r.now false ∷ (flat_map (choice r.now) points.now ++ start_choice window.now r.now))) }
+    ensures { IsAdded result clauses.old clauses.new (simplified (executed r.now false ∷ (flat_map (choice r.now) points.now ++ start_choice window.now r.now))) }
 {
     let terms = choice_terms(alloc, window, points.writes_for(r), r)?;
-    add(alloc, clauses, terms.as_slice())
+    clauses.add(terms.as_slice())
 }
 
 fn choice_terms(
@@ -137,8 +138,8 @@ fn push_start_choice(terms: &mut Row<Term>, window: &Window, r: &Point) -> Resul
 }
 
 /// For each read and each choice of it: the write comes before the read, and none of another value between.
-pub fn choices(alloc: Global, clauses: &mut SymbolicClauses, points: &Points) -> Result<(), Full>
-    ensures { Adds result clauses.old clauses.new (choices points.now) }
+pub fn choices(alloc: Global, clauses: &mut LimitedClauses, points: &Points) -> Result<(), Full>
+    ensures { IsAdded result clauses.old clauses.new (choices points.now) }
 {
     for r in points.as_slice() {
         seen_by(alloc, clauses, points, r)?;
@@ -148,16 +149,16 @@ pub fn choices(alloc: Global, clauses: &mut SymbolicClauses, points: &Points) ->
 
 fn seen_by(
     alloc: Global,
-    clauses: &mut SymbolicClauses,
+    clauses: &mut LimitedClauses,
     points: &Points,
     r: &Point,
 ) -> Result<(), Full>
-    ensures { Adds result clauses.old clauses.new (flat_map (seen_from points.now r.now) points.now) }
+    ensures { IsAdded result clauses.old clauses.new (flat_map (seen_from points.now r.now) points.now) }
 {
     let writes = points.writes_for(r);
     let choices = choices_in(alloc, writes, r)?;
     let rivals = rivals_in(alloc, writes, r)?;
-    seen_each(alloc, clauses, choices.as_slice(), rivals.as_slice(), r)
+    seen_each(clauses, choices.as_slice(), rivals.as_slice(), r)
 }
 
 fn choices_in(alloc: Global, writes: &[Point], r: &Point) -> Result<Row<Point>, AllocError>
@@ -185,57 +186,43 @@ fn rivals_in(alloc: Global, writes: &[Point], r: &Point) -> Result<Row<Point>, A
 }
 
 fn seen_each(
-    alloc: Global,
-    clauses: &mut SymbolicClauses,
+    clauses: &mut LimitedClauses,
     choices: &[Point],
     rivals: &[Point],
     r: &Point,
 ) -> Result<(), Full>
-    ensures { Adds result clauses.old clauses.new (flat_map (seen rivals.now r.now) choices.now) }
+    ensures { IsAdded result clauses.old clauses.new (flat_map (seen rivals.now r.now) choices.now) }
 {
     for w in choices {
-        seen(alloc, clauses, rivals, r, w)?;
+        seen(clauses, rivals, r, w)?;
     }
     Ok(())
 }
 
 /// The write that is seen comes before the read, and each of the rivals before it or after the read.
-fn seen(
-    alloc: Global,
-    clauses: &mut SymbolicClauses,
-    rivals: &[Point],
-    r: &Point,
-    w: &Point,
-) -> Result<(), Full>
-    ensures { Adds result clauses.old clauses.new (seen rivals.now r.now w.now) }
+fn seen(clauses: &mut LimitedClauses, rivals: &[Point], r: &Point, w: &Point) -> Result<(), Full>
+    ensures { IsAdded result clauses.old clauses.new (seen rivals.now r.now w.now) }
 {
-    preceded(alloc, clauses, &[chosen(r, w, false)], Some(*w), r)?;
-    keep_apart_all(alloc, clauses, rivals, r, w)
+    preceded(clauses, &[chosen(r, w, false)], Some(*w), r)?;
+    keep_apart_all(clauses, rivals, r, w)
 }
 
 fn keep_apart_all(
-    alloc: Global,
-    clauses: &mut SymbolicClauses,
+    clauses: &mut LimitedClauses,
     rivals: &[Point],
     r: &Point,
     w: &Point,
 ) -> Result<(), Full>
-    ensures { Adds result clauses.old clauses.new (flat_map (kept_apart r.now w.now) rivals.now) }
+    ensures { IsAdded result clauses.old clauses.new (flat_map (kept_apart r.now w.now) rivals.now) }
 {
     for other in rivals {
-        keep_apart(alloc, clauses, r, w, other)?;
+        keep_apart(clauses, r, w, other)?;
     }
     Ok(())
 }
 
-fn keep_apart(
-    alloc: Global,
-    clauses: &mut SymbolicClauses,
-    r: &Point,
-    w: &Point,
-    other: &Point,
-) -> Result<(), Full>
-    ensures { Adds result clauses.old clauses.new (kept_apart r.now w.now other.now) }
+fn keep_apart(clauses: &mut LimitedClauses, r: &Point, w: &Point, other: &Point) -> Result<(), Full>
+    ensures { IsAdded result clauses.old clauses.new (kept_apart r.now w.now other.now) }
 {
     if !is_rival(&r.action, &other.action) {
         return Ok(());
@@ -246,60 +233,48 @@ fn keep_apart(
         before(other, w),
         before(r, other),
     ];
-    add(alloc, clauses, &terms)
+    clauses.add(&terms)
 }
 
 /// For each read that may see the start value: no write of another value comes before it.
 pub fn start_choices(
-    alloc: Global,
-    clauses: &mut SymbolicClauses,
+    clauses: &mut LimitedClauses,
     window: &Window,
     points: &Points,
 ) -> Result<(), Full>
-    ensures { Adds result clauses.old clauses.new (start_choices window.now points.now) }
+    ensures { IsAdded result clauses.old clauses.new (start_choices window.now points.now) }
 {
     for r in points.as_slice() {
-        seen_at_start(alloc, clauses, window, points, r)?;
+        seen_at_start(clauses, window, points, r)?;
     }
     Ok(())
 }
 
 fn seen_at_start(
-    alloc: Global,
-    clauses: &mut SymbolicClauses,
+    clauses: &mut LimitedClauses,
     window: &Window,
     points: &Points,
     r: &Point,
 ) -> Result<(), Full>
-    ensures { Adds result clauses.old clauses.new (flat_map (kept_later window.now r.now) points.now) }
+    ensures { IsAdded result clauses.old clauses.new (flat_map (kept_later window.now r.now) points.now) }
 {
     if !finds_at_start(window, &r.action) {
         return Ok(());
     }
-    keep_later_all(alloc, clauses, points.writes_for(r), r)
+    keep_later_all(clauses, points.writes_for(r), r)
 }
 
-fn keep_later_all(
-    alloc: Global,
-    clauses: &mut SymbolicClauses,
-    writes: &[Point],
-    r: &Point,
-) -> Result<(), Full>
-    ensures { Adds result clauses.old clauses.new (flat_map (kept_from r.now) writes.now) }
+fn keep_later_all(clauses: &mut LimitedClauses, writes: &[Point], r: &Point) -> Result<(), Full>
+    ensures { IsAdded result clauses.old clauses.new (flat_map (kept_from r.now) writes.now) }
 {
     for other in writes {
-        keep_later(alloc, clauses, r, other)?;
+        keep_later(clauses, r, other)?;
     }
     Ok(())
 }
 
-fn keep_later(
-    alloc: Global,
-    clauses: &mut SymbolicClauses,
-    r: &Point,
-    other: &Point,
-) -> Result<(), Full>
-    ensures { Adds result clauses.old clauses.new (kept_from r.now other.now) }
+fn keep_later(clauses: &mut LimitedClauses, r: &Point, other: &Point) -> Result<(), Full>
+    ensures { IsAdded result clauses.old clauses.new (kept_from r.now other.now) }
 {
     if !is_rival(&r.action, &other.action) {
         return Ok(());
@@ -309,5 +284,5 @@ fn keep_later(
         executed(other, false),
         before(r, other),
     ];
-    add(alloc, clauses, &terms)
+    clauses.add(&terms)
 }

@@ -1,14 +1,15 @@
 ghost use Rattle.std.specs.Prelude.{◌≡◌, ℕ, suc, ◌++◌, ◌∷◌, ◌&&◌, [], List, IfOk, OnOk, if◌then◌else◌, find, flat_map, nat_lt};
 ghost use Rattle.std.specs.Str.{bytes_eq};
-ghost use Rattle.gp_constraint.specs.Adding.{Adds};
+ghost use Rattle.gp_constraint.specs.Limited.{IsAdded};
 ghost use Rattle.gp_constraint.specs.Sections.{ends_hold, exclude, gives_back, same_mode, sections};
 ghost use Rattle.gp_constraint.specs.SectionTables.{section_at, sections_between, sections_in, sections_on};
 ghost use Rattle.gp_constraint.specs.Tables.{entry_at};
 
 use crate::action::Action;
-use crate::adding::{SymbolicClauses, preceded};
+use crate::adding::preceded;
 use crate::fault::Full;
 use crate::groups::Groups;
+use crate::limited::LimitedClauses;
 use crate::point::Point;
 use crate::points::Points;
 use crate::section::Section;
@@ -67,50 +68,39 @@ pub fn first_end(
 }
 
 /// Of two sections of one lock in different threads, not both of readers, one ends before the other begins.
-pub fn sections(alloc: Global, clauses: &mut SymbolicClauses, points: &Points) -> Result<(), Full>
-    ensures { Adds result clauses.old clauses.new (sections points.now) }
+pub fn sections(alloc: Global, clauses: &mut LimitedClauses, points: &Points) -> Result<(), Full>
+    ensures { IsAdded result clauses.old clauses.new (sections points.now) }
 {
     let all = sections_in(alloc, points)?;
     let by_lock = by_lock(alloc, all.as_slice())?;
-    sections_each(alloc, clauses, &by_lock, all.as_slice())
+    sections_each(clauses, &by_lock, all.as_slice())
 }
 
 fn sections_each(
-    alloc: Global,
-    clauses: &mut SymbolicClauses,
+    clauses: &mut LimitedClauses,
     by_lock: &Groups<Section>,
     all: &[Section],
 ) -> Result<(), Full>
     requires { (lock : List ℕ) → entry_at by_lock.now lock ≡ sections_on lock all.now }
-    ensures { Adds result clauses.old clauses.new (flat_map (λ a. flat_map (sections_between a) (sections_on a.lock all.now)) all.now) }
+    ensures { IsAdded result clauses.old clauses.new (flat_map (λ a. flat_map (sections_between a) (sections_on a.lock all.now)) all.now) }
 {
     for a in all {
-        sections_with(alloc, clauses, by_lock.at(&a.lock), a)?;
+        sections_with(clauses, by_lock.at(&a.lock), a)?;
     }
     Ok(())
 }
 
-fn sections_with(
-    alloc: Global,
-    clauses: &mut SymbolicClauses,
-    others: &[Section],
-    a: &Section,
-) -> Result<(), Full>
-    ensures { Adds result clauses.old clauses.new (flat_map (sections_between a.now) others.now) }
+fn sections_with(clauses: &mut LimitedClauses, others: &[Section], a: &Section) -> Result<(), Full>
+    ensures { IsAdded result clauses.old clauses.new (flat_map (sections_between a.now) others.now) }
 {
     for c in others {
-        between(alloc, clauses, a, c)?;
+        between(clauses, a, c)?;
     }
     Ok(())
 }
 
-fn between(
-    alloc: Global,
-    clauses: &mut SymbolicClauses,
-    a: &Section,
-    c: &Section,
-) -> Result<(), Full>
-    ensures { Adds result clauses.old clauses.new (sections_between a.now c.now) }
+fn between(clauses: &mut LimitedClauses, a: &Section, c: &Section) -> Result<(), Full>
+    ensures { IsAdded result clauses.old clauses.new (sections_between a.now c.now) }
 {
     if !are_apart(a, c) {
         return Ok(());
@@ -118,9 +108,9 @@ fn between(
     let a_begins = executed(&a.begin, false);
     let c_begins = executed(&c.begin, false);
     let a_first = [a_begins, c_begins, first(&a.begin, &c.begin, false)];
-    preceded(alloc, clauses, &a_first, a.end, &c.begin)?;
+    preceded(clauses, &a_first, a.end, &c.begin)?;
     let c_first = [a_begins, c_begins, first(&a.begin, &c.begin, true)];
-    preceded(alloc, clauses, &c_first, c.end, &a.begin)
+    preceded(clauses, &c_first, c.end, &a.begin)
 }
 
 fn are_apart(a: &Section, c: &Section) -> bool

@@ -2,7 +2,7 @@ use Rattle.std.proofs.Common.{ap, subst, ◌∙◌, ◌≡◌, List}
 use Rattle.std.specs.Prelude.{Option, find, flat_map}
 use Rattle.gp_window.specs.Holders.{Holding}
 use Rattle.gp_constraint.specs.declared.point.Point.{Point}
-use Rattle.gp_constraint.specs.Adding.{Adds}
+use Rattle.gp_constraint.specs.Limited.{IsAdded}
 use Rattle.gp_constraint.specs.HeldLocks.{held_apart}
 use Rattle.gp_constraint.specs.HeldUses.{held_with}
 use Rattle.gp_constraint.specs.Sections.{ends_hold}
@@ -18,4 +18,4 @@ returns c =
     ap (λ (o : Option Point). flat_map (held_with o hold) uses) c.first_end-end.ensures
     ∙ ap (λ (us : List Point). flat_map (held_with (find (ends_hold hold.1 hold.0.0 hold.0.1 0) us) hold) us) c.uses_of-uses.ensures
     ∙ held_tabled points hold in
-    subst (λ d. Adds c.held_among.result c.args.clauses.now c.held_among.new.clauses d) due c.held_among.ensures
+    subst (λ d. IsAdded c.held_among.result c.args.clauses.now c.held_among.new.clauses d) due c.held_among.ensures

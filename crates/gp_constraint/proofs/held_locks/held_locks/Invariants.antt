@@ -6,8 +6,9 @@ use Rattle.gp_constraint.proofs.held_locks.held_locks.Given as goal
 
 abbrev pub invariant-loop-holder : goal.invariant-loop-holder
 invariant-loop-holder l = record {
-  adds : l.clauses ++ flat_map (λ hold. flat_map (held_apart l.points hold) l.points) l.holder-iterator
-      ≡ l.initial.clauses ++ flat_map (λ hold. flat_map (held_apart l.points hold) l.points) (held_at_start l.window);
-  lengths : length l.clauses + length (flat_map (λ hold. flat_map (held_apart l.points hold) l.points) l.holder-iterator)
-      ≡ length l.initial.clauses + length (flat_map (λ hold. flat_map (held_apart l.points hold) l.points) (held_at_start l.window));
+  adds : l.clauses.clauses ++ flat_map (λ hold. flat_map (held_apart l.points hold) l.points) l.holder-iterator
+      ≡ l.initial.clauses.clauses ++ flat_map (λ hold. flat_map (held_apart l.points hold) l.points) (held_at_start l.window);
+  lengths : length l.clauses.clauses + length (flat_map (λ hold. flat_map (held_apart l.points hold) l.points) l.holder-iterator)
+      ≡ length l.initial.clauses.clauses + length (flat_map (λ hold. flat_map (held_apart l.points hold) l.points) (held_at_start l.window));
+  before : l.clauses.before ≡ l.initial.clauses.before;
 }

@@ -5,6 +5,7 @@ use Rattle.gp_constraint.proofs.program_order.program_order.Given as goal
 
 abbrev pub invariant-loop-f : goal.invariant-loop-f
 invariant-loop-f l = record {
-  adds : l.clauses ++ flat_map linked (drop l.f-index l.points) ≡ l.initial.clauses ++ flat_map linked l.points;
-  lengths : length l.clauses + length (flat_map linked (drop l.f-index l.points)) ≡ length l.initial.clauses + length (flat_map linked l.points);
+  adds : l.clauses.clauses ++ flat_map linked (drop l.f-index l.points) ≡ l.initial.clauses.clauses ++ flat_map linked l.points;
+  lengths : length l.clauses.clauses + length (flat_map linked (drop l.f-index l.points)) ≡ length l.initial.clauses.clauses + length (flat_map linked l.points);
+  before : l.clauses.before ≡ l.initial.clauses.before;
 }

@@ -3,7 +3,7 @@ use Rattle.std.specs.Prelude.{flat_map}
 use Rattle.gp_window.specs.WindowForm.{WindowForm}
 use Rattle.gp_constraint.specs.declared.point.Point.{Point}
 use Rattle.gp_constraint.specs.declared.term.Term.{Term}
-use Rattle.gp_constraint.specs.Adding.{Adds}
+use Rattle.gp_constraint.specs.Limited.{IsAdded}
 use Rattle.gp_constraint.specs.Reads.{choice, start_choice}
 use Rattle.gp_constraint.specs.Terms.{executed, simplified}
 use Rattle.gp_constraint.proofs.Tabled.{choices_tabled}
@@ -18,4 +18,4 @@ returns c =
     c.as_slice.ensures ∙ c.in_ok-terms.ensures
     ∙ ap (λ (writes : List Point). executed r false ∷ (flat_map (choice r) writes ++ start_choice window r)) c.writes_for.ensures
     ∙ ap (λ (choices : List Term). executed r false ∷ (choices ++ start_choice window r)) (choices_tabled points r) in
-    subst (λ (ts : List Term). Adds c.add.result c.args.clauses.now c.add.new.clauses (simplified ts)) terms c.add.ensures
+    subst (λ (ts : List Term). IsAdded c.add.result c.args.clauses.now c.add.new.self (simplified ts)) terms c.add.ensures

@@ -5,6 +5,7 @@ use Rattle.gp_constraint.proofs.reads.keep_apart_all.Given as goal
 
 abbrev pub invariant-loop-other : goal.invariant-loop-other
 invariant-loop-other l = record {
-  adds : l.clauses ++ flat_map (kept_apart l.r l.w) (drop l.other-index l.rivals) ≡ l.initial.clauses ++ flat_map (kept_apart l.r l.w) l.rivals;
-  lengths : length l.clauses + length (flat_map (kept_apart l.r l.w) (drop l.other-index l.rivals)) ≡ length l.initial.clauses + length (flat_map (kept_apart l.r l.w) l.rivals);
+  adds : l.clauses.clauses ++ flat_map (kept_apart l.r l.w) (drop l.other-index l.rivals) ≡ l.initial.clauses.clauses ++ flat_map (kept_apart l.r l.w) l.rivals;
+  lengths : length l.clauses.clauses + length (flat_map (kept_apart l.r l.w) (drop l.other-index l.rivals)) ≡ length l.initial.clauses.clauses + length (flat_map (kept_apart l.r l.w) l.rivals);
+  before : l.clauses.before ≡ l.initial.clauses.before;
 }

@@ -2,7 +2,7 @@ use Rattle.std.proofs.Common.{ap, subst, ◌∙◌, ◌≡◌, List}
 use Rattle.std.specs.Prelude.{flat_map}
 use Rattle.gp_constraint.specs.declared.point.Point.{Point}
 use Rattle.gp_constraint.specs.declared.symbol.SymbolicLit.{SymbolicLit}
-use Rattle.gp_constraint.specs.Adding.{Adds}
+use Rattle.gp_constraint.specs.Limited.{IsAdded}
 use Rattle.gp_constraint.specs.Listed.{choices_in, rivals_in, seen}
 use Rattle.gp_constraint.specs.Reads.{seen_from}
 use Rattle.gp_constraint.proofs.Tabled.{seen_tabled}
@@ -18,4 +18,4 @@ returns c =
     ∙ ap (λ (choices : List Point). flat_map (seen (rivals_in writes r) r) choices) (c.as_slice.ensures ∙ c.in_ok-choices.ensures)
     ∙ ap (λ (ws : List Point). flat_map (seen (rivals_in ws r) r) (choices_in ws r)) c.writes_for-writes.ensures
     ∙ seen_tabled points r in
-    subst (λ (d : List (List SymbolicLit)). Adds c.seen_each.result c.args.clauses.now c.seen_each.new.clauses d) due c.seen_each.ensures
+    subst (λ (d : List (List SymbolicLit)). IsAdded c.seen_each.result c.args.clauses.now c.seen_each.new.clauses d) due c.seen_each.ensures

@@ -5,6 +5,7 @@ use Rattle.gp_constraint.proofs.reads.seen_each.Given as goal
 
 abbrev pub invariant-loop-w : goal.invariant-loop-w
 invariant-loop-w l = record {
-  adds : l.clauses ++ flat_map (seen l.rivals l.r) (drop l.w-index l.choices) ≡ l.initial.clauses ++ flat_map (seen l.rivals l.r) l.choices;
-  lengths : length l.clauses + length (flat_map (seen l.rivals l.r) (drop l.w-index l.choices)) ≡ length l.initial.clauses + length (flat_map (seen l.rivals l.r) l.choices);
+  adds : l.clauses.clauses ++ flat_map (seen l.rivals l.r) (drop l.w-index l.choices) ≡ l.initial.clauses.clauses ++ flat_map (seen l.rivals l.r) l.choices;
+  lengths : length l.clauses.clauses + length (flat_map (seen l.rivals l.r) (drop l.w-index l.choices)) ≡ length l.initial.clauses.clauses + length (flat_map (seen l.rivals l.r) l.choices);
+  before : l.clauses.before ≡ l.initial.clauses.before;
 }

@@ -5,6 +5,7 @@ use Rattle.gp_constraint.proofs.starts.starts.Given as goal
 
 abbrev pub invariant-loop-f : goal.invariant-loop-f
 invariant-loop-f l = record {
-  adds : l.clauses ++ flat_map (start_of l.window l.points) (drop l.f-index l.f-items) ≡ l.initial.clauses ++ flat_map (start_of l.window l.points) l.f-items;
-  lengths : length l.clauses + length (flat_map (start_of l.window l.points) (drop l.f-index l.f-items)) ≡ length l.initial.clauses + length (flat_map (start_of l.window l.points) l.f-items);
+  adds : l.clauses.clauses ++ flat_map (start_of l.window l.points) (drop l.f-index l.f-items) ≡ l.initial.clauses.clauses ++ flat_map (start_of l.window l.points) l.f-items;
+  lengths : length l.clauses.clauses + length (flat_map (start_of l.window l.points) (drop l.f-index l.f-items)) ≡ length l.initial.clauses.clauses + length (flat_map (start_of l.window l.points) l.f-items);
+  before : l.clauses.before ≡ l.initial.clauses.before;
 }

@@ -3,6 +3,7 @@ use Rattle.std.proofs.Common.{◌≡◌, refl, sym, ap, ◌∙◌, subst, ℕ, z
 use Rattle.std.specs.Prelude.{◌⊎◌, ◌==◌}
 use Rattle.std.specs.List.{AllByRecursion, flat_map}
 use Rattle.std.proofs.lemmas.List.Elements.{All-from_recursion, recursion_from_All}
+use Rattle.gp_base.specs.ListLaws.{recursion_at, recursion_flat_map, recursion_flat_map_at, recursion_from_each}
 use Rattle.gp_certificate.specs.declared.step.Step.{Step}
 use Rattle.gp_text.specs.declared.line.Line.{Line}
 use Rattle.gp_text.specs.Numbers.{OneSpelling}
@@ -24,7 +25,6 @@ use Rattle.gp_report.specs.ReportForm.{ReportForm}
 use Rattle.gp_report.specs.Telling.{HasClause, HasClauses, IsWhole, window_without_records, without_records}
 use Rattle.gp_report.specs.Typed.{IsTypedAnswer, IsTypedBody, IsTypedEntry, IsTypedId, IsTypedProperty, IsTypedStep, IsTypedWindow}
 use Rattle.gp_report.proofs.AnswersRead.{AnswerIs, EntryIs}
-use Rattle.gp_report.proofs.ListsRead.{all_append}
 use Rattle.gp_report.proofs.PropertiesRead.{BodyIs, PropertyIs}
 use Rattle.gp_report.proofs.ReportRead.{ReportIs, report_was}
 use Rattle.gp_report.proofs.Rising.{rising_from_test, test_from_rising}
@@ -33,27 +33,18 @@ use Rattle.gp_report.proofs.WindowsRead.{WindowBodyIs, WindowIs, WindowsAre}
 
 -- three facts of each thing are one
 each_of : {A : Type 0} (P Q R S : A → Type 0) (join : (x : A) → P x → Q x → R x → S x) (xs : List A) → AllByRecursion P xs → AllByRecursion Q xs → AllByRecursion R xs → AllByRecursion S xs
-each_of P Q R S join [] p q r = tt
-each_of P Q R S join (x ∷ xs) p q r = (join x p.0 q.0 r.0, each_of P Q R S join xs p.1 q.1 r.1)
+each_of P Q R S join xs p q r = recursion_from_each S xs (λ x i. join x (recursion_at P xs x p i) (recursion_at Q xs x q i) (recursion_at R xs x r i))
 
 -- one fact of each thing is another
 each_is : {A : Type 0} (P Q : A → Type 0) (turn : (x : A) → P x → Q x) (xs : List A) → AllByRecursion P xs → AllByRecursion Q xs
-each_is P Q turn [] p = tt
-each_is P Q turn (x ∷ xs) p = (turn x p.0, each_is P Q turn xs p.1)
+each_is P Q turn xs p = recursion_from_each Q xs (λ x i. turn x (recursion_at P xs x p i))
 
--- what holds of two lists one after the other holds of each
-parts : {A : Type 0} (P : A → Type 0) (xs ys : List A) → AllByRecursion P (xs ++ ys) → AllByRecursion P xs × AllByRecursion P ys
-parts P [] ys all = (tt, all)
-parts P (x ∷ xs) ys all = let rest = parts P xs ys all.1 in ((all.0, rest.0), rest.1)
-
--- what holds of the things in each of these holds of all of them
+-- what holds of the things in each of these holds of all of them, and the other way round
 flat_of : {A B : Type 0} (P : A → Type 0) (f : B → List A) (xs : List B) → AllByRecursion (λ x. AllByRecursion P (f x)) xs → AllByRecursion P (flat_map f xs)
-flat_of P f [] all = tt
-flat_of P f (x ∷ xs) all = all_append P (f x) (flat_map f xs) all.0 (flat_of P f xs all.1)
+flat_of P f xs all = recursion_flat_map P f xs (λ x i. recursion_at (λ x. AllByRecursion P (f x)) xs x all i)
 
 flat_parts : {A B : Type 0} (P : A → Type 0) (f : B → List A) (xs : List B) → AllByRecursion P (flat_map f xs) → AllByRecursion (λ x. AllByRecursion P (f x)) xs
-flat_parts P f [] all = tt
-flat_parts P f (x ∷ xs) all = let here = parts P (f x) (flat_map f xs) all in (here.0, flat_parts P f xs here.1)
+flat_parts P f xs all = recursion_from_each (λ x. AllByRecursion P (f x)) xs (λ x i. recursion_flat_map_at P f xs x all i)
 
 -- ---- to what can be read again
 

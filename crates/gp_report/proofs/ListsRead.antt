@@ -4,6 +4,7 @@ use Rattle.std.specs.Prelude.{Option, ◌==◌}
 use Rattle.std.specs.List.{AllByRecursion}
 use Rattle.std.proofs.lemmas.Bool.{eq-eqb, eqb-true}
 use Rattle.std.proofs.lemmas.List.{length-map, map-append, take-append-drop}
+use Rattle.gp_base.specs.ListLaws.{recursion_append, recursion_parts}
 use Rattle.gp_text.specs.declared.line.Line.{Line}
 use Rattle.gp_base.specs.Results.{or_refusal, then_rest}
 use Rattle.gp_report.specs.declared.fault.ReportFault.{ReportFault}
@@ -14,21 +15,6 @@ use Rattle.gp_report.specs.Reading.{Reads, kept_if, read_list, read_list_line, r
 use Rattle.gp_report.proofs.Lists.{cut_line}
 use Rattle.gp_report.proofs.Taking.{Takes, bind_ok, kept_ok, ok_is, some_ok, words_in}
 use Rattle.gp_report.proofs.WordsRead.{IsWordOf}
-
--- what holds of two lists holds of the one after the other
-pub all_append : {A : Type 0} (P : A → Type 0) (xs ys : List A) → AllByRecursion P xs → AllByRecursion P ys → AllByRecursion P (xs ++ ys)
-all_append P [] ys all more = more
-all_append P (x ∷ xs) ys all more = (all.0, all_append P xs ys all.1 more)
-
-all_take : {A : Type 0} (P : A → Type 0) (n : ℕ) (xs : List A) → AllByRecursion P xs → AllByRecursion P (take n xs)
-all_take P zero xs all = tt
-all_take P (suc n) [] all = tt
-all_take P (suc n) (x ∷ xs) all = (all.0, all_take P n xs all.1)
-
-all_drop : {A : Type 0} (P : A → Type 0) (n : ℕ) (xs : List A) → AllByRecursion P xs → AllByRecursion P (drop n xs)
-all_drop P zero xs all = all
-all_drop P (suc n) [] all = tt
-all_drop P (suc n) (x ∷ xs) all = all_drop P n xs all.1
 
 then_was : {A : Type 0} (first : Result A ReportFault) (rest : Result (List A) ReportFault) (xs : List A) → then_rest first rest ≡ Ok xs
     → (x : A) × (others : List A) × (first ≡ Ok x) × (rest ≡ Ok others) × (x ∷ others ≡ xs)
@@ -89,7 +75,7 @@ list_more word P more line lines left front xs words all size was =
     let some : 0 < length (map word (front ++ xs)) = rw (length-map (front ++ xs) word, count) (omega arith) in
     let cut : in_lines (map word (front ++ xs)) ≡ map word front ∷ in_lines (map word xs) = cut_line (map word (front ++ xs)) (map word front) (map word xs) whole full some in
     let here : Takes (line ∷ lines) (map word front ∷ in_lines (map word xs)) left = ap (λ v. v ∷ words_in lines) words ∙ ap (λ vs. map word front ∷ vs) was.0 in
-    (subst (λ vs. Takes (line ∷ lines) vs left) (sym cut) here, all_append P front xs all was.1, count)
+    (subst (λ vs. Takes (line ∷ lines) vs left) (sym cut) here, recursion_append P front xs all was.1, count)
 
 -- a list that is read was written
 pub list_was : {A : Type 0} (of_word : List ℕ → Option A) (word : A → List ℕ) (P : A → Type 0) → IsWordOf of_word word P
@@ -136,6 +122,7 @@ list_again of_word word P is end last (line ∷ lines) (x ∷ xs) rest all words
     let front = take 100 (x ∷ xs) in
     let others = drop 100 (x ∷ xs) in
     let parts : front ++ others ≡ x ∷ xs = take-append-drop 100 (x ∷ xs) in
+    let each = recursion_parts P front others (subst (AllByRecursion P) (sym parts) all) in
     let whole : map word (x ∷ xs) ≡ map word front ++ map word others = ap (map word) (sym parts) ∙ map-append word front others in
     let size : length front ≡ min 100 (suc (length xs)) = length-take 100 (x ∷ xs) in
     let full : length (map word front) ≡ min 100 (length (map word (x ∷ xs))) = rw (length-map front word, length-map (x ∷ xs) word) size in
@@ -146,6 +133,6 @@ list_again of_word word P is end last (line ∷ lines) (x ∷ xs) rest all words
     let behind : words_in lines ≡ in_lines (map word others) ++ rest = cc in
     let left : length others ≡ suc (length xs) - 100 = length-drop 100 (x ∷ xs) in
     let again : ListAgain (read_list of_word end line.number (length others) lines) others rest =
-    list_again of_word word P is end line.number lines others rest (all_drop P 100 (x ∷ xs) all) behind in
-    again_more of_word word P is end line lines (length xs) front others (x ∷ xs) rest parts size here (all_take P 100 (x ∷ xs) all)
+    list_again of_word word P is end line.number lines others rest each.1 behind in
+    again_more of_word word P is end line lines (length xs) front others (x ∷ xs) rest parts size here each.0
     (subst (λ n. ListAgain (read_list of_word end line.number n lines) others rest) left again) last

@@ -4,7 +4,7 @@ use Rattle.std.specs.Prelude.{Ok}
 use Rattle.gp_window.specs.declared.schedule.EventId.{EventId}
 use Rattle.gp_window.specs.IdLaws.{contains_means}
 use Rattle.gp_window.specs.WindowForm.{WindowForm}
-use Rattle.gp_window.specs.Ids.{contains_event as is_in}
+use Rattle.gp_window.specs.Ids.{contains_event}
 use Rattle.gp_replay.specs.declared.state.State.{State}
 use Rattle.gp_replay.specs.CountedLaws.{counted_from_in, in_from_counted}
 use Rattle.gp_replay.specs.Step.{count_of, next, start_state}
@@ -16,11 +16,11 @@ use Rattle.gp_witness.specs.ScheduleTruth.{before_of}
 
 -- an event is done exactly where its thread has counted it
 pub to_count : (window : WindowForm) (last : State) (ids : List EventId) (e : EventId)
-    → Runs window (start_state window) ids last → is_in ids e ≡ true → e.index < count_of last e.thread
+    → Runs window (start_state window) ids last → contains_event ids e ≡ true → e.index < count_of last e.thread
 to_count window last ids e r is = counted_from_in window last ids e r ((contains_means ids e).0 is)
 
 pub from_count : (window : WindowForm) (last : State) (ids : List EventId) (e : EventId)
-    → Runs window (start_state window) ids last → e.index < count_of last e.thread → is_in ids e ≡ true
+    → Runs window (start_state window) ids last → e.index < count_of last e.thread → contains_event ids e ≡ true
 from_count window last ids e r below = (contains_means ids e).1 (in_from_counted window last ids e r below)
 
 -- an executed event was a step, from the state after what is before it
@@ -34,7 +34,7 @@ pub record Happened (window : WindowForm) (ids : List EventId) (e : EventId) : T
   pub step : next window state e ≡ Ok middle
   pub rest : Runs window middle back last
 
-pub happened : (window : WindowForm) (ids : List EventId) (e : EventId) → IsFeasible window ids → is_in ids e ≡ true → Happened window ids e
+pub happened : (window : WindowForm) (ids : List EventId) (e : EventId) → IsFeasible window ids → contains_event ids e ≡ true → Happened window ids e
 happened window ids e feasible is =
     let split = found ids e is in
     let parts = runs_split window (start_state window) feasible.0 (before_of ids e) (e ∷ split.0) (subst (λ all. Runs window (start_state window) all feasible.0) split.1 feasible.1) in
@@ -50,7 +50,7 @@ happened window ids e feasible is =
     }
 
 -- an event of the same thread with a lesser index is done before
-pub done_before : (window : WindowForm) (ids : List EventId) (e f : EventId) → Happened window ids f → e.thread ≡ f.thread → e.index < f.index → is_in (before_of ids f) e ≡ true
+pub done_before : (window : WindowForm) (ids : List EventId) (e f : EventId) → Happened window ids f → e.thread ≡ f.thread → e.index < f.index → contains_event (before_of ids f) e ≡ true
 done_before window ids e f h same below =
     let turn : count_of h.state f.thread ≡ f.index = (stepped window h.state h.middle f h.step).turn in
     let own : count_of h.state e.thread ≡ count_of h.state f.thread = ap (λ t. count_of h.state t) same in

@@ -8,7 +8,7 @@ use Rattle.gp_window.specs.declared.schedule.EventId.{EventId}
 use Rattle.gp_window.specs.Formed.{IsFormed}
 use Rattle.gp_window.specs.WindowForm.{WindowForm}
 use Rattle.gp_window.specs.IdLaws.{in_back, is_head, is_later}
-use Rattle.gp_window.specs.Ids.{contains_event as is_in}
+use Rattle.gp_window.specs.Ids.{contains_event}
 use Rattle.gp_replay.specs.declared.state.State.{State}
 use Rattle.gp_replay.specs.Step.{count_of, start_state}
 use Rattle.gp_replay.specs.Feasible.{IsFeasible, Runs}
@@ -43,7 +43,7 @@ longer_hold window mode lock id b keeps ends = record {
 -- a lock that a thread holds so, and does not so later on, was given back by that thread
 pub freed_between : (window : WindowForm) (formed : IsFormed window) (state last : State) (ids : List EventId) (lock : List ℕ) (mode : LockMode) (thread : ℕ)
     → Tells window state → Runs window state ids last → IsHeldBy state mode lock thread → (IsHeldBy last mode lock thread → ⊥)
-    → (b : EventId) × EndsHold window mode lock thread (count_of state thread) b × (is_in ids b ≡ true)
+    → (b : EventId) × EndsHold window mode lock thread (count_of state thread) b × (contains_event ids b ≡ true)
 freed_between window formed state last [] lock mode thread tells r held free = absurd (free (subst (λ s. IsHeldBy s mode lock thread) (sym r) held))
 freed_between window formed state last (id ∷ ids) lock mode thread tells r held free =
     let turn : count_of state id.thread ≡ id.index = (stepped window state r.0 id r.1).turn in
@@ -90,7 +90,7 @@ excluded Shared Shared e one two = cc
 -- of two events that take a lock, not both as readers, the first one's section ends before the other
 pub section_ends : (window : WindowForm) (ids : List EventId) (lock : List ℕ) (mode other : LockMode) (a c : EventId) → IsFormed window
     → IsFeasible window ids → Takes window mode a lock → Takes window other c lock → (mode ≡ Shared → other ≡ Shared → ⊥)
-    → is_in ids a ≡ true → is_in ids c ≡ true → schedule_place window ids a < schedule_place window ids c
+    → contains_event ids a ≡ true → contains_event ids c ≡ true → schedule_place window ids a < schedule_place window ids c
     → IsFreedFor window (schedule_truth window ids) mode lock a.thread (suc a.index) c
 section_ends window ids lock mode other a c formed feasible takes_a takes_c apart is_a is_c less =
     let h = happened window ids c feasible is_c in
@@ -108,12 +108,12 @@ section_ends window ids lock mode other a c formed feasible takes_a takes_c apar
     let freed = freed_between window formed middle h.state split.0 lock mode a.thread tells parts.2.2 held
     (λ still. let both = takes_beside window h.state h.middle c mode other lock a.thread h.step takes_c still in apart both.0 both.1) in
     let from : count_of middle a.thread ≡ suc a.index = omega (arith, now) in
-    let later : is_in front freed.0 ≡ true =
-    subst (λ list. is_in list freed.0 ≡ true) (sym split.1) (in_back first (a ∷ split.0) freed.0 (is_later a split.0 freed.0 freed.2)) in
+    let later : contains_event front freed.0 ≡ true =
+    subst (λ list. contains_event list freed.0 ≡ true) (sym split.1) (in_back first (a ∷ split.0) freed.0 (is_later a split.0 freed.0 freed.2)) in
     (freed.0, subst (λ n. EndsHold window mode lock a.thread n freed.0) from freed.1, precedes window ids freed.0 c is_c later)
 
 -- of two executed events one comes first
-comes_first : (window : WindowForm) (ids : List EventId) (a c : EventId) → is_in ids a ≡ true → is_in ids c ≡ true → a ≢ c
+comes_first : (window : WindowForm) (ids : List EventId) (a c : EventId) → contains_event ids a ≡ true → contains_event ids c ≡ true → a ≢ c
     → nat_lt (schedule_place window ids a) (schedule_place window ids c) ≡ false → schedule_place window ids c < schedule_place window ids a
 comes_first window ids a c is_a is_c apart second =
     let more = ltb-false (schedule_place window ids a) (schedule_place window ids c) second in

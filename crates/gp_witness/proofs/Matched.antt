@@ -12,7 +12,7 @@ use Rattle.gp_instance.specs.Rows.{GroupsStandInRows, IsRow, StandsInRow}
 use Rattle.gp_window.specs.declared.schedule.EventId.{EventId}
 use Rattle.gp_window.specs.WindowForm.{WindowForm}
 use Rattle.gp_window.specs.IdLaws.{in_middle}
-use Rattle.gp_window.specs.Ids.{contains_event as is_in, is_same}
+use Rattle.gp_window.specs.Ids.{contains_event, is_same}
 use Rattle.gp_replay.specs.CountLaws.{run_is_distinct}
 use Rattle.gp_replay.specs.Feasible.{IsFeasible}
 use Rattle.gp_replay.specs.Step.{start_state}
@@ -49,7 +49,7 @@ ordered p q n is =
     ]
 
 -- what has fewer before it than there are is there
-within_in : (ids : List EventId) (e : EventId) → length (before_of ids e) < length ids → is_in ids e ≡ true
+within_in : (ids : List EventId) (e : EventId) → length (before_of ids e) < length ids → contains_event ids e ≡ true
 within_in [] e less = absurd (omega arith)
 within_in (id ∷ ids) e less =
     elim (cases_Bool (is_same id e)) [
@@ -90,7 +90,7 @@ parted (y ∷ ys) x (suc k, within, is) = let rest = parted ys x (k, omega arith
 
 -- the place of an event of a row
 record IsInside (ids : List EventId) (e : EventId) (low long place : ℕ) : Type 0 where
-  there : is_in ids e ≡ true
+  there : contains_event ids e ≡ true
   least : low ≤ place
   most : place < low + long
 
@@ -102,7 +102,7 @@ row_place window ids front row back e feasible is has =
     let whole : ids ≡ (front ++ front_row) ++ e ∷ (split.1 ++ back) =
     is ∙ ap (λ list. front ++ (list ++ back)) split.2 ∙ ap (λ list. front ++ list) (append_assoc front_row (e ∷ split.1) back) ∙ sym (append_assoc front front_row (e ∷ (split.1 ++ back))) in
     let stands = stands_at window ids (front ++ front_row) e (split.1 ++ back) feasible whole in
-    let there : is_in ids e ≡ true = subst (λ list. is_in list e ≡ true) (sym whole) (in_middle (front ++ front_row) (split.1 ++ back) e) in
+    let there : contains_event ids e ≡ true = subst (λ list. contains_event list e ≡ true) (sym whole) (in_middle (front ++ front_row) (split.1 ++ back) e) in
     let at = place_executed window ids e there in
     let many : length (before_of ids e) ≡ length (front ++ front_row) = ap length stands in
     let sum : length (front ++ front_row) ≡ length front + length front_row = length-append front front_row in
@@ -130,7 +130,7 @@ is_near window ids group rows feasible together a b in_a in_b =
     near_places (schedule_place window ids a) (schedule_place window ids b) (length row.0) (length group) (omega (arith, most, long)) least
 
 -- an executed event is one of the window
-pub executed_event : (window : WindowForm) (ids : List EventId) (e : EventId) → IsFeasible window ids → is_in ids e ≡ true → IsEventOf window e
+pub executed_event : (window : WindowForm) (ids : List EventId) (e : EventId) → IsFeasible window ids → contains_event ids e ≡ true → IsEventOf window e
 executed_event window ids e feasible is =
     let h = happened window ids e feasible is in
     let s = stepped window h.state h.middle e h.step in (s.event, s.there)
@@ -159,10 +159,10 @@ pub matches_meet : (window : WindowForm) (ids : List EventId) (property : Proper
     → matches_events property events ids ≡ true → MeetsQuery window (schedule_truth window ids) property events
 matches_meet window ids property events rows feasible is =
     let groups : List (List EventId) = groups_of property.pattern events in
-    let parts = and_parts (list_all (is_in ids) events && follow ids [] groups) (list_all (λ group. stands_together group ids) groups) is in
-    let more = and_parts (list_all (is_in ids) events) (follow ids [] groups) parts.0 in
+    let parts = and_parts (list_all (contains_event ids) events && follow ids [] groups) (list_all (λ group. stands_together group ids) groups) is in
+    let more = and_parts (list_all (contains_event ids) events) (follow ids [] groups) parts.0 in
     record {
-      executed = λ e has. of_all (is_in ids) events e more.0 has;
+      executed = λ e has. of_all (contains_event ids) events e more.0 has;
       follow = steps_follow window ids [] groups more.1;
       near = each_group window ids groups (IsNear (schedule_truth window ids)) (λ group together. is_near window ids group rows feasible together) parts.1;
       decided = each_group window ids groups (IsDecided window (schedule_truth window ids)) (λ group together. is_decided window ids group rows feasible together) parts.1;

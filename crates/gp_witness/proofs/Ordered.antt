@@ -9,7 +9,7 @@ use Rattle.gp_window.specs.Events.{event_at, size_of}
 use Rattle.gp_window.specs.Starts.{is_among}
 use Rattle.gp_window.specs.IdLaws.{contains_means}
 use Rattle.gp_window.specs.WindowForm.{WindowForm}
-use Rattle.gp_window.specs.Ids.{contains_event as is_in}
+use Rattle.gp_window.specs.Ids.{contains_event}
 use Rattle.gp_replay.specs.Step.{count_of, start_state}
 use Rattle.gp_replay.specs.Feasible.{IsFeasible}
 use Rattle.gp_replay.specs.OrderLaws.{join_finds_ended, started_by_run}
@@ -21,7 +21,7 @@ use Rattle.gp_witness.proofs.Done.{Happened, from_count, happened}
 use Rattle.gp_witness.proofs.Placed.{precedes}
 
 -- a thread that is started in the state of an executed event is started for it
-started_for : (window : WindowForm) (ids : List EventId) (f : EventId) (thread : ℕ) → is_in ids f ≡ true → (h : Happened window ids f)
+started_for : (window : WindowForm) (ids : List EventId) (f : EventId) (thread : ℕ) → contains_event ids f ≡ true → (h : Happened window ids f)
     → is_among h.state.started thread ≡ true → IsStartedFor window (schedule_truth window ids) thread f
 started_for window ids f thread is_f h among =
     elim (started_by_run window (start_state window) h.state (before_of ids f) thread h.runs among) [

@@ -7,7 +7,7 @@ use Rattle.std.proofs.lemmas.Option.{slice_get_within}
 use Rattle.gp_trace.specs.declared.event.Event.{Event}
 use Rattle.gp_window.specs.declared.schedule.EventId.{EventId}
 use Rattle.gp_window.specs.WindowForm.{WindowForm}
-use Rattle.gp_window.specs.Ids.{contains_event as is_in}
+use Rattle.gp_window.specs.Ids.{contains_event}
 use Rattle.gp_replay.specs.Feasible.{IsFeasible}
 use Rattle.gp_constraint.specs.Points.{first_of, number_in}
 use Rattle.gp_constraint.specs.PointLaws.{IsEventOf}
@@ -53,17 +53,17 @@ number_differs window (suc p) (suc q) i j first second same =
     let rest = number_at_differs window.segments p q i j first.0 second.0 first.1 second.1 same in (ap suc rest.0, rest.1)
 
 -- the place of an event that is executed, and of one that is not
-pub place_executed : (window : WindowForm) (ids : List EventId) (e : EventId) → is_in ids e ≡ true → schedule_place window ids e ≡ length (before_of ids e)
-place_executed window ids e is = let none : late window (is_in ids e) e ≡ 0 = ap (λ b. late window b e) is in omega (arith, none)
+pub place_executed : (window : WindowForm) (ids : List EventId) (e : EventId) → contains_event ids e ≡ true → schedule_place window ids e ≡ length (before_of ids e)
+place_executed window ids e is = let none : late window (contains_event ids e) e ≡ 0 = ap (λ b. late window b e) is in omega (arith, none)
 
-pub place_absent : (window : WindowForm) (ids : List EventId) (e : EventId) → is_in ids e ≡ false → schedule_place window ids e ≡ length ids + number_in window e
+pub place_absent : (window : WindowForm) (ids : List EventId) (e : EventId) → contains_event ids e ≡ false → schedule_place window ids e ≡ length ids + number_in window e
 place_absent window ids e is =
-    let some : late window (is_in ids e) e ≡ number_in window e = ap (λ b. late window b e) is in
+    let some : late window (contains_event ids e) e ≡ number_in window e = ap (λ b. late window b e) is in
     let all : length (before_of ids e) ≡ length ids = ap length (before_absent ids e is) in
     omega (arith, some, all)
 
 -- what stands before an executed event is executed, at a lesser place
-pub precedes : (window : WindowForm) (ids : List EventId) (e f : EventId) → is_in ids f ≡ true → is_in (before_of ids f) e ≡ true → Precedes (schedule_truth window ids) e f
+pub precedes : (window : WindowForm) (ids : List EventId) (e f : EventId) → contains_event ids f ≡ true → contains_event (before_of ids f) e ≡ true → Precedes (schedule_truth window ids) e f
 precedes window ids e f is_f before =
     let is_e = before_in ids e f before in
     let at_e = place_executed window ids e is_e in
@@ -72,8 +72,8 @@ precedes window ids e f is_f before =
     (is_e, less_pos (schedule_place window ids e) (schedule_place window ids f) (omega (arith, at_e, at_f, less)))
 
 -- what has a lesser place than an executed event stands before it
-pub stands_before : (window : WindowForm) (ids : List EventId) (e f : EventId) → is_in ids e ≡ true → is_in ids f ≡ true
-    → schedule_place window ids e < schedule_place window ids f → is_in (before_of ids f) e ≡ true
+pub stands_before : (window : WindowForm) (ids : List EventId) (e f : EventId) → contains_event ids e ≡ true → contains_event ids f ≡ true
+    → schedule_place window ids e < schedule_place window ids f → contains_event (before_of ids f) e ≡ true
 stands_before window ids e f is_e is_f less =
     let at_e = place_executed window ids e is_e in
     let at_f = place_executed window ids f is_f in
@@ -82,17 +82,17 @@ stands_before window ids e f is_e is_f less =
 pub numbers_differ : (window : WindowForm) (ids : List EventId) (e f : EventId) → IsEventOf window e → IsEventOf window f
     → schedule_place window ids e ≡ schedule_place window ids f → e ≡ f
 numbers_differ window ids e f event_e event_f same =
-    elim (cases_Bool (is_in ids e)) [
+    elim (cases_Bool (contains_event ids e)) [
       | inl is_e ↦
           let at_e = place_executed window ids e is_e in
           let within = before_within ids e is_e in
-          elim (cases_Bool (is_in ids f)) [
+          elim (cases_Bool (contains_event ids f)) [
             | inl is_f ↦ let at_f = place_executed window ids f is_f in before_apart ids e f is_e is_f (omega (arith, at_e, at_f, same))
             | inr no_f ↦ let at_f = place_absent window ids f no_f in absurd (omega (arith, at_e, at_f, same, within))
           ]
       | inr no_e ↦
           let at_e = place_absent window ids e no_e in
-          elim (cases_Bool (is_in ids f)) [
+          elim (cases_Bool (contains_event ids f)) [
             | inl is_f ↦
                 let at_f = place_executed window ids f is_f in
                 let within = before_within ids f is_f in
@@ -115,13 +115,13 @@ threads_run window ids feasible e f event_e event_f same below is_f =
 pub rises : (window : WindowForm) (ids : List EventId) → IsFeasible window ids → (e f : EventId) → e.thread ≡ f.thread → e.index < f.index
     → schedule_place window ids e < schedule_place window ids f
 rises window ids feasible e f same below =
-    elim (cases_Bool (is_in ids f)) [
+    elim (cases_Bool (contains_event ids f)) [
       | inl is_f ↦
           let comes = precedes window ids e f is_f (done_before window ids e f (happened window ids f feasible is_f) same below) in
           less_back (schedule_place window ids e) (schedule_place window ids f) comes.1
       | inr no_f ↦
           let at_f = place_absent window ids f no_f in
-          elim (cases_Bool (is_in ids e)) [
+          elim (cases_Bool (contains_event ids e)) [
             | inl is_e ↦
                 let at_e = place_executed window ids e is_e in
                 let within = before_within ids e is_e in

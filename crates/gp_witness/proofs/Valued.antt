@@ -11,7 +11,7 @@ use Rattle.gp_clause.specs.Valuation.{IsValuation}
 use Rattle.gp_window.specs.declared.schedule.EventId.{EventId}
 use Rattle.gp_window.specs.WindowForm.{WindowForm}
 use Rattle.gp_window.specs.IdLaws.{in_middle}
-use Rattle.gp_window.specs.Ids.{contains_event as is_in}
+use Rattle.gp_window.specs.Ids.{contains_event}
 use Rattle.gp_replay.specs.Feasible.{IsFeasible}
 use Rattle.gp_constraint.specs.declared.point.Point.{Point}
 use Rattle.gp_constraint.specs.declared.symbol.Symbol.{Symbol}
@@ -144,7 +144,7 @@ says_schedule window ids truth feasible same =
       executed = λ e is_event. same e is_event ∙ ap t.executed (at_event window e is_event);
       placed = λ i e is.
           let split = split_at ids i e is in
-          let there : is_in ids e ≡ true = subst (λ list. is_in list e ≡ true) (sym split.2) (in_middle split.0 split.1 e) in
+          let there : contains_event ids e ≡ true = subst (λ list. contains_event list e ≡ true) (sym split.2) (in_middle split.0 split.1 e) in
           let stands : before_of ids e ≡ split.0 = stands_at window ids split.0 e split.1 feasible split.2 in
           ap t.place (at_event window e (executed_event window ids e feasible there)) ∙ ap pos (place_executed window ids e there ∙ ap length stands ∙ split.3);
       later = λ e is_event absent.

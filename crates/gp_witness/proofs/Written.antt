@@ -1,9 +1,9 @@
 -- Which write a read sees.
 use Rattle.std.proofs.Common.{ℕ, ◌≡◌, ◌<◌, ap, sym, ◌∙◌, refl, subst, inl, inr, List, [], ◌∷◌, ◌++◌, Bool, true, false, not, arith, append_assoc}
-use Rattle.std.specs.Prelude.{ℤ, pos, ◌&&◌, Option, Some, None, is_some, unwrap_or}
+use Rattle.std.specs.Prelude.{ℤ, pos, Option, Some, None, is_some, unwrap_or}
 use Rattle.std.specs.Cmp.Lexicographic.{slice_cmp}
 use Rattle.std.specs.Ordering.{nat_cmp}
-use Rattle.std.proofs.lemmas.Bool.{and_parts, cases_Bool, cases_eq, cases_lt, false_from_ne_true}
+use Rattle.std.proofs.lemmas.Bool.{and_from, and_parts, cases_Bool, cases_eq, cases_lt, false_from_ne_true}
 use Rattle.std.proofs.lemmas.Slice.Eq.{bytes_eq-Decides}
 use Rattle.gp_base.specs.Table.{value_at}
 use Rattle.gp_trace.specs.declared.event.Event.{Event}
@@ -12,7 +12,7 @@ use Rattle.gp_window.specs.declared.schedule.EventId.{EventId}
 use Rattle.gp_window.specs.Events.{event_at}
 use Rattle.gp_window.specs.WindowForm.{start_value, WindowForm}
 use Rattle.gp_window.specs.IdLaws.{in_cases, in_middle, in_parts, same_id, same_itself}
-use Rattle.gp_window.specs.Ids.{contains_event as is_in}
+use Rattle.gp_window.specs.Ids.{contains_event}
 use Rattle.gp_replay.specs.Step.{start_state, value_of}
 use Rattle.gp_replay.specs.Feasible.{IsFeasible, Runs}
 use Rattle.gp_replay.specs.Value.{NoneWrites, Reads, Writes}
@@ -88,7 +88,7 @@ written_last window variable value (id ∷ front) w back writes none =
     rw rest refl
 
 -- none of the events that write nothing writes
-none_in : (window : WindowForm) (variable : List ℕ) (ids : List EventId) (e : EventId) (value : ℤ) → NoneWrites window ids variable → is_in ids e ≡ true → Writes window e variable value → ⊥
+none_in : (window : WindowForm) (variable : List ℕ) (ids : List EventId) (e : EventId) (value : ℤ) → NoneWrites window ids variable → contains_event ids e ≡ true → Writes window e variable value → ⊥
 none_in window variable [] e value none is writes = cc
 none_in window variable (id ∷ ids) e value none is writes =
     elim (in_cases id ids e is) [
@@ -108,8 +108,8 @@ read_apart window r w variable value written reads writes same =
     cc
 
 -- an executed event that does not stand before another one, and is not it, comes after it
-comes_after : (window : WindowForm) (ids : List EventId) (r w : EventId) → is_in ids r ≡ true → is_in ids w ≡ true
-    → (w ≡ r → ⊥) → (is_in (before_of ids r) w ≡ true → ⊥) → schedule_place window ids r < schedule_place window ids w
+comes_after : (window : WindowForm) (ids : List EventId) (r w : EventId) → contains_event ids r ≡ true → contains_event ids w ≡ true
+    → (w ≡ r → ⊥) → (contains_event (before_of ids r) w ≡ true → ⊥) → schedule_place window ids r < schedule_place window ids w
 comes_after window ids r w is_r is_w apart not_before =
     elim (cases_lt (schedule_place window ids r) (schedule_place window ids w)) [
       | inl less ↦ less
@@ -121,9 +121,6 @@ comes_after window ids r w is_r is_w apart not_before =
         | inr differ ↦ absurd (not_before (stands_before window ids w r is_w is_r (omega (arith, more, differ))))
       ]
     ]
-
-both : (a b : Bool) → a ≡ true → b ≡ true → (a && b) ≡ true
-both a b first second = rw (first, second) refl
 
 that_is : (w : EventId) (last : Option EventId) → is_that w last ≡ true → last ≡ Some w
 that_is w None e = cc
@@ -159,39 +156,39 @@ reads_hold window ids told feasible r variable value reads is_r =
       | inl started ↦
           let none : last_write window variable front ≡ None = none_last window variable front started.1 in
           let start : sees_start window front (event_at window r) ≡ true = ap (λ event. sees_start window front event) reads ∙ ap (λ last. not (is_some last)) none in
-          inr (sym (begins_with window variable told) ∙ started.0, both (is_in ids r) (sees_start window front (event_at window r)) is_r start)
+          inr (sym (begins_with window variable told) ∙ started.0, and_from (contains_event ids r) (sees_start window front (event_at window r)) is_r start)
       | inr written ↦
           let w : EventId = written.1 in
           let last : last_write window variable front ≡ Some w =
           ap (λ list. last_write window variable list) written.3 ∙ written_last window variable value written.0 w written.2 written.4 written.5 in
           let chosen : sees_write window front (event_at window r) w ≡ true = ap (λ event. sees_write window front event w) reads ∙ ap (λ l. is_that w l) last ∙ same_itself w in
-          let before : is_in front w ≡ true = subst (λ list. is_in list w ≡ true) (sym written.3) (in_middle written.0 written.2 w) in
+          let before : contains_event front w ≡ true = subst (λ list. contains_event list w ≡ true) (sym written.3) (in_middle written.0 written.2 w) in
           let comes = precedes window ids w r is_r before in
           inl (
             w,
             (written.4, not_after window ids r w variable value value feasible reads written.4 (less_back (schedule_place window ids w) (schedule_place window ids r) comes.1)),
-            both (is_in ids r) (sees_write window front (event_at window r) w) is_r chosen,
+            and_from (contains_event ids r) (sees_write window front (event_at window r) w) is_r chosen,
           )
     ]
 
 pub choices_hold : (window : WindowForm) (ids : List EventId) → IsFeasible window ids → ChoicesHold window (schedule_truth window ids)
 choices_hold window ids feasible r w variable value reads choice chosen =
     let front : List EventId = before_of ids r in
-    let parts = and_parts (is_in ids r) (sees_write window front (event_at window r) w) chosen in
-    let is_r : is_in ids r ≡ true = parts.0 in
+    let parts = and_parts (contains_event ids r) (sees_write window front (event_at window r) w) chosen in
+    let is_r : contains_event ids r ≡ true = parts.0 in
     let that : is_that w (last_write window variable front) ≡ true = sym (ap (λ event. sees_write window front event w) reads) ∙ parts.1 in
     let last : last_write window variable front ≡ Some w = that_is w (last_write window variable front) that in
     let l : IsLast window variable front w = subst (λ o. Found window variable front o) last (last_found window variable front) in
     let h = happened window ids r feasible is_r in
-    let before : is_in front w ≡ true = subst (λ list. is_in list w ≡ true) (sym l.is) (in_middle l.front l.back w) in
-    let is_w : is_in ids w ≡ true = before_in ids w r before in
+    let before : contains_event front w ≡ true = subst (λ list. contains_event list w ≡ true) (sym l.is) (in_middle l.front l.back w) in
+    let is_w : contains_event ids w ≡ true = before_in ids w r before in
     let whole : ids ≡ l.front ++ w ∷ (l.back ++ r ∷ h.back) = h.is ∙ ap (λ list. list ++ r ∷ h.back) l.is ∙ append_assoc l.front (w ∷ l.back) (r ∷ h.back) in
     let stands : before_of ids w ≡ l.front = stands_at window ids l.front w (l.back ++ r ∷ h.back) feasible whole in (
       precedes window ids w r is_r before,
       λ other written writes differ is_other.
-          elim (cases_Bool (is_in front other)) [
-            | inl early ↦ elim (in_parts l.front (w ∷ l.back) other (subst (λ list. is_in list other ≡ true) l.is early)) [
-              | inl first ↦ inl (precedes window ids other w is_w (subst (λ list. is_in list other ≡ true) (sym stands) first)).1
+          elim (cases_Bool (contains_event front other)) [
+            | inl early ↦ elim (in_parts l.front (w ∷ l.back) other (subst (λ list. contains_event list other ≡ true) l.is early)) [
+              | inl first ↦ inl (precedes window ids other w is_w (subst (λ list. contains_event list other ≡ true) (sym stands) first)).1
               | inr rest ↦ elim (in_cases w l.back other rest) [
                 | inl same ↦ absurd (differ (one_value window w variable written value (subst (λ x. Writes window x variable written) (sym same) writes) choice.0))
                 | inr late ↦ absurd (none_in window variable l.back other written l.none late writes)
@@ -205,7 +202,7 @@ choices_hold window ids feasible r w variable value reads choice chosen =
 pub start_choices_hold : (window : WindowForm) (ids : List EventId) → IsFeasible window ids → StartChoicesHold window (schedule_truth window ids)
 start_choices_hold window ids feasible r variable value reads begins chosen other written writes differ is_other =
     let front : List EventId = before_of ids r in
-    let parts = and_parts (is_in ids r) (sees_start window front (event_at window r)) chosen in
+    let parts = and_parts (contains_event ids r) (sees_start window front (event_at window r)) chosen in
     let that : not (is_some (last_write window variable front)) ≡ true = sym (ap (λ event. sees_start window front event) reads) ∙ parts.1 in
     let none : NoneWrites window front variable = subst (λ o. Found window variable front o) (is_none (last_write window variable front) that) (last_found window variable front) in
     less_pos (schedule_place window ids r) (schedule_place window ids other) (comes_after window ids r other parts.0 is_other (read_apart window r other variable value written reads writes)

@@ -6,7 +6,7 @@ use Rattle.gp_trace.specs.declared.event.Event.TheVariants.{Read, Write}
 use Rattle.gp_window.specs.declared.schedule.EventId.{EventId}
 use Rattle.gp_window.specs.Events.{event_at}
 use Rattle.gp_window.specs.WindowForm.{WindowForm}
-use Rattle.gp_window.specs.Ids.{contains_event as is_in, is_same}
+use Rattle.gp_window.specs.Ids.{contains_event, is_same}
 use Rattle.gp_constraint.specs.Points.{number_in}
 use Rattle.gp_witness.specs.Meaning.{Truth}
 pub use Rattle.gp_constraint.specs.StandingLaws.{before_of}
@@ -18,7 +18,7 @@ late window false e = number_in window e
 
 -- an event of the schedule has its place in it; all others come after these, by thread and index
 abbrev pub schedule_place : WindowForm → List EventId → EventId → ℕ
-schedule_place window ids e = length (before_of ids e) + late window (is_in ids e) e
+schedule_place window ids e = length (before_of ids e) + late window (contains_event ids e) e
 
 -- whether it is a write to the variable
 abbrev pub writes_to : List ℕ → Option Event → Bool
@@ -54,10 +54,10 @@ sees_start window front _ = false
 -- what the schedule says
 abbrev pub schedule_truth : WindowForm → List EventId → Truth
 schedule_truth window ids = record {
-  executed = λ e. is_in ids e;
+  executed = λ e. contains_event ids e;
   place = λ e. pos (schedule_place window ids e);
-  reads = λ r w. is_in ids r && sees_write window (before_of ids r) (event_at window r) w;
-  reads_start = λ r. is_in ids r && sees_start window (before_of ids r) (event_at window r);
+  reads = λ r w. contains_event ids r && sees_write window (before_of ids r) (event_at window r) w;
+  reads_start = λ r. contains_event ids r && sees_start window (before_of ids r) (event_at window r);
   first = λ a c. nat_lt (schedule_place window ids a) (schedule_place window ids c);
   last = λ w. false;
   signals = λ w g. false;

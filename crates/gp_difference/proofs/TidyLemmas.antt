@@ -6,7 +6,7 @@ use Rattle.std.proofs.lemmas.List.{length-replicate, get_or-replicate, get_or_pa
 use Rattle.gp_clause.specs.declared.edge.Edge.{Edge}
 use Rattle.gp_difference.specs.declared.bound.Bound.{Bound}
 use Rattle.gp_difference.specs.Places.{place_at}
-use Rattle.gp_difference.specs.Placement.{PlacementForm, IsUntidy, IsAtRest, ListsMoved}
+use Rattle.gp_difference.specs.Placement.{PlacementForm, IsUntidy, IsAtRest, ListsMoved, DifferFrom}
 use Rattle.gp_difference.specs.Lower.{IsWork, IsFallen, Closing, IsLowered}
 
 -- after a run only the fallen points are untidy
@@ -30,37 +30,23 @@ run_untidy bounds new p ranks done work fallen =
       ];
     }
 
--- once all fallen points are tidied the labels are the places, and no fall is kept
-tidy_labels : (p : PlacementForm) (index : ℕ) → IsUntidy p index → length p.fallen ≤ index → p.labels ≡ p.places
-tidy_labels p index was end = ext_get_or (pos 0) p.labels p.places was.labels_size (λ v v_in.
-    elim (was.tidy v (omega (arith, v_in, was.labels_size))) [
+-- once all points are done the two lists are one, and no fall is kept
+pub done_to : (points : List ℕ) (index : ℕ) (from to falls : List ℤ) → length to ≡ length from → DifferFrom points index from to falls →
+    length points ≤ index → to ≡ from
+done_to points index from to falls size differ end = ext_get_or (pos 0) to from size (λ v v_in.
+    elim (differ v (omega (arith, v_in, size))) [
       | inl stands ↦ absurd (omega (arith, stands.1, stands.2, end))
       | inr rest ↦ rest.0
     ])
 
-tidy_falls : (p : PlacementForm) (index : ℕ) → IsUntidy p index → length p.fallen ≤ index → p.falls ≡ replicate (length p.places) (pos 0)
-tidy_falls p index was end = ext_get_or (pos 0) p.falls (replicate (length p.places) (pos 0)) (was.falls_size ∙ sym (length-replicate (length p.places) (pos 0))) (λ v v_in.
-    let at : v < length p.places = omega (arith, v_in, was.falls_size) in
-    elim (was.tidy v at) [
+pub done_falls : (points : List ℕ) (index : ℕ) (from to falls : List ℤ) → length falls ≡ length from → DifferFrom points index from to falls →
+    length points ≤ index → falls ≡ replicate (length from) (pos 0)
+done_falls points index from to falls size differ end = ext_get_or (pos 0) falls (replicate (length from) (pos 0)) (size ∙ sym (length-replicate (length from) (pos 0))) (λ v v_in.
+    let at : v < length from = omega (arith, v_in, size) in
+    elim (differ v at) [
       | inl stands ↦ absurd (omega (arith, stands.1, stands.2, end))
-      | inr rest ↦ rest.1 ∙ sym (get_or-replicate (length p.places) v (pos 0) (pos 0) at)
+      | inr rest ↦ rest.1 ∙ sym (get_or-replicate (length from) v (pos 0) (pos 0) at)
     ])
-
-pub kept_all : (p q : PlacementForm) (index : ℕ) → q ≡ record p { places = q.places; falls = q.falls } → length q.places ≡ length p.places →
-    IsUntidy q index → length q.fallen ≤ index → q ≡ record p { places = p.labels; falls = replicate (length p.places) (pos 0) }
-kept_all p q index same size was end =
-    let labels : q.labels ≡ p.labels = ap (λ (r : PlacementForm). r.labels) same in
-    let places : q.places ≡ p.labels = sym (tidy_labels q index was end) ∙ labels in
-    let falls : q.falls ≡ replicate (length p.places) (pos 0) = tidy_falls q index was end ∙ ap (λ n. replicate n (pos 0)) size in
-    same ∙ (λ i. record p { places = places i; falls = falls i })
-
-pub restored_all : (p q : PlacementForm) (index : ℕ) → q ≡ record p { labels = q.labels; falls = q.falls } →
-    IsUntidy q index → length q.fallen ≤ index → q ≡ record p { labels = p.places; falls = replicate (length p.places) (pos 0) }
-restored_all p q index same was end =
-    let places : q.places ≡ p.places = ap (λ (r : PlacementForm). r.places) same in
-    let labels : q.labels ≡ p.places = tidy_labels q index was end ∙ places in
-    let falls : q.falls ≡ replicate (length p.places) (pos 0) = tidy_falls q index was end ∙ ap (λ (ps : List ℤ). replicate (length ps) (pos 0)) places in
-    same ∙ (λ i. record p { labels = labels i; falls = falls i })
 
 -- the buffer of a cycle does not matter
 pub untidy_walk : (p : PlacementForm) (walk : List ℕ) → IsUntidy p 0 → IsUntidy (record p { walk = walk }) 0

@@ -46,14 +46,18 @@ with_fallen p point = record p { fallen = p.fallen ++ point ∷ [] }
 abbrev pub StandsFrom : List ℕ → ℕ → ℕ → Type 0
 StandsFrom points index point = (k : ℕ) × (index ≤ k) × (k < length points) × (slice_index points k ≡ point)
 
--- each point is listed from the index on, or its label is its place and no fall of it is kept
+-- each point is listed from the index on, or its two numbers are one and no fall of it is kept
+abbrev pub DifferFrom : List ℕ → ℕ → List ℤ → List ℤ → List ℤ → Type 0
+DifferFrom points index from to falls = (v : ℕ) → v < length from →
+    StandsFrom points index v ⊎ ((place_at to v ≡ place_at from v) × (place_at falls v ≡ pos 0))
+
+-- the fallen points are listed from the index on, and no other point has a label that is not its place, or a fall
 pub record IsUntidy (p : PlacementForm) (index : ℕ) : Type 0 where
   pub labels_size : length p.labels ≡ length p.places
   pub via_size : length p.via ≡ length p.places
   pub falls_size : length p.falls ≡ length p.places
   pub small : All (λ (point : ℕ). point < length p.places) p.fallen
-  pub tidy : (v : ℕ) → v < length p.places →
-      StandsFrom p.fallen index v ⊎ ((place_at p.labels v ≡ place_at p.places v) × (place_at p.falls v ≡ pos 0))
+  pub tidy : DifferFrom p.fallen index p.places p.labels p.falls
 
 -- each point is listed as fallen, or its place stayed
 abbrev pub ListsMoved : List ℕ → List ℤ → List ℤ → Type 0

@@ -3,7 +3,7 @@ ghost use Rattle.gp_difference.specs.Places.{place_at};
 ghost use Rattle.gp_difference.specs.Anew.{AreAnew};
 ghost use Rattle.gp_difference.specs.Settle.{SomeBelow};
 ghost use Rattle.gp_difference.specs.Falls.{IsMost};
-ghost use Rattle.gp_difference.specs.Placement.{IsAtRest, IsUntidy, PointsAbove, still, lowered, with_fallen};
+ghost use Rattle.gp_difference.specs.Placement.{DifferFrom, IsAtRest, IsUntidy, PointsAbove, still, lowered, with_fallen};
 
 use crate::anew::make_anew;
 use crate::falls::Falls;
@@ -167,9 +167,12 @@ impl Placement {
           falls = replicate (length self.old.places) (pos 0);
         } }
     {
-        for index in 0..self.fallen_count() {
-            self.keep_at(index);
-        }
+        copy_at(
+            &self.fallen,
+            &self.labels,
+            &mut self.places,
+            &mut self.falls,
+        );
     }
 
     /// Makes the places the labels again.
@@ -180,9 +183,12 @@ impl Placement {
           falls = replicate (length self.old.places) (pos 0);
         } }
     {
-        for index in 0..self.fallen_count() {
-            self.restore_at(index);
-        }
+        copy_at(
+            &self.fallen,
+            &self.places,
+            &mut self.labels,
+            &mut self.falls,
+        );
     }
 
     /// Whether the place of a fallen point is below the limit.
@@ -206,43 +212,20 @@ impl Placement {
         make_anew(&self.places, &mut self.labels);
         self.places.copy_from_slice(&self.labels);
     }
+}
 
-    fn fallen_count(&self) -> usize
-        ensures { result ≡ length self.now.fallen }
-    {
-        self.fallen.len()
-    }
-
-    /// Makes the label of a fallen point its place.
-    fn keep_at(&mut self, index: usize)
-        requires index { index < length self.old.fallen }
-        requires places { slice_index self.old.fallen index < length self.old.places }
-        requires labels { slice_index self.old.fallen index < length self.old.labels }
-        requires falls { slice_index self.old.fallen index < length self.old.falls }
-        ensures { self.new ≡ (let point = slice_index self.old.fallen index in record self.old {
-          places = slice_set self.old.places point (place_at self.old.labels point);
-          falls = slice_set self.old.falls point (pos 0);
-        }) }
-    {
-        let point = self.fallen[index];
-        self.places[point] = self.labels[point];
-        self.falls.put(point, 0);
-    }
-
-    /// Makes the place of a fallen point its label again.
-    fn restore_at(&mut self, index: usize)
-        requires index { index < length self.old.fallen }
-        requires places { slice_index self.old.fallen index < length self.old.places }
-        requires labels { slice_index self.old.fallen index < length self.old.labels }
-        requires falls { slice_index self.old.fallen index < length self.old.falls }
-        ensures { self.new ≡ (let point = slice_index self.old.fallen index in record self.old {
-          labels = slice_set self.old.labels point (place_at self.old.places point);
-          falls = slice_set self.old.falls point (pos 0);
-        }) }
-    {
-        let point = self.fallen[index];
-        self.labels[point] = self.places[point];
-        self.falls.put(point, 0);
+/// Copies the numbers at the points, where alone the lists differ, and takes back the falls of these points.
+fn copy_at(points: &[usize], from: &[i64], to: &mut [i64], falls: &mut Falls)
+    requires size { length to.old ≡ length from.now }
+    requires falls { length falls.old ≡ length from.now }
+    requires small { All (λ point. point < length from.now) points.now }
+    requires others { DifferFrom points.now 0 from.now to.old falls.old }
+    ensures to { to.new ≡ from.now }
+    ensures falls { falls.new ≡ replicate (length from.now) (pos 0) }
+{
+    for &point in points {
+        to[point] = from[point];
+        falls.put(point, 0);
     }
 }
 

@@ -6,7 +6,6 @@ ghost use Rattle.gp_certificate.specs.Assignment.{IsKept};
 ghost use Rattle.gp_certificate.specs.Counting.{AreListed, row_of, code_of};
 ghost use Rattle.gp_certificate.specs.Places.{AreBare};
 ghost use Rattle.gp_certificate.specs.Step.{LeadsToConflict, Passes};
-ghost use Rattle.gp_clause.specs.Lit.{negations};
 
 use crate::assignment::{Assignment, code};
 use crate::places::Places;

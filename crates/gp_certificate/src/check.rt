@@ -1,4 +1,4 @@
-ghost use Rattle.std.specs.Prelude.{◌≡◌, ◌+◌, ◌<◌, ◌^◌, ◌↔◌, [], ◌++◌, length, slice_get, IsTrue, IfOk, OnOk, MatchOption, All};
+ghost use Rattle.std.specs.Prelude.{◌≡◌, ◌+◌, ◌<◌, ◌↔◌, [], ◌++◌, length, slice_get, IsTrue, IfOk, OnOk, MatchOption, All};
 ghost use Rattle.std.specs.Option.{option_map};
 ghost use Rattle.gp_clause.specs.Clause.{NamesBelow, NamesOnce};
 ghost use Rattle.gp_clause.specs.Problem.{IsValidProblem, IsValidQuery};

@@ -1,4 +1,4 @@
-ghost use Rattle.std.specs.Prelude.{◌≡◌, ◌+◌, ◌<◌, ◌^◌, [], ◌++◌, length, IfOk, OnOk, MatchOption, All};
+ghost use Rattle.std.specs.Prelude.{◌≡◌, ◌+◌, ◌<◌, ◌^◌, [], ◌++◌, length, IfOk, MatchOption, All};
 ghost use Rattle.gp_clause.specs.Clause.{NamesBelow};
 ghost use Rattle.gp_clause.specs.Problem.{IsValidKind, IsValidProblem, IsValidQuery};
 ghost use Rattle.gp_certificate.specs.Bench.{HasTested};

@@ -1,8 +1,7 @@
-ghost use Rattle.std.specs.Prelude.{◌≡◌, ◌+◌, ◌<◌, ◌≤◌, ◌^◌, ◌↔◌, [], ◌++◌, length, IsTrue, IfOk, OnOk, All};
+ghost use Rattle.std.specs.Prelude.{◌≡◌, ◌+◌, ◌<◌, ◌≤◌, ◌↔◌, [], ◌++◌, length, IsTrue, IfOk, OnOk, All};
 ghost use Rattle.gp_clause.specs.Clause.{NamesBelow};
 ghost use Rattle.gp_clause.specs.Problem.{IsValidEdge, IsValidKind};
 ghost use Rattle.gp_clause.specs.Walk.{HasNegativeCycle};
-ghost use Rattle.gp_difference.specs.Bounds.{edges_of};
 ghost use Rattle.gp_certificate.specs.Places.{AreBare, bounds_at};
 
 use gp_base::Row;

@@ -1,4 +1,4 @@
-ghost use Rattle.std.specs.Prelude.{◌≡◌, ◌+◌, ◌-◌, ◌*◌, ◌^◌, ◌<◌, ◌≤◌, [], ◌∷◌, ◌++◌, length, take, OnOk, OnErr, IfOk};
+ghost use Rattle.std.specs.Prelude.{◌≡◌, ◌+◌, ◌-◌, ◌<◌, ◌≤◌, [], ◌∷◌, ◌++◌, length, take, OnOk, OnErr, IfOk};
 ghost use Rattle.gp_difference.specs.Bounds.{edge_at, no_bound};
 ghost use Rattle.gp_difference.specs.Links.{IsLatest};
 ghost use Rattle.std.specs.Prelude.{slice_index_or};
@@ -18,7 +18,7 @@ pub struct Bounds {
 }
 
 impl Model for Bounds {
-    ghost use Rattle.std.specs.Prelude.{◌+◌, ◌≤◌, ◌<◌, ◌^◌, length, vec_len, vec_capacity};
+    ghost use Rattle.std.specs.Prelude.{◌+◌, ◌≤◌, ◌<◌, length, vec_len, vec_capacity};
     ghost use Rattle.gp_difference.specs.Links.{BoundList, IsLinked};
 
     ghost Value = { BoundList };

@@ -1,5 +1,5 @@
 ghost use Rattle.std.specs.Prelude.{◌≡◌, ℕ, ◌+◌, ◌*◌, ◌/◌, ◌<◌, ◌≤◌, pos, length, drop, replicate, IfOk, slice_set};
-ghost use Rattle.gp_difference.specs.Falls.{IsTree, IsTreeBut, IsMost, number_at};
+ghost use Rattle.gp_difference.specs.Falls.{IsTree, IsMost, number_at};
 
 use std::alloc::{AllocError, Global};
 use std::marker::Model;

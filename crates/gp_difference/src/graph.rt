@@ -1,4 +1,4 @@
-ghost use Rattle.std.specs.Prelude.{◌≡◌, ◌+◌, ◌-◌, ◌*◌, ◌^◌, ◌<◌, ◌≤◌, ℤ, pos, ◌+ℤ◌, ◌≤ℤ◌, [], ◌∷◌, ◌++◌, length, take, All, OnOk, OnErr, IfOk, MatchResult};
+ghost use Rattle.std.specs.Prelude.{◌≡◌, ◌+◌, ◌-◌, ◌^◌, ◌<◌, ◌≤◌, [], length, take, All, OnOk, OnErr, IfOk};
 
 use crate::bound::Bound;
 use crate::bounds::Bounds;
@@ -50,8 +50,7 @@ impl Model for Graph {
 impl Graph {
     ghost use Rattle.gp_difference.specs.Places.{IsEdgeOf, AreFresh};
     ghost use Rattle.gp_difference.specs.Bounds.{tagged};
-    ghost use Rattle.gp_clause.specs.Walk.{HasNegativeCycle};
-    ghost use Rattle.gp_difference.specs.Graph.{HasPlaces, bare_graph, NewGives, FixGives, FreshGives, AddGives, all_edges};
+    ghost use Rattle.gp_difference.specs.Graph.{HasPlaces, bare_graph, NewGives, FixGives, FreshGives, AddGives};
 
     /// A graph of these points and fixed edges, with no bound kept and no room for one. The fault is a negative cycle
     /// of fixed edges, or want of memory.

@@ -1,6 +1,6 @@
-ghost use Rattle.std.specs.Prelude.{◌≡◌, ℕ, ◌+◌, ◌<◌, ◌≤◌, [], ◌∷◌, length, slice_index, vec_capacity, vec_len, take, All, ◌++◌, option_to_list};
+ghost use Rattle.std.specs.Prelude.{◌≡◌, ℕ, ◌+◌, ◌<◌, ◌≤◌, length, vec_capacity, vec_len, All, ◌++◌, option_to_list};
 ghost use Rattle.gp_difference.specs.Bounds.{edge_at, tags_of};
-ghost use Rattle.gp_difference.specs.Placement.{PlacementForm, IsAtRest, Stays};
+ghost use Rattle.gp_difference.specs.Placement.{IsAtRest, Stays};
 ghost use Rattle.gp_difference.specs.Lower.{IsInput, Scanning, RelaxGives, Running, SettleGives, LowerGives, Closing, TryGives, IsClosed, walk_of};
 
 use crate::bounds::Bounds;

@@ -1,4 +1,4 @@
-ghost use Rattle.std.specs.Prelude.{◌≡◌, ℕ, ◌+◌, ◌^◌, ◌<◌, ◌≤◌, pos, ◌+ℤ◌, ◌≤ℤ◌, ◌<ℤ◌, [], length, take, replicate, All, IfOk, MatchBool, slice_index, slice_set};
+ghost use Rattle.std.specs.Prelude.{◌≡◌, ℕ, ◌+◌, ◌^◌, ◌<◌, ◌≤◌, pos, ◌+ℤ◌, ◌≤ℤ◌, [], length, take, replicate, All, IfOk, MatchBool, slice_index, slice_set};
 ghost use Rattle.gp_difference.specs.Places.{place_at};
 ghost use Rattle.gp_difference.specs.Anew.{AreAnew};
 ghost use Rattle.gp_difference.specs.Settle.{SomeBelow};

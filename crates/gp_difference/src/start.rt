@@ -1,4 +1,4 @@
-ghost use Rattle.std.specs.Prelude.{◌≡◌, ℕ, ◌<◌, ◌≤◌, length, All, IfOk, OnOk, MatchOption, vec_len};
+ghost use Rattle.std.specs.Prelude.{◌≡◌, ◌<◌, ◌≤◌, length, All, IfOk, MatchOption};
 ghost use Rattle.gp_difference.specs.Places.{IsEdgeOf, AreFresh};
 ghost use Rattle.gp_difference.specs.Start.{IsStart, AreBoundsOf};
 

@@ -1,4 +1,4 @@
-ghost use Rattle.std.specs.Prelude.{◌≡◌, ℕ, ◌<◌, Some, IfOk, MatchOption, length, slice_get};
+ghost use Rattle.std.specs.Prelude.{◌≡◌, ◌<◌, Some, IfOk, MatchOption, length, slice_get};
 ghost use Rattle.gp_derivation.specs.Cones.{IsCone};
 ghost use Rattle.gp_derivation.specs.Fit.{IsSmall, IsSmallCone};
 ghost use Rattle.gp_derivation.specs.FitStaying.{FitStays};

@@ -1,4 +1,4 @@
-ghost use Rattle.std.specs.Prelude.{◌≡◌, ℕ, ◌+◌, ◌-◌, ◌<◌, ◌^◌, ◌↔◌, IsTrue, Some, length, IfOk, All, AllPairs, slice_get};
+ghost use Rattle.std.specs.Prelude.{◌≡◌, ℕ, ◌+◌, ◌-◌, ◌<◌, ◌^◌, ◌↔◌, IsTrue, Some, IfOk, All, AllPairs, slice_get};
 ghost use Rattle.std.specs.List.{sum_by};
 ghost use Rattle.gp_derivation.specs.Numbering.{AllNameEarlier, CanBeNumbered, NamesEarlier, HasNumber, IsNumbered, number_beside, renumbered, moved, with_hints, size_of};
 ghost use Rattle.gp_derivation.specs.declared.log.LogEntry.{LogEntry};

@@ -1,6 +1,6 @@
 // A ring of links in two arrays: `next` leads forward, and `prev` back. Place 0 is both ends of the
 // order, and number i has the place i + 1, so that no write has a case for the front or the back.
-ghost use Rattle.std.specs.Prelude.{◌≡◌, ℕ, ◌+◌, ◌-◌, ◌<◌, ◌≤◌, ◌^◌, List, [], ◌∷◌, ◌++◌, length};
+ghost use Rattle.std.specs.Prelude.{ℕ, ◌+◌, ◌<◌, ◌≤◌, ◌^◌, List, ◌∷◌, ◌++◌, length};
 ghost use Rattle.gp_queue.specs.Order.{numbers_between};
 ghost use Rattle.gp_queue.specs.Links.{IsRing, IsGap};
 

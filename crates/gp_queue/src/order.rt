@@ -1,4 +1,4 @@
-ghost use Rattle.std.specs.Prelude.{◌≡◌, ℕ, ◌+◌, ◌<◌, ◌≤◌, List, [], ◌∷◌, ◌++◌, length, slice_get, IfOk, IfSome, OnOk, OnErr, max};
+ghost use Rattle.std.specs.Prelude.{◌≡◌, ℕ, ◌+◌, ◌<◌, List, ◌∷◌, ◌++◌, length, slice_get, IfOk, IfSome, OnOk, OnErr, max};
 ghost use Rattle.gp_queue.specs.Order.{numbers_between, IsOrder, moved_to_front, next_of};
 
 use crate::links::{END, link_rest, move_to_front};

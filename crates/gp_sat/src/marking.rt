@@ -1,4 +1,4 @@
-ghost use Rattle.std.specs.Prelude.{◌≡◌, ◌+◌, ◌≤◌, ◌<◌, ℕ, false, length, IfOk, OnOk, OnErr, Contains, slice_index, slice_index_or, vec_capacity, vec_len};
+ghost use Rattle.std.specs.Prelude.{◌≡◌, ◌+◌, ◌≤◌, ◌<◌, ℕ, false, length, IfOk, OnOk, slice_index, slice_index_or, vec_capacity, vec_len};
 ghost use Rattle.std.specs.BinaryHeap.{heap_items};
 ghost use Rattle.gp_sat.specs.Marking.{IsMarked};
 ghost use Rattle.gp_sat.specs.Queueing.{AreClear, AreListed, IsAdded};

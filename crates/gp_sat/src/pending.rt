@@ -1,11 +1,11 @@
-ghost use Rattle.std.specs.Prelude.{◌≡◌, ◌≢◌, ◌⊎◌, MatchBool, ◌+◌, ◌<◌, ◌≤◌, None, List, [], ◌∷◌, ◌++◌, length, slice_get, slice_index_or, MatchOption, Contains};
+ghost use Rattle.std.specs.Prelude.{◌≡◌, ◌≢◌, MatchBool, ◌+◌, ◌<◌, None, List, [], ◌∷◌, ◌++◌, length, slice_get, slice_index_or, MatchOption};
 ghost use Rattle.gp_clause.specs.Clause.{IsRising};
 ghost use Rattle.gp_sat.specs.State.{assigned, clause_at, IsAttached};
 ghost use Rattle.gp_sat.specs.Standing.{IsFalse, Each, EachOther};
 ghost use Rattle.gp_sat.specs.Changes.{Propagates, IsConflict};
 ghost use Rattle.gp_sat.specs.Sound.{IsSound};
 ghost use Rattle.gp_sat.specs.Stepping.{IsIdle, IsReady, IsBroken};
-ghost use Rattle.gp_sat.specs.Choosing.{level_of, IsBest, IsHighest, IsOpen, ChosenAs, Holds, IsMore, IsShorter};
+ghost use Rattle.gp_sat.specs.Choosing.{level_of, IsBest, IsOpen, ChosenAs, Holds, IsMore, IsShorter};
 
 use crate::assigned::Assigned;
 use crate::kernel::{Kernel, value_of};

@@ -1,4 +1,4 @@
-ghost use Rattle.std.specs.Prelude.{◌≡◌, ◌≢◌, ◌⊎◌, MatchBool, ◌+◌, ◌<◌, ◌≤◌, None, length, slice_index_or, MatchOption};
+ghost use Rattle.std.specs.Prelude.{◌≡◌, ◌≢◌, ◌⊎◌, MatchBool, ◌<◌, None, length, slice_index_or, MatchOption};
 ghost use Rattle.gp_sat.specs.State.{assigned, clause_at, IsAttached};
 ghost use Rattle.gp_sat.specs.Standing.{IsFalse, EachOther};
 ghost use Rattle.gp_sat.specs.Changes.{Propagates};

@@ -1,4 +1,4 @@
-ghost use Rattle.std.specs.Prelude.{◌≡◌, ◌≤◌, ◌<◌, ◌+◌, ℕ, None, All, IfOk, MatchOption, length, [], ◌∷◌};
+ghost use Rattle.std.specs.Prelude.{◌≡◌, ◌≤◌, ◌<◌, None, All, IfOk, MatchOption, length, []};
 ghost use Rattle.gp_tickets.specs.Hand.{drew, joined, told_none, unused, WasTold};
 ghost use Rattle.gp_tickets.specs.Tickets.{hand_of, IsDrawerOf, IsUnused};
 

@@ -1,4 +1,4 @@
-ghost use Rattle.std.specs.Prelude.{◌≡◌, ◌+◌, ◌<◌, ◌≤◌, ◌++◌, length, IfOk, All, Contains, Some, slice_index_or};
+ghost use Rattle.std.specs.Prelude.{◌≡◌, ◌+◌, ◌<◌, ◌≤◌, length, IfOk, All, Contains, Some};
 ghost use Rattle.gp_clause.specs.Lit.{opposite};
 ghost use Rattle.gp_clause.specs.Valuation.{Meets};
 ghost use Rattle.gp_certificate.specs.Certificate.{Refutes};

@@ -1,10 +1,9 @@
-ghost use Rattle.std.specs.Prelude.{◌≡◌, ◌+◌, ◌<◌, ◌≤◌, length, IfOk, OnOk, OnErr, MatchOption, None, Contains, IsTrue, ◌↔◌};
+ghost use Rattle.std.specs.Prelude.{◌≡◌, ◌+◌, ◌<◌, length, IfOk, OnOk, OnErr, MatchOption, None, IsTrue, ◌↔◌};
 ghost use Rattle.gp_sat.specs.State.{assigned};
 ghost use Rattle.gp_sat.specs.Deciding.{IsNextFree, IsFull};
 ghost use Rattle.gp_sat.specs.Looking.{IsTrueLit};
 ghost use Rattle.gp_sat.specs.Sound.{IsSound};
-ghost use Rattle.gp_sat.specs.Standing.{IsClosed};
-ghost use Rattle.gp_search.specs.Inside.{IsTurning, IsSettled, all_kinds};
+ghost use Rattle.gp_search.specs.Inside.{IsTurning, IsSettled};
 ghost use Rattle.gp_search.specs.Moves.{IsAllTrue, IsOpen, KeepsLog, IsFound, GoesFurther, DecidesNext, MovesNext, BeginsLevel};
 
 use crate::asked::Asked;

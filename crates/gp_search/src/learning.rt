@@ -1,4 +1,4 @@
-ghost use Rattle.std.specs.Prelude.{◌≡◌, ◌+◌, ◌<◌, ◌^◌, ◌≤◌, ◌⊎◌, length, All, OnOk, OnErr, IsTrue, ◌↔◌, true};
+ghost use Rattle.std.specs.Prelude.{◌≡◌, ◌+◌, ◌<◌, ◌^◌, ◌⊎◌, length, All, OnOk, OnErr, IsTrue, ◌↔◌, true};
 ghost use Rattle.gp_clause.specs.Clause.{NamesBelow};
 ghost use Rattle.gp_sat.specs.Changes.{MayAttach};
 ghost use Rattle.gp_sat.specs.Sound.{IsSound};

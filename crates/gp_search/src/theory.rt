@@ -1,5 +1,4 @@
 ghost use Rattle.std.specs.Prelude.{◌≡◌, ◌<◌, length, map, None, IfOk, MatchOption};
-ghost use Rattle.gp_sat.specs.State.{assigned};
 ghost use Rattle.gp_sat.specs.Changes.{IsConflict as IsFalseClause, IsPropagated};
 ghost use Rattle.gp_search.specs.Inside.{IsTurning, IsConflict, IsSettled, false_lit};
 ghost use Rattle.gp_search.specs.Moves.{AssertsAll, IsNext, GoesOn, MovesGraph};

@@ -1,5 +1,5 @@
 -- As many properties or windows as there are lines are enough, so that reading goes on until another line comes.
-use Rattle.std.proofs.Common.{◌≡◌, refl, sym, ap, ◌∙◌, ℕ, zero, suc, ◌+◌, ◌<◌, ◌≤◌, true, false, cond, List, [], ◌∷◌, ◌++◌, length, codes, decimal, Ok, Err, arith, length-append}
+use Rattle.std.proofs.Common.{◌≡◌, refl, sym, ap, ◌∙◌, ℕ, zero, suc, ◌+◌, ◌<◌, ◌≤◌, true, cond, List, [], ◌∷◌, ◌++◌, length, codes, decimal, Ok, Err, arith, length-append}
 use Rattle.gp_text.specs.declared.line.Line.{Line}
 use Rattle.gp_text.specs.Numbers.{OneSpelling}
 use Rattle.gp_window.specs.EventIds.{EventIdsReadExactly}
@@ -55,10 +55,6 @@ properties_split spelled exactly end (line ∷ lines) begins =
     let fewer = property_fewer spelled exactly end (line ∷ lines) property after is in
     properties_enough spelled exactly end (length lines) (length after) after (omega (arith, fewer)) (omega arith)))
 
-pub properties_end : (end : ℕ) (lines : List Line) → is_at (codes "property") lines ≡ false → read_properties end (length lines) lines ≡ Ok ([], lines)
-properties_end end [] other = refl
-properties_end end (line ∷ lines) other = rw other refl
-
 windows_enough : OneSpelling → EventIdsReadExactly → (end format due n m : ℕ) (lines : List Line) → length lines ≤ n → length lines ≤ m → read_windows end format due n lines ≡ read_windows end format due m lines
 windows_enough spelled exactly end format due zero zero lines few less = refl
 windows_enough spelled exactly end format due zero (suc m) [] few less = refl
@@ -79,10 +75,6 @@ windows_split spelled exactly end format due (line ∷ lines) begins =
     rw begins (same_next (read_window end format due (line ∷ lines)) (read_windows end format (due + 1) (length lines)) (λ after. read_windows end format (due + 1) (length after) after) (λ window after is.
     let fewer = window_fewer spelled exactly end format due (line ∷ lines) window after is in
     windows_enough spelled exactly end format (due + 1) (length lines) (length after) after (omega (arith, fewer)) (omega arith)))
-
-pub windows_end : (end format due : ℕ) (lines : List Line) → is_at (codes "window") lines ≡ false → read_windows end format due (length lines) lines ≡ Ok ([], lines)
-windows_end end format due [] other = refl
-windows_end end format due (line ∷ lines) other = rw other refl
 
 -- one property more was read
 pub properties_go_on : OneSpelling → EventIdsReadExactly → (end : ℕ) (lines after : List Line) (front new : List PropertyRecord) (property : PropertyRecord) (total : Reads (List PropertyRecord))

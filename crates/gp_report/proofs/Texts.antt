@@ -14,17 +14,6 @@ lines_put old xs ys = append_assoc old (spelling xs) (spelling ys) ∙ ap (λ re
 pub cut : {A : Type 0} (xs : List A) (x : A) (i : ℕ) → i < length xs → x ≡ get_or xs i x → drop i xs ≡ x ∷ drop (i + 1) xs
 cut xs x i below is = rw (add-one, drop-cons xs i x below, ← is) refl
 
--- one word more of those that follow the first one
-pub one_word : {A : Type 0} (f : A → List ℕ) (text whole : List ℕ) (xs : List A) (x : A) (i : ℕ)
-    → i < length xs → x ≡ get_or xs i x
-    → text ++ after_words (map f (drop i xs)) ≡ whole
-    → ((text ++ 32 ∷ []) ++ f x) ++ after_words (map f (drop (i + 1) xs)) ≡ whole
-one_word f text whole xs x i below is all =
-    append_assoc (text ++ 32 ∷ []) (f x) (after_words (map f (drop (i + 1) xs)))
-    ∙ append_assoc text (32 ∷ []) (f x ++ after_words (map f (drop (i + 1) xs)))
-    ∙ ap (λ left. text ++ after_words (map f left)) (sym (cut xs x i below is))
-    ∙ all
-
 -- the lines of one thing more, and then those of the things that are left
 pub one_more : {A : Type 0} (f : A → List (List (List ℕ))) (text whole : List ℕ) (xs : List A) (x : A) (i : ℕ)
     → i < length xs → x ≡ get_or xs i x

@@ -43,10 +43,11 @@ use Rattle.gp_checker.specs.declared.failure.Reason.{Reason}
 use Rattle.gp_checker.specs.declared.failure.Reason.TheVariants.{WindowCount, WrongSize, WrongProperty, Stuck, Unmatched, BadStep, Unrefuted}
 use Rattle.gp_checker.specs.Accepted.{AcceptsAnswer, AcceptsBody, AcceptsEntry, AcceptsListed, AcceptsProperty, AcceptsWindow, RefutesAtLast}
 use Rattle.gp_checker.specs.Checked.{ChecksAreExact}
+use Rattle.gp_checker.specs.FrontLaws.{fewer_pass, first_pass}
 use Rattle.gp_checker.specs.Laws.{Laws}
 use Rattle.gp_checker.specs.Reasons.{IsOfProperty, IsOfWindow}
 use Rattle.gp_checker.specs.Rejected.{FailsAnswer, FailsBody, FailsCertificate, FailsEntry, FailsListed, FailsProperty, FailsSchedule, FailsShared, FailsWindow, IsRejected}
-use Rattle.gp_checker.proofs.Unique.{checks_fewer, checks_first, fails_once, first_both, here_not_all, passes_fewer, passes_first}
+use Rattle.gp_checker.proofs.Unique.{fails_once, first_both, here_not_all}
 
 -- two failures have one reason and one place
 pub record SamePlace (reason reason' : Reason) (place place' : ℕ) : Type 0 where
@@ -103,10 +104,15 @@ module _ (laws : Laws) where
   schedule_once window property ids schedule _ reason' place place' fails fails' = absurd fails
 
   -- so does a certificate
+  own_first : (problem : Problem) (shared : List Step) (query : Query) (certificate : Certificate) (count : ℕ) → PassesOver problem shared query certificate
+      → OwnStepsPass problem.edges (problem.kinds ++ query.locals) problem.clauses (clauses_of shared) [] (take count certificate.steps)
+  own_first problem shared query certificate =
+      first_pass problem.edges (problem.kinds ++ query.locals) (λ clauses. problem.clauses ++ clauses_of shared ++ clauses) (λ clauses. problem.clauses ++ clauses) [] certificate.steps
+
   certificate_apart : (problem : Problem) (shared : List Step) (query : Query) (certificate : Certificate) (reason : Reason) (place : ℕ) → FailsCertificate problem shared query certificate reason place
       → PassesOver problem shared query certificate → RefutesAtLast query certificate.steps → ⊥
   certificate_apart problem shared query certificate BadStep place fails passes ends =
-      fails.fails (passes_first problem.edges (problem.kinds ++ query.locals) problem.clauses (clauses_of shared) [] certificate.steps (place + 1) passes)
+      fails.fails (own_first problem shared query certificate (place + 1) passes)
   certificate_apart problem shared query certificate Unrefuted place fails passes ends = fails.1 ends
   certificate_apart problem shared query certificate _ place fails passes ends = fails
 
@@ -115,13 +121,13 @@ module _ (laws : Laws) where
   certificate_once problem shared query certificate BadStep BadStep place place' fails fails' = record {
     reasons = refl;
     places = fails_once (λ n. OwnStepsPass problem.edges (problem.kinds ++ query.locals) problem.clauses (clauses_of shared) [] (take n certificate.steps))
-        (passes_fewer problem.edges (problem.kinds ++ query.locals) problem.clauses (clauses_of shared) [] certificate.steps) place place' fails.before fails.fails fails'.before fails'.fails;
+        (fewer_pass problem.edges (problem.kinds ++ query.locals) (λ clauses. problem.clauses ++ clauses_of shared ++ clauses) (λ clauses. problem.clauses ++ clauses) [] certificate.steps) place place' fails.before fails.fails fails'.before fails'.fails;
   }
   certificate_once problem shared query certificate BadStep Unrefuted place place' fails fails' =
-      absurd (fails.fails (passes_first problem.edges (problem.kinds ++ query.locals) problem.clauses (clauses_of shared) [] certificate.steps (place + 1) fails'.0))
+      absurd (fails.fails (own_first problem shared query certificate (place + 1) fails'.0))
   certificate_once problem shared query certificate BadStep _ place place' fails fails' = absurd fails'
   certificate_once problem shared query certificate Unrefuted BadStep place place' fails fails' =
-      absurd (fails'.fails (passes_first problem.edges (problem.kinds ++ query.locals) problem.clauses (clauses_of shared) [] certificate.steps (place' + 1) fails.0))
+      absurd (fails'.fails (own_first problem shared query certificate (place' + 1) fails.0))
   certificate_once problem shared query certificate Unrefuted Unrefuted place place' fails fails' = record { reasons = refl; places = fails.2 ∙ sym fails'.2 }
   certificate_once problem shared query certificate Unrefuted _ place place' fails fails' = absurd fails'
   certificate_once problem shared query certificate _ reason' place place' fails fails' = absurd fails
@@ -192,14 +198,14 @@ module _ (laws : Laws) where
       listed_once window budget shared property one other (due_instances window property number) told_record.body fails.1 fails'.1
 
   shared_apart : (problem : Problem) (shared : List Step) (failure : Failure) → FailsShared problem shared failure → SharedPasses problem shared → ⊥
-  shared_apart problem shared failure fails passes = fails.3.fails (checks_first problem.edges problem.kinds problem.clauses shared (failure.place + 1) passes)
+  shared_apart problem shared failure fails passes = fails.3.fails (first_pass problem.edges problem.kinds (λ clauses. clauses) (λ clauses. clauses) problem.clauses shared (failure.place + 1) passes)
 
   shared_once : (problem : Problem) (shared : List Step) (one other : Failure) → FailsShared problem shared one → FailsShared problem shared other → SameProperty one other
   shared_once problem shared one other fails fails' = record {
     inside = record {
       inside = record {
         reasons = fails.0 ∙ sym fails'.0;
-        places = fails_once (λ n. StepsCheck problem.edges problem.kinds problem.clauses (take n shared)) (checks_fewer problem.edges problem.kinds problem.clauses shared) one.place other.place
+        places = fails_once (λ n. StepsCheck problem.edges problem.kinds problem.clauses (take n shared)) (fewer_pass problem.edges problem.kinds (λ clauses. clauses) (λ clauses. clauses) problem.clauses shared) one.place other.place
             fails.3.before fails.3.fails fails'.3.before fails'.3.fails;
       };
       instances = fails.2 ∙ sym fails'.2;

@@ -1,48 +1,8 @@
 -- No two lists both go together and fail, and they fail first at one place.
-use Rattle.std.proofs.Common.{◌≡◌, sym, subst, ℕ, zero, suc, ◌+◌, ◌<◌, ◌≤◌, ◌⊎◌, inl, inr, List, [], ◌∷◌, ◌++◌, take, Option, Some, None, arith}
+use Rattle.std.proofs.Common.{◌≡◌, sym, subst, ℕ, zero, suc, ◌+◌, ◌<◌, ◌≤◌, ◌⊎◌, inl, inr, List, [], ◌∷◌, take, Option, Some, None, arith}
 use Rattle.std.specs.List.{AllZip, slice_get}
 use Rattle.std.proofs.lemmas.Bool.{cases_lt}
-use Rattle.gp_clause.specs.declared.edge.Edge.{Edge}
-use Rattle.gp_clause.specs.declared.kind.Kind.{Kind}
-use Rattle.gp_clause.specs.declared.lit.Lit.{Lit}
-use Rattle.gp_certificate.specs.declared.step.Step.{Step}
-use Rattle.gp_certificate.specs.Certificate.{StepsCheck}
-use Rattle.gp_certificate.specs.Shared.{OwnStepsPass}
 use Rattle.gp_checker.specs.First.{FailsFirst, FailsHere}
-
--- where the first steps check, fewer do
-pub checks_fewer : (edges : List Edge) (kinds : List Kind) (earlier : List (List Lit)) (steps : List Step) (few more : ℕ) → few ≤ more
-    → StepsCheck edges kinds earlier (take more steps) → StepsCheck edges kinds earlier (take few steps)
-checks_fewer edges kinds earlier [] zero more least checks = tt
-checks_fewer edges kinds earlier [] (suc few) more least checks = tt
-checks_fewer edges kinds earlier (step ∷ steps) zero more least checks = tt
-checks_fewer edges kinds earlier (step ∷ steps) (suc few) zero least checks = absurd (omega (arith, least))
-checks_fewer edges kinds earlier (step ∷ steps) (suc few) (suc more) least checks =
-    (checks.0, checks_fewer edges kinds (earlier ++ step.clause ∷ []) steps few more (omega (arith, least)) checks.1)
-
--- where all steps check, the first ones do
-pub checks_first : (edges : List Edge) (kinds : List Kind) (earlier : List (List Lit)) (steps : List Step) (few : ℕ) → StepsCheck edges kinds earlier steps → StepsCheck edges kinds earlier (take few steps)
-checks_first edges kinds earlier [] zero checks = tt
-checks_first edges kinds earlier [] (suc few) checks = tt
-checks_first edges kinds earlier (step ∷ steps) zero checks = tt
-checks_first edges kinds earlier (step ∷ steps) (suc few) checks = (checks.0, checks_first edges kinds (earlier ++ step.clause ∷ []) steps few checks.1)
-
--- the same of own steps
-pub passes_fewer : (edges : List Edge) (kinds : List Kind) (base shared own : List (List Lit)) (steps : List Step) (few more : ℕ) → few ≤ more
-    → OwnStepsPass edges kinds base shared own (take more steps) → OwnStepsPass edges kinds base shared own (take few steps)
-passes_fewer edges kinds base shared own [] zero more least passes = tt
-passes_fewer edges kinds base shared own [] (suc few) more least passes = tt
-passes_fewer edges kinds base shared own (step ∷ steps) zero more least passes = tt
-passes_fewer edges kinds base shared own (step ∷ steps) (suc few) zero least passes = absurd (omega (arith, least))
-passes_fewer edges kinds base shared own (step ∷ steps) (suc few) (suc more) least passes =
-    (passes.0, passes_fewer edges kinds base shared (own ++ step.clause ∷ []) steps few more (omega (arith, least)) passes.1)
-
-pub passes_first : (edges : List Edge) (kinds : List Kind) (base shared own : List (List Lit)) (steps : List Step) (few : ℕ) → OwnStepsPass edges kinds base shared own steps
-    → OwnStepsPass edges kinds base shared own (take few steps)
-passes_first edges kinds base shared own [] zero passes = tt
-passes_first edges kinds base shared own [] (suc few) passes = tt
-passes_first edges kinds base shared own (step ∷ steps) zero passes = tt
-passes_first edges kinds base shared own (step ∷ steps) (suc few) passes = (passes.0, passes_first edges kinds base shared (own ++ step.clause ∷ []) steps few passes.1)
 
 -- lists that go together fail nowhere
 pub here_not_all : {A B : Type 0} (Accepts Fails : A → B → Type 0) (Lacks : Type 0) → ((one : A) (other : B) → Fails one other → Accepts one other → ⊥) → (xs : List A) (ys : List B) (place : ℕ)

@@ -5,3 +5,4 @@ pub mod Rejected
 pub mod Checked
 pub mod Sound
 pub mod Laws
+pub mod FrontLaws

@@ -18,11 +18,12 @@ use Rattle.gp_report.specs.Entries.{entries_among}
 use Rattle.gp_window.specs.WindowForm.{WindowForm}
 use Rattle.gp_window.specs.Windows.{all_windows}
 use Rattle.gp_compact.specs.declared.moving.Sizes.{Sizes}
+use Rattle.gp_checker.specs.FrontLaws.{front_passes}
 use Rattle.gp_checker.specs.Accepted.{AcceptsBody, AcceptsProperty, AcceptsWindow}
 use Rattle.gp_compact.specs.Compact.{CompactKeepsAcceptance, IsSameWindow, are_few, body_by, compacted_over, compacted_window, compacted_windows, entries_told, over_list, property_by, sizes_of, steps_in, with_entries}
 use Rattle.gp_compact.specs.Moving.{compacted_steps, first_own}
 use Rattle.gp_constraint.specs.EncodedLaws.{is_encoded, is_valid}
-use Rattle.gp_compact.proofs.Gathered.{begins_itself, checks_front}
+use Rattle.gp_compact.proofs.Gathered.{begins_itself}
 use Rattle.gp_compact.proofs.Grown.{HasRoom, entries_add, entries_leave_room}
 use Rattle.gp_compact.proofs.Kept.{Fits, entries_begin, gather_entries, properties_kept, properties_pass}
 use Rattle.gp_compact.proofs.Sized.{IsSized, is_less}
@@ -76,7 +77,7 @@ module _ (window : WindowForm) (budget : ℕ) (properties : List PropertyForm) (
       first_ones : SharedPasses (base_of window) (with_entries sizes old (entries_among records)) → SharedPasses (base_of window) old
       first_ones checks =
           let begins = entries_begin sizes old (entries_among records) in
-          checks_front (base_of window).edges (base_of window).kinds (base_of window).clauses old begins.0 (subst (SharedPasses (base_of window)) begins.1 checks)
+          front_passes (base_of window).edges (base_of window).kinds (λ clauses. clauses) (λ clauses. clauses) (base_of window).clauses old begins.0 (subst (SharedPasses (base_of window)) begins.1 checks)
 
 module _ (valid : ProblemsAreValid) (budget : ℕ) (properties : List PropertyForm) where
   body_kept : (window encoded : WindowForm) (told : WindowRecord) (body : WindowBody) → base_due window ≡ Ok encoded → (b : Bool) → are_few (sizes_of encoded told.shared) body ≡ b
@@ -116,8 +117,8 @@ module _ (valid : ProblemsAreValid) (budget : ℕ) (properties : List PropertyFo
 
   windows_kept : (windows : List WindowForm) (records : List WindowRecord) → AllZip (AcceptsWindow properties budget) windows (compacted_windows windows records) ↔ AllZip (AcceptsWindow properties budget) windows records
   windows_kept [] [] = (λ h. h, λ h. h)
+  windows_kept (window ∷ windows) [] = (λ h. h, λ h. h)
   windows_kept [] (told ∷ records) = (λ h. h, λ h. h)
-  windows_kept (other ∷ windows) [] = (λ h. h, λ h. h)
   windows_kept (window ∷ windows) (told ∷ records) =
       let first = window_kept window told in
       let rest = windows_kept windows records in

@@ -1,15 +1,16 @@
 -- The first step of a list that is equal to another.
-use Rattle.std.proofs.Common.{◌≡◌, refl, ap, sym, ◌∙◌, subst, ℕ, ◌<◌, Bool, true, false, ◌&&◌, nat_lt, List, Option, Some, None, if◌then◌else◌, length, get_or}
+use Rattle.std.proofs.Common.{◌≡◌, refl, ap, sym, ◌∙◌, subst, ℕ, ◌<◌, Bool, true, false, ◌&&◌, nat_lt, List, Option, Some, length, get_or}
 use Rattle.std.specs.Cmp.{unsigned_Decides}
 use Rattle.std.specs.Cmp.Lexicographic.{pointwise, pointwise_decides}
 use Rattle.std.specs.List.{position, position_or_len, slice_get}
 use Rattle.std.specs.Prelude.{nat_eq}
 use Rattle.std.proofs.lemmas.Bool.{false≢true}
 use Rattle.std.proofs.lemmas.List.Sums.{passes_at_first}
-use Rattle.std.proofs.lemmas.Option.{cond_some, none-some, slice_get-get_or}
+use Rattle.std.proofs.lemmas.Option.{cond_some, slice_get-get_or}
 use Rattle.gp_clause.specs.Lit.{lit_eq}
 use Rattle.gp_clause.specs.LitLaws.{lits_decide}
 use Rattle.gp_certificate.specs.declared.step.Step.{Step}
+use Rattle.gp_window.specs.NumberLaws.{test_passed}
 use Rattle.gp_compact.specs.declared.moving.Sizes.{Sizes}
 use Rattle.gp_compact.specs.Moving.{moved_step, moves, place_of, step_eq}
 use Rattle.gp_compact.proofs.Sized.{is_less}
@@ -43,15 +44,10 @@ found_there step list place found =
     let at : slice_get list first ≡ Some step = slice_get-get_or list first step within ∙ ap (λ (s : Step). Some s) (sym same) in
     (subst (λ (n : ℕ). n < length list) parts.1 within, subst (λ (n : ℕ). slice_get list n ≡ Some step) parts.1 at)
 
--- a choice that gives something
-pub chosen : (b : Bool) (o : Option ℕ) (place : ℕ) → (if b then o else None) ≡ Some place → (b ≡ true) × (o ≡ Some place)
-chosen true o place h = (refl, h)
-chosen false o place h = absurd (none-some place h)
-
 -- a step with a place moves, and stands there
 pub placed_there : (sizes : Sizes) (list : List Step) (places : List (Option ℕ)) (step : Step) (place : ℕ) → place_of sizes list places step ≡ Some place
     → (moves sizes places step ≡ true) × (place < length list) × (slice_get list place ≡ Some (moved_step sizes places step))
 placed_there sizes list places step place at =
-    let parts = chosen (moves sizes places step) (position (step_eq (moved_step sizes places step)) list) place at in
+    let parts = test_passed (moves sizes places step) (position (step_eq (moved_step sizes places step)) list) place at in
     let there = found_there (moved_step sizes places step) list place parts.1 in
     (parts.0, there.0, there.1)

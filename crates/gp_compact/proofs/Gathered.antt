@@ -10,7 +10,9 @@ use Rattle.gp_clause.specs.declared.edge.Edge.{Edge}
 use Rattle.gp_clause.specs.declared.kind.Kind.{Kind}
 use Rattle.gp_clause.specs.declared.lit.Lit.{Lit}
 use Rattle.gp_certificate.specs.declared.step.Step.{Step}
-use Rattle.gp_certificate.specs.Certificate.{StepChecks, StepsCheck, clauses_of, StepPasses}
+use Rattle.gp_certificate.specs.Certificate.{StepsCheck, clauses_of, StepPasses}
+use Rattle.gp_certificate.specs.CheckingLaws.{check_append}
+use Rattle.gp_checker.specs.FrontLaws.{first_pass}
 use Rattle.gp_base.specs.ListLaws.{slice_get_back, slice_get_front}
 use Rattle.gp_certificate.specs.Shared.{OwnStepsPass}
 use Rattle.gp_compact.specs.declared.moving.Sizes.{Sizes}
@@ -88,19 +90,6 @@ placed_more sizes list more places own step begins size placed = λ k place at. 
                   ∙ sym (last_clause own step.clause k (omega (arith, same, size))),
             )
 
--- steps check one after the other
-pub checks_push : (edges : List Edge) (kinds : List Kind) (earlier : List (List Lit)) (list : List Step) (step : Step) → StepsCheck edges kinds earlier list
-    → StepChecks edges kinds (earlier ++ clauses_of list) step → StepsCheck edges kinds earlier (list ++ step ∷ [])
-checks_push edges kinds earlier [] step checks last = (subst (λ (cs : List (List Lit)). StepChecks edges kinds cs step) (append-nil earlier) last, tt)
-checks_push edges kinds earlier (first ∷ list) step checks last =
-    let same : earlier ++ clauses_of (first ∷ list) ≡ earlier ++ first.clause ∷ [] ++ clauses_of list = sym (append_assoc earlier (first.clause ∷ []) (clauses_of list)) in
-    (checks.0, checks_push edges kinds (earlier ++ first.clause ∷ []) list step checks.1 (subst (λ (cs : List (List Lit)). StepChecks edges kinds cs step) same last))
-
--- and so do the first of them
-pub checks_front : (edges : List Edge) (kinds : List Kind) (earlier : List (List Lit)) (list more : List Step) → StepsCheck edges kinds earlier (list ++ more) → StepsCheck edges kinds earlier list
-checks_front edges kinds earlier [] more checks = tt
-checks_front edges kinds earlier (first ∷ list) more checks = (checks.0, checks_front edges kinds (earlier ++ first.clause ∷ []) list more checks.1)
-
 -- a step that rests on earlier ones has a hint, and its hints are below its number
 pub has_hint : (number : ℕ) (step : Step) → rests_on_earlier number step ≡ true → HasHint step
 has_hint number step rests = some step.hints (both (not (length step.hints == 0)) (list_all (λ hint. nat_lt hint number) step.hints) rests).0
@@ -143,12 +132,7 @@ certificate_begins sizes list steps = by (are_movable (first_own sizes) steps)
     by true = steps_begin sizes list [] (front_of steps)
     by false = begins_itself list
 
--- the first steps of a certificate pass, and may move where all may
-pub own_front : (edges : List Edge) (kinds : List Kind) (base shared own : List (List Lit)) (n : ℕ) (steps : List Step) → OwnStepsPass edges kinds base shared own steps → OwnStepsPass edges kinds base shared own (take n steps)
-own_front edges kinds base shared own zero steps passes = tt
-own_front edges kinds base shared own (suc n) [] passes = tt
-own_front edges kinds base shared own (suc n) (step ∷ steps) passes = (passes.0, own_front edges kinds base shared (own ++ step.clause ∷ []) n steps passes.1)
-
+-- the first steps of a certificate may move where all may
 pub movable_front : (number n : ℕ) (steps : List Step) → are_movable number steps ≡ true → are_movable number (take n steps) ≡ true
 movable_front number zero steps movable = refl
 movable_front number (suc n) [] movable = refl
@@ -172,7 +156,7 @@ module _ (edges : List Edge) (kinds : List Kind) (base : List (List Lit)) (old :
       pushed : moves sizes places step ≡ true → (b : Bool) → StepsCheck edges kinds base (if b then list else (list ++ moved_step sizes places step ∷ []))
       pushed moving true = checks
       pushed moving false =
-          checks_push edges kinds base list (moved_step sizes places step) checks (moved_checks edges kinds locals base old sizes is list begins places own free placed step some moving checks passes)
+          check_append edges kinds base list (moved_step sizes places step ∷ []) checks (moved_checks edges kinds locals base old sizes is list begins places own free placed step some moving checks passes, tt)
 
       by : (b : Bool) → moves sizes places step ≡ b → StepsCheck edges kinds base (if b then with_step list (moved_step sizes places step) else list)
       by true moving = pushed moving (list_any (step_eq (moved_step sizes places step)) list)
@@ -204,5 +188,5 @@ module _ (edges : List Edge) (kinds : List Kind) (base : List (List Lit)) (old :
           let none : first_own sizes ≡ first_own sizes + 0 = omega arith in
           gather_steps locals list begins [] [] refl (none_placed list) (front_of steps)
           (subst (λ (n : ℕ). are_movable n (front_of steps) ≡ true) none (movable_front (first_own sizes) (length steps - 1) steps movable)) checks
-          (own_front edges (kinds ++ locals) base (clauses_of old) [] (length steps - 1) steps passes)
+          (first_pass edges (kinds ++ locals) (λ clauses. base ++ clauses_of old ++ clauses) (λ clauses. base ++ clauses) [] steps (length steps - 1) passes)
       by false movable = checks

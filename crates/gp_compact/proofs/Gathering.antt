@@ -11,6 +11,7 @@ use Rattle.gp_clause.specs.Clause.{NamesBelow}
 use Rattle.gp_certificate.specs.declared.step.Step.{Step}
 use Rattle.gp_certificate.specs.Certificate.{StepChecks, StepsCheck, clauses_of, StepPasses}
 use Rattle.gp_base.specs.ListLaws.{contains_got}
+use Rattle.gp_certificate.specs.CheckingLaws.{steps_within}
 use Rattle.gp_certificate.specs.NamedLaws.{named_all}
 use Rattle.gp_certificate.specs.Step.{Passes, named}
 use Rattle.gp_compact.specs.declared.moving.Sizes.{Sizes}
@@ -90,12 +91,6 @@ pub named_below : (n : ℕ) (clauses : List (List Lit)) (hints : List ℕ) → A
 named_below n clauses hints below =
     named_all (NamesBelow n) clauses hints (λ hint clause within got. All-contains (NamesBelow n) clauses clause below (contains_got clauses hint clause got))
 
--- the clauses of shared steps that check have base variables
-pub checked_below : (edges : List Edge) (kinds : List Kind) (earlier : List (List Lit)) (steps : List Step) → StepsCheck edges kinds earlier steps → All (NamesBelow (length kinds)) (clauses_of steps)
-checked_below edges kinds earlier [] checks = All-nil (NamesBelow (length kinds))
-checked_below edges kinds earlier (step ∷ steps) checks =
-    All-cons (NamesBelow (length kinds)) step.clause (clauses_of steps) checks.0.passes.in_range (checked_below edges kinds (earlier ++ step.clause ∷ []) steps checks.1)
-
 pub map_length : (f : ℕ → ℕ) (hints : List ℕ) → 0 < length hints → 0 < length (map f hints)
 map_length f hints some = omega (arith, length-map hints f)
 
@@ -118,7 +113,7 @@ module _ (edges : List Edge) (kinds locals : List Kind) (base : List (List Lit))
       subst (ByKinds (kinds ++ locals) step.clause) (usable_named edges (kinds ++ locals) first second f free step.hints some) passes.passes in
       let renamed : Passes edges (kinds ++ locals) (named second (map f step.hints)) step.clause =
       subst (ByKinds (kinds ++ locals) step.clause) (sym (named_same first second f step.hints names)) by_names in
-      let below : All (NamesBelow (length kinds)) second = All-append (NamesBelow (length kinds)) base (clauses_of list) is.below (checked_below edges kinds base list checks) in
+      let below : All (NamesBelow (length kinds)) second = All-append (NamesBelow (length kinds)) base (clauses_of list) is.below (steps_within edges kinds (λ clauses. clauses) (λ clauses. clauses) base list checks) in
       let bare : Passes edges kinds (named second (map f step.hints)) step.clause =
       passes_bare edges kinds locals (named second (map f step.hints)) step.clause (named_below (length kinds) second (map f step.hints) below) (moved_below kinds base old sizes is list begins places own [] placed step moved) renamed in
       record {

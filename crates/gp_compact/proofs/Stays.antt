@@ -12,6 +12,8 @@ use Rattle.gp_clause.specs.declared.lit.Lit.{Lit}
 use Rattle.gp_clause.specs.Clause.{NamesBelow}
 use Rattle.gp_certificate.specs.declared.step.Step.{Step}
 use Rattle.gp_certificate.specs.Certificate.{StepChecks, StepsCheck, clauses_of, StepPasses}
+use Rattle.gp_certificate.specs.CheckingLaws.{steps_within}
+use Rattle.gp_checker.specs.FrontLaws.{first_pass}
 use Rattle.gp_base.specs.ListLaws.{slice_get_front}
 use Rattle.gp_derivation.specs.Numbering.{with_hints}
 use Rattle.gp_certificate.specs.Shared.{OwnStepsPass}
@@ -20,8 +22,8 @@ use Rattle.gp_compact.specs.declared.moving.Sizes.{Sizes}
 use Rattle.gp_compact.specs.Moving.{are_movable, first_own, moved_step, moves, new_number, own_number, place_at, place_of, places_of, rests_on_earlier, shared_number, staying}
 use Rattle.gp_compact.proofs.Alike.{passes_local}
 use Rattle.gp_compact.proofs.Found.{both, placed_there}
-use Rattle.gp_compact.proofs.Gathered.{begins_itself, checks_front, has_hint, hints_below, none_placed, placed_more}
-use Rattle.gp_compact.proofs.Gathering.{ArePlaced, checked_below, map_length, moved_same, named_below}
+use Rattle.gp_compact.proofs.Gathered.{begins_itself, has_hint, hints_below, none_placed, placed_more}
+use Rattle.gp_compact.proofs.Gathering.{ArePlaced, map_length, moved_same, named_below}
 use Rattle.gp_compact.proofs.Renamed.{HasHint, NamesSame, hinted_named, named_same, passes_renamed, renamed_passes, usable_named}
 use Rattle.gp_compact.proofs.Sized.{BeginsWith, IsSized, own_follow}
 use Rattle.gp_compact.proofs.Stayed.{ArePlaces, AreRenumbered, all_unmapped, certificate_places, checks_at, first_renumbered, moved_renumbered, stayed_renumbered}
@@ -113,10 +115,10 @@ module _ (edges : List Edge) (kinds locals : List Kind) (base : List (List Lit))
       below =
           let parted : base ++ clauses_of list ≡ base ++ clauses_of (take place list) ++ clauses_of (drop place list) = sym (append-nil (base ++ clauses_of list)) ∙ whole in
           All-append (NamesBelow (length kinds)) base (clauses_of (take place list)) is.below
-          (λ k d inside. checked_below edges kinds base (take place list) (front_checks place) k d inside)
+          (λ k d inside. steps_within edges kinds (λ clauses. clauses) (λ clauses. clauses) base (take place list) (front_checks place) k d inside)
         where
           front_checks : (n : ℕ) → StepsCheck edges kinds base (take n list)
-          front_checks n = checks_front edges kinds base (take n list) (drop n list) (subst (StepsCheck edges kinds base) (sym (take-append-drop n list)) checks)
+          front_checks n = first_pass edges kinds (λ clauses. clauses) (λ clauses. clauses) base list n checks
 
       local : Passes edges (kinds ++ locals) (named (base ++ clauses_of (take place list)) (map (shared_number sizes before) step.hints)) step.clause
       local =

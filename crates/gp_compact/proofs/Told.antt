@@ -1,5 +1,5 @@
 -- A text can tell what a report becomes.
-use Rattle.std.proofs.Common.{◌≡◌, refl, ap, sym, ◌∙◌, subst, inr, ℕ, ◌-◌, Bool, true, false, List, [], ◌∷◌, ◌++◌, Option, Result, Ok, Err, length, map, All, arith}
+use Rattle.std.proofs.Common.{◌≡◌, refl, ap, sym, ◌∙◌, subst, inr, ℕ, ◌-◌, Bool, true, false, List, [], ◌∷◌, ◌++◌, Option, Result, Ok, Err, length, map, drop, All, arith}
 use Rattle.std.specs.Prelude.{if◌then◌else◌}
 use Rattle.std.specs.List.{AllZip, list_any}
 use Rattle.std.proofs.lemmas.List.{length-map}
@@ -24,7 +24,7 @@ use Rattle.gp_window.specs.RecordingForm.{RecordingForm}
 use Rattle.gp_window.specs.WindowForm.{WindowForm, numbers_from}
 use Rattle.gp_window.specs.Windows.{all_windows}
 use Rattle.gp_compact.specs.declared.moving.Sizes.{Sizes}
-use Rattle.gp_compact.specs.Compact.{IsSameWindow, answer_by, are_few, body_by, compacted_by, compacted_over, compacted_window, compacted_windows, entries_by, entries_told, entry_by, over_list, own_steps, property_by, sizes_of, with_entries}
+use Rattle.gp_compact.specs.Compact.{IsSameWindow, answer_by, are_few, body_by, compacted_by, compacted_next, compacted_over, compacted_window, compacted_windows, entries_by, entries_told, entry_by, over_list, own_steps, property_by, sizes_of, with_entries}
 use Rattle.gp_compact.specs.Moving.{are_movable, compacted_steps, first_own, front_of, moved_step, moves, new_number, place_of, places_of, raised, staying, step_eq, with_certificate, with_moved, with_step, with_steps}
 use Rattle.gp_compact.proofs.NewNumbers.{staying_all}
 
@@ -119,6 +119,10 @@ over_told sizes shared (TooLarge events clauses) told = told
 over_told sizes shared (Answers properties) told =
     answers_told (compacted_steps sizes (with_entries sizes shared (entries_told (Answers properties)))) (compacted_told sizes (with_entries sizes shared (entries_told (Answers properties)))) shared properties told
 
+-- what can be told can be told in format 2
+in_second : (format : ℕ) (told : WindowRecord) → IsWindowRecord format told → IsWindowRecord 2 told
+in_second format told is = record { shared = is.shared; first_format = λ wrong. absurd (omega (arith, wrong)); body = is.body }
+
 by_told : (format : ℕ) (sizes : Sizes) (told : WindowRecord) → IsWindowRecord format told → IsWindowRecord 2 (compacted_by sizes told)
 by_told format sizes told is = by (are_few sizes told.body)
   where
@@ -128,22 +132,24 @@ by_told format sizes told is = by (are_few sizes told.body)
       first_format = λ wrong. absurd (omega (arith, wrong));
       body = over_told sizes told.shared told.body is.body;
     }
-    by false = record { shared = is.shared; first_format = λ wrong. absurd (omega (arith, wrong)); body = is.body }
+    by false = in_second format told is
 
 window_told : (format : ℕ) (window : WindowForm) (told : WindowRecord) → IsWindowRecord format told → IsWindowRecord 2 (compacted_window window told)
 window_told format window told is = by (base_due window)
   where
     by : (due : Result WindowForm BaseFault) → IsWindowRecord 2 (compacted_over due told)
     by (Ok encoded) = by_told format (sizes_of encoded told.shared) told is
-    by (Err fault) = record { shared = is.shared; first_format = λ wrong. absurd (omega (arith, wrong)); body = is.body }
+    by (Err fault) = in_second format told is
+
+next_told : (format : ℕ) (windows : List WindowForm) (told : WindowRecord) → IsWindowRecord format told → IsWindowRecord 2 (compacted_next windows told)
+next_told format [] told is = in_second format told is
+next_told format (window ∷ windows) told is = window_told format window told is
 
 windows_told : (format : ℕ) (windows : List WindowForm) (records : List WindowRecord) → All (IsWindowRecord format) records → All (IsWindowRecord 2) (compacted_windows windows records)
-windows_told format [] records told =
-    All-weaker (IsWindowRecord format) (IsWindowRecord 2) (λ one is. record { shared = is.shared; first_format = λ wrong. absurd (omega (arith, wrong)); body = is.body }) records told
-windows_told format (window ∷ windows) [] told = All-nil (IsWindowRecord 2)
-windows_told format (window ∷ windows) (one ∷ records) told =
-    All-cons (IsWindowRecord 2) (compacted_window window one) (compacted_windows windows records)
-    (window_told format window one (All-head (IsWindowRecord format) one records told)) (windows_told format windows records (All-tail (IsWindowRecord format) one records told))
+windows_told format windows [] told = All-nil (IsWindowRecord 2)
+windows_told format windows (one ∷ records) told =
+    All-cons (IsWindowRecord 2) (compacted_next windows one) (compacted_windows (drop 1 windows) records)
+    (next_told format windows one (All-head (IsWindowRecord format) one records told)) (windows_told format (drop 1 windows) records (All-tail (IsWindowRecord format) one records told))
 
 -- numbers stay
 by_number : (sizes : Sizes) (told : WindowRecord) → (compacted_by sizes told).number ≡ told.number
@@ -163,10 +169,13 @@ window_number window told = by (base_due window)
 abbrev number_in : WindowRecord → ℕ
 number_in window = window.number
 
+next_number : (windows : List WindowForm) (told : WindowRecord) → (compacted_next windows told).number ≡ told.number
+next_number [] told = refl
+next_number (window ∷ windows) told = window_number window told
+
 windows_numbers : (windows : List WindowForm) (records : List WindowRecord) → map number_in (compacted_windows windows records) ≡ map number_in records
-windows_numbers [] records = refl
-windows_numbers (window ∷ windows) [] = refl
-windows_numbers (window ∷ windows) (one ∷ records) = λ i. window_number window one i ∷ windows_numbers windows records i
+windows_numbers windows [] = refl
+windows_numbers windows (one ∷ records) = λ i. next_number windows one i ∷ windows_numbers (drop 1 windows) records i
 
 -- windows that are told alike have the same numbers, and can be told alike
 same_numbers : (ones others : List WindowRecord) → AllZip IsSameWindow ones others → map number_in others ≡ map number_in ones

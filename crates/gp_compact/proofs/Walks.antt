@@ -117,10 +117,6 @@ fit_more sizes list places place step fit at room = λ own. by own (cases_lt own
             subst (λ (n : ℕ). sizes.clauses + unwrap_or (place_at (places ++ place ∷ []) n) 0 < 2 ^ 32) same
             (subst (λ (o : Option ℕ). sizes.clauses + unwrap_or o 0 < 2 ^ 32) (sym (place_last places place)) (here place refl))
 
--- before the first step all fit
-pub none_fit : (sizes : Sizes) → sizes.clauses < 2 ^ 32 → PlacesFit sizes []
-none_fit sizes room = λ own. subst (λ (o : Option ℕ). sizes.clauses + unwrap_or o 0 < 2 ^ 32) (sym (place_past [] own (omega arith))) (omega (arith, room))
-
 -- room for more is room for fewer
 pub room_less : (rewriting : Rewriting) (more fewer : ℕ) → fewer ≤ more → RoomFor rewriting more → RoomFor rewriting fewer
 room_less (Over sizes list) more fewer less room = (omega (arith, less, room.0), room.1)

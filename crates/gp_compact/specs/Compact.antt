@@ -1,5 +1,5 @@
 -- The report in which those steps of a window's certificates that rest on its base alone stand once, in its shared list.
-use Rattle.std.specs.Prelude.{ℕ, ◌≡◌, ◌+◌, ◌^◌, ◌↔◌, Bool, List, [], ◌∷◌, Result, Ok, Err, if◌then◌else◌, fold, length, map, nat_lt, sum_by}
+use Rattle.std.specs.Prelude.{ℕ, ◌≡◌, ◌+◌, ◌^◌, ◌↔◌, Bool, List, [], ◌∷◌, Result, Ok, Err, if◌then◌else◌, drop, fold, length, map, nat_lt, sum_by}
 use Rattle.std.specs.List.{AllZip}
 use Rattle.gp_constraint.specs.declared.fault.BaseFault.{BaseFault}
 use Rattle.gp_constraint.specs.Encoded.{base_due}
@@ -98,11 +98,15 @@ compacted_over (Err fault) told = told
 abbrev pub compacted_window : WindowForm → WindowRecord → WindowRecord
 compacted_window window told = compacted_over (base_due window) told
 
--- the records of some windows; those over the epochs stay as they are
+-- the record of the next window; one over the epochs stays as it is
+abbrev pub compacted_next : List WindowForm → WindowRecord → WindowRecord
+compacted_next (window ∷ windows) told = compacted_window window told
+compacted_next [] told = told
+
+-- the records of some windows, one by one
 abbrev pub compacted_windows : List WindowForm → List WindowRecord → List WindowRecord
-compacted_windows (window ∷ windows) (told ∷ more) = compacted_window window told ∷ compacted_windows windows more
-compacted_windows [] more = more
-compacted_windows (window ∷ windows) [] = []
+compacted_windows windows [] = []
+compacted_windows windows (told ∷ more) = compacted_next windows told ∷ compacted_windows (drop 1 windows) more
 
 -- a report in format 2, with the steps moved window by window
 abbrev pub compacted : RecordingForm → ReportForm → ReportForm

@@ -1,9 +1,8 @@
-ghost use Rattle.std.specs.Prelude.{◌≡◌, ◌+◌, ◌++◌, if◌then◌else◌, true, IfOk, List, None, Some, length, min};
+ghost use Rattle.std.specs.Prelude.{◌≡◌, ◌+◌, if◌then◌else◌, true, IfOk, None, Some, drop, length, min};
 ghost use Rattle.std.specs.List.{AllZip};
 ghost use Rattle.gp_report.specs.declared.record.WindowRecord.{WindowRecord};
-ghost use Rattle.gp_window.specs.WindowForm.{window_of};
 ghost use Rattle.gp_window.specs.Windows.{all_windows};
-ghost use Rattle.gp_compact.specs.Compact.{CompactKeepsAcceptance, IsCompacted, IsSameWindow, are_few, compacted_by, compacted_windows, compacted_window, entries_told, own_steps, sizes_of, steps_in};
+ghost use Rattle.gp_compact.specs.Compact.{CompactKeepsAcceptance, IsCompacted, IsSameWindow, are_few, compacted_by, compacted_next, compacted_windows, compacted_window, entries_told, own_steps, sizes_of, steps_in};
 
 use crate::copying::{copy_steps, copy_workers};
 use crate::moving::Sizes;
@@ -13,7 +12,7 @@ use gp_base::Row;
 use gp_certificate::Step;
 use gp_constraint::{BaseFault, Encoded, base, problems_are_valid};
 use gp_report::{Answer, Entry, Report, WindowBody, WindowRecord};
-use gp_window::{Recording, Window, WindowWalk};
+use gp_window::{Recording, Window, Windows};
 use std::alloc::{AllocError, Global};
 
 // Nothing moves in a window with so many base clauses, shared steps and steps of certificates together, or more.
@@ -43,45 +42,26 @@ fn compact_windows(
     ensures { IfOk result (AllZip IsSameWindow (compacted_windows (all_windows recording.now) records.now)) }
 {
     let mut made = Vec::new(alloc);
-    let mut walk = WindowWalk::new(alloc, recording)?;
-    loop {
-        let number = walk.number();
-        let Some(told) = records.get(number as usize - 1) else {
-            return Ok(Row::from_vec(made));
-        };
-        made.push(compact_cut(alloc, &walk, told)?)?;
-        let Some(next) = walk.advance()? else {
-            return with_rest(alloc, made, &records[number as usize..]);
-        };
-        walk = next;
-    }
-}
-
-// These windows, and copies of those over the epochs.
-fn with_rest(
-    alloc: Global,
-    made: Vec<WindowRecord>,
-    records: &[WindowRecord],
-) -> Result<Row<WindowRecord>, AllocError>
-    ensures { IfOk result (λ whole. (ones : List WindowRecord) → AllZip IsSameWindow ones made.items → AllZip IsSameWindow (ones ++ records.now) whole) }
-{
-    let mut whole = made;
+    let mut windows = Windows::new(alloc, recording)?;
     for told in records {
-        whole.push(copy_window(alloc, told)?)?;
+        made.push(compact_next(alloc, &mut windows, told)?)?;
     }
-    Ok(Row::from_vec(whole))
+    Ok(Row::from_vec(made))
 }
 
-// The record of the window at which a walk stands.
-fn compact_cut(
+// The record of the next window; one over the epochs is copied.
+fn compact_next(
     alloc: Global,
-    walk: &WindowWalk,
+    windows: &mut Windows,
     told: &WindowRecord,
 ) -> Result<WindowRecord, AllocError>
-    ensures { IfOk result (IsSameWindow (compacted_window (window_of walk.now.recording walk.now.number) told.now)) }
+    ensures made { IfOk result (IsSameWindow (compacted_next windows.old told.now)) }
+    ensures left { IfOk result (λ made. windows.new ≡ drop 1 windows.old) }
 {
-    let window = walk.window(alloc)?;
-    compact_window(alloc, window, told)
+    match windows.next(alloc)? {
+        Some(window) => compact_window(alloc, window, told),
+        None => copy_window(alloc, told),
+    }
 }
 
 fn compact_window(

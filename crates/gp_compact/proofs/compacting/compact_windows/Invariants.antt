@@ -1,9 +1,8 @@
-use Rattle.std.proofs.Common.{◌≡◌, ◌-◌}
+use Rattle.std.proofs.Common.{drop}
+use Rattle.gp_window.specs.Windows.{all_windows}
+use Rattle.gp_compact.specs.Compact.{compacted_windows}
 use Rattle.gp_compact.proofs.Windows.{AreMade}
 use Rattle.gp_compact.proofs.compacting.compact_windows.Given as goal
 
-abbrev pub decreases-loop-told : goal.decreases-loop-told
-decreases-loop-told l = l.recording.manifest.epochs - l.walk.number
-
 abbrev pub invariant-loop-told : goal.invariant-loop-told
-invariant-loop-told l = (l.walk.recording ≡ l.recording) × AreMade l.recording l.records l.walk.number l.made.items
+invariant-loop-told l = AreMade (compacted_windows (all_windows l.recording) l.records) l.windows (drop l.told-index l.records) l.made.items

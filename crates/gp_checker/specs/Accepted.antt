@@ -65,14 +65,14 @@ AcceptsProperty window budget shared (number, property) told =
     (told.name ≡ property.name) × AcceptsListed window budget shared property (due_instances window property number) told.body
 
 -- a window is told as too large, with these two numbers
-abbrev pub TellsSize : ℕ → ℕ → WindowBody → Type 0
-TellsSize events clauses (told.TooLarge more_events more_clauses) = (more_events ≡ events) × (more_clauses ≡ clauses)
-TellsSize events clauses (told.Answers records) = ⊥
+abbrev pub HasSize : ℕ → ℕ → WindowBody → Type 0
+HasSize events clauses (told.TooLarge more_events more_clauses) = (more_events ≡ events) × (more_clauses ≡ clauses)
+HasSize events clauses (told.Answers records) = ⊥
 
 -- what is told of a window: too large exactly where it is, with its numbers; else the shared steps pass, and there is a
 -- record for each property
 abbrev pub AcceptsBody : WindowForm → ℕ → List PropertyForm → List Step → Result WindowForm BaseFault → WindowBody → Type 0
-AcceptsBody window budget properties shared (Err (TooLarge events clauses)) body = TellsSize events clauses body
+AcceptsBody window budget properties shared (Err (TooLarge events clauses)) body = HasSize events clauses body
 AcceptsBody window budget properties shared (Ok encoded) (told.Answers records) =
     SharedPasses (base_of window) shared
     × AllZip (AcceptsProperty window budget shared) (enumerate_from 0 properties) records

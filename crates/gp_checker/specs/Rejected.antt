@@ -37,7 +37,7 @@ use Rattle.gp_window.specs.Windows.{all_windows}
 use Rattle.gp_checker.specs.declared.failure.Failure.{Failure}
 use Rattle.gp_checker.specs.declared.failure.Reason.{Reason}
 use Rattle.gp_checker.specs.declared.failure.Reason.TheVariants.{WindowCount, WrongSize, WrongProperty, WrongEvents, Stuck, Unmatched, BadStep, Unrefuted, WrongBudget, BadSharedStep}
-use Rattle.gp_checker.specs.Accepted.{AcceptsEntry, AcceptsProperty, AcceptsWindow, RefutesAtLast, TellsSize}
+use Rattle.gp_checker.specs.Accepted.{AcceptsEntry, AcceptsProperty, AcceptsWindow, RefutesAtLast, HasSize}
 use Rattle.gp_checker.specs.First.{FailsFirst}
 use Rattle.gp_checker.specs.Reasons.{IsOfProperty, IsOfWindow}
 
@@ -99,7 +99,7 @@ FailsShared problem shared failure =
 -- property is the first that fails, is missing or is surplus
 abbrev pub FailsBody : WindowForm → ℕ → List PropertyForm → List Step → Failure → Result WindowForm BaseFault → WindowBody → Type 0
 FailsBody window budget properties shared failure (Err (TooLarge events clauses)) body =
-    IsOfWindow WrongSize failure × (TellsSize events clauses body → ⊥)
+    IsOfWindow WrongSize failure × (HasSize events clauses body → ⊥)
 FailsBody window budget properties shared failure (Err Memory) body = ⊥
 FailsBody window budget properties shared failure (Ok encoded) (told.TooLarge events clauses) = IsOfWindow WrongSize failure
 FailsBody window budget properties shared failure (Ok encoded) (told.Answers records) =

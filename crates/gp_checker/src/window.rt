@@ -1,6 +1,6 @@
 ghost use Rattle.std.specs.Prelude.{◌≡◌, ◌≤◌, ◌↔◌, IsTrue, IfOk, MatchOption, length, Ok};
 ghost use Rattle.gp_constraint.specs.Base.{base_of};
-ghost use Rattle.gp_checker.specs.Accepted.{AcceptsBody, AcceptsWindow, TellsSize};
+ghost use Rattle.gp_checker.specs.Accepted.{AcceptsBody, AcceptsWindow, HasSize};
 ghost use Rattle.gp_checker.specs.Reasons.{IsOfWindow};
 ghost use Rattle.gp_checker.specs.Rejected.{FailsBody, FailsWindow};
 
@@ -37,16 +37,16 @@ pub(crate) fn check_window(
 
 // How what is told of a window fails that is too large, with these numbers.
 fn check_size(body: &WindowBody, events: u64, clauses: u64) -> Option<Failure>
-    ensures { MatchOption result (TellsSize events clauses body.now) (λ failure. IsOfWindow Reason.WrongSize failure × (TellsSize events clauses body.now → ⊥)) }
+    ensures { MatchOption result (HasSize events clauses body.now) (λ failure. IsOfWindow Reason.WrongSize failure × (HasSize events clauses body.now → ⊥)) }
 {
-    if tells_size(body, events, clauses) {
+    if has_size(body, events, clauses) {
         return None;
     }
     Some(Failure::of(Reason::WrongSize, 0))
 }
 
-fn tells_size(body: &WindowBody, events: u64, clauses: u64) -> bool
-    ensures { IsTrue result ↔ TellsSize events clauses body.now }
+fn has_size(body: &WindowBody, events: u64, clauses: u64) -> bool
+    ensures { IsTrue result ↔ HasSize events clauses body.now }
 {
     match body {
         WindowBody::TooLarge {

@@ -20,7 +20,7 @@ use Rattle.gp_window.specs.Windows.{all_windows}
 use Rattle.gp_compact.specs.declared.moving.Sizes.{Sizes}
 use Rattle.gp_checker.specs.FrontLaws.{front_passes}
 use Rattle.gp_checker.specs.Accepted.{AcceptsBody, AcceptsProperty, AcceptsWindow}
-use Rattle.gp_compact.specs.Compact.{CompactKeepsAcceptance, IsSameWindow, are_few, body_by, compacted_over, compacted_window, compacted_windows, entries_told, over_list, property_by, sizes_of, steps_in, with_entries}
+use Rattle.gp_compact.specs.Compact.{CompactKeepsAcceptance, IsSameWindow, are_few, body_by, compacted_over, compacted_window, compacted_windows, entries_in_body, over_list, property_by, sizes_of, steps_in, with_entries}
 use Rattle.gp_compact.specs.Moving.{compacted_steps, first_own}
 use Rattle.gp_constraint.specs.EncodedLaws.{is_encoded, is_valid}
 use Rattle.gp_compact.proofs.Gathered.{begins_itself}
@@ -82,8 +82,8 @@ module _ (window : WindowForm) (budget : ℕ) (properties : List PropertyForm) (
 module _ (valid : ProblemsAreValid) (budget : ℕ) (properties : List PropertyForm) where
   body_kept : (window encoded : WindowForm) (told : WindowRecord) (body : WindowBody) → base_due window ≡ Ok encoded → (b : Bool) → are_few (sizes_of encoded told.shared) body ≡ b
       → AcceptsBody window budget properties told.shared (Ok encoded) body
-      ↔ AcceptsBody window budget properties (if b then with_entries (sizes_of encoded told.shared) told.shared (entries_told body) else told.shared) (Ok encoded)
-      (if b then body_by (compacted_steps (sizes_of encoded told.shared) (with_entries (sizes_of encoded told.shared) told.shared (entries_told body))) body else body)
+      ↔ AcceptsBody window budget properties (if b then with_entries (sizes_of encoded told.shared) told.shared (entries_in_body body) else told.shared) (Ok encoded)
+      (if b then body_by (compacted_steps (sizes_of encoded told.shared) (with_entries (sizes_of encoded told.shared) told.shared (entries_in_body body))) body else body)
   body_kept window encoded told body due false many = (λ h. h, λ h. h)
   body_kept window encoded told (TooLarge events clauses) due true few = (λ h. h, λ h. h)
   body_kept window encoded told (Answers records) due true few =
@@ -92,10 +92,10 @@ module _ (valid : ProblemsAreValid) (budget : ℕ) (properties : List PropertyFo
 
   -- a window with these sizes, in parts
   by_parts : (window : WindowForm) (sizes : Sizes) (told : WindowRecord) (b : Bool)
-      → AcceptsBody window budget properties (if b then over_list sizes (with_entries sizes told.shared (entries_told told.body)) told else told).shared (base_due window)
-      (if b then over_list sizes (with_entries sizes told.shared (entries_told told.body)) told else told).body
-      ↔ AcceptsBody window budget properties (if b then with_entries sizes told.shared (entries_told told.body) else told.shared) (base_due window)
-      (if b then body_by (compacted_steps sizes (with_entries sizes told.shared (entries_told told.body))) told.body else told.body)
+      → AcceptsBody window budget properties (if b then over_list sizes (with_entries sizes told.shared (entries_in_body told.body)) told else told).shared (base_due window)
+      (if b then over_list sizes (with_entries sizes told.shared (entries_in_body told.body)) told else told).body
+      ↔ AcceptsBody window budget properties (if b then with_entries sizes told.shared (entries_in_body told.body) else told.shared) (base_due window)
+      (if b then body_by (compacted_steps sizes (with_entries sizes told.shared (entries_in_body told.body))) told.body else told.body)
   by_parts window sizes told true = (λ h. h, λ h. h)
   by_parts window sizes told false = (λ h. h, λ h. h)
 
@@ -111,8 +111,8 @@ module _ (valid : ProblemsAreValid) (budget : ℕ) (properties : List PropertyFo
           let kept = body_kept window encoded told told.body is (are_few sizes told.body) refl in
           let P : Result WindowForm BaseFault → Type 0 = λ due. AcceptsBody window budget properties told.shared due told.body in
           let Q : Result WindowForm BaseFault → Type 0 =
-          λ due. AcceptsBody window budget properties (if are_few sizes told.body then with_entries sizes told.shared (entries_told told.body) else told.shared) due
-          (if are_few sizes told.body then body_by (compacted_steps sizes (with_entries sizes told.shared (entries_told told.body))) told.body else told.body) in
+          λ due. AcceptsBody window budget properties (if are_few sizes told.body then with_entries sizes told.shared (entries_in_body told.body) else told.shared) due
+          (if are_few sizes told.body then body_by (compacted_steps sizes (with_entries sizes told.shared (entries_in_body told.body))) told.body else told.body) in
           (λ h. subst P (sym is) (kept.1 (subst Q is (parts.0 h))), λ h. parts.1 (subst Q (sym is) (kept.0 (subst P is h))))
 
   windows_kept : (windows : List WindowForm) (records : List WindowRecord) → AllZip (AcceptsWindow properties budget) windows (compacted_windows windows records) ↔ AllZip (AcceptsWindow properties budget) windows records

@@ -14,7 +14,7 @@ use Rattle.gp_clause.specs.Lit.{lit_eq}
 use Rattle.gp_certificate.specs.declared.step.Step.{Step}
 use Rattle.gp_compact.specs.contracts.shared_list.StepKeyPartialEq.TheImpl.{eq-value}
 use Rattle.gp_compact.specs.declared.shared_list.StepKey.{StepKey}
-use Rattle.gp_compact.specs.Keys.{IsKeyOf, TellsFirsts, is_key_of}
+use Rattle.gp_compact.specs.Keys.{IsKeyOf, HasFirsts, is_key_of}
 use Rattle.gp_compact.specs.Moving.{step_eq}
 use Rattle.gp_compact.proofs.Found.{same_step, step_same}
 use Rattle.gp_compact.proofs.Sized.{is_less, is_not_less}
@@ -110,12 +110,12 @@ turned step other apart = by (step_eq other step) refl
     by true is = absurd (false≢true (sym apart ∙ subst (λ (s : Step). step_eq step s ≡ true) (sym (step_same other step is)) (same_step step)))
 
 -- what a look-up by a key finds is the first place of its step
-pub looked_up : (firsts : List (StepKey × ℕ)) (steps : List Step) (step : Step) (key : StepKey) → IsKeyOf step key → TellsFirsts firsts steps → lookup (eq-value.it key) firsts ≡ position (step_eq step) steps
+pub looked_up : (firsts : List (StepKey × ℕ)) (steps : List Step) (step : Step) (key : StepKey) → IsKeyOf step key → HasFirsts firsts steps → lookup (eq-value.it key) firsts ≡ position (step_eq step) steps
 looked_up firsts steps step key is tells = ap (λ (test : StepKey → Bool). lookup test firsts) (same_test step key is) ∙ tells step key is
 
-module _ (firsts : List (StepKey × ℕ)) (steps : List Step) (step : Step) (key : StepKey) (is : IsKeyOf step key) (tells : TellsFirsts firsts steps) where
+module _ (firsts : List (StepKey × ℕ)) (steps : List Step) (step : Step) (key : StepKey) (is : IsKeyOf step key) (tells : HasFirsts firsts steps) where
   -- a step that is there already changes no first place
-  pub put_again : (n : ℕ) → lookup (eq-value.it key) firsts ≡ Some n → TellsFirsts firsts (steps ++ step ∷ [])
+  pub put_again : (n : ℕ) → lookup (eq-value.it key) firsts ≡ Some n → HasFirsts firsts (steps ++ step ∷ [])
   put_again n found other next also = tells other next also ∙ sym (by (step_eq other step) refl)
     where
       by : (b : Bool) → step_eq other step ≡ b → position (step_eq other) (steps ++ step ∷ []) ≡ position (step_eq other) steps
@@ -127,7 +127,7 @@ module _ (firsts : List (StepKey × ℕ)) (steps : List Step) (step : Step) (key
 
   -- a new step gets the place at the end
   pub put_new : (more : List (StepKey × ℕ)) (n : ℕ) → length steps ≡ n → lookup (eq-value.it key) firsts ≡ None
-      → ((q : StepKey) → lookup (eq-value.it q) more ≡ cond (eq-value.it key q) (Some n) (lookup (eq-value.it q) firsts)) → TellsFirsts more (steps ++ step ∷ [])
+      → ((q : StepKey) → lookup (eq-value.it q) more ≡ cond (eq-value.it key q) (Some n) (lookup (eq-value.it q) firsts)) → HasFirsts more (steps ++ step ∷ [])
   put_new more n size none updates other next also =
       ap (λ (test : StepKey → Bool). lookup test more) (sym (same_test other next also)) ∙ updates next
       ∙ ap (λ (b : Bool). cond b (Some n) (lookup (eq-value.it next) firsts)) (keys_same step other key next is also) ∙ by (step_eq step other) refl

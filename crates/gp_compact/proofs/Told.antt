@@ -24,7 +24,7 @@ use Rattle.gp_window.specs.RecordingForm.{RecordingForm}
 use Rattle.gp_window.specs.WindowForm.{WindowForm, numbers_from}
 use Rattle.gp_window.specs.Windows.{all_windows}
 use Rattle.gp_compact.specs.declared.moving.Sizes.{Sizes}
-use Rattle.gp_compact.specs.Compact.{IsSameWindow, answer_by, are_few, body_by, compacted_by, compacted_next, compacted_over, compacted_window, compacted_windows, entries_by, entries_told, entry_by, over_list, own_steps, property_by, sizes_of, with_entries}
+use Rattle.gp_compact.specs.Compact.{IsSameWindow, answer_by, are_few, body_by, compacted_by, compacted_next, compacted_over, compacted_window, compacted_windows, entries_by, entries_in_body, entry_by, over_list, own_steps, property_by, sizes_of, with_entries}
 use Rattle.gp_compact.specs.Moving.{are_movable, compacted_steps, first_own, front_of, moved_step, moves, new_number, place_of, places_of, raised, staying, step_eq, with_certificate, with_moved, with_step, with_steps}
 use Rattle.gp_compact.proofs.NewNumbers.{staying_all}
 
@@ -90,7 +90,7 @@ properties_own (property ∷ properties) told =
     All-append OwnTold (entries_in property.body) (entries_among properties)
     (property_own property.body (All-head IsPropertyRecord property properties told)) (properties_own properties (All-tail IsPropertyRecord property properties told))
 
-body_own : (shared : List Step) (body : WindowBody) → IsWindowBody shared body → All OwnTold (entries_told body)
+body_own : (shared : List Step) (body : WindowBody) → IsWindowBody shared body → All OwnTold (entries_in_body body)
 body_own shared (TooLarge events clauses) told = All-nil OwnTold
 body_own shared (Answers properties) told = properties_own properties told
 
@@ -114,10 +114,10 @@ module _ (f : List Step → List Step) (keeps : (steps : List Step) → All IsTo
       (All-weaker IsPropertyRecord (λ (property : PropertyRecord). IsPropertyRecord (property_by f property)) (λ property is. property_told property.body is) properties told)
 
 over_told : (sizes : Sizes) (shared : List Step) (body : WindowBody) → IsWindowBody shared body
-    → IsWindowBody (with_entries sizes shared (entries_told body)) (body_by (compacted_steps sizes (with_entries sizes shared (entries_told body))) body)
+    → IsWindowBody (with_entries sizes shared (entries_in_body body)) (body_by (compacted_steps sizes (with_entries sizes shared (entries_in_body body))) body)
 over_told sizes shared (TooLarge events clauses) told = told
 over_told sizes shared (Answers properties) told =
-    answers_told (compacted_steps sizes (with_entries sizes shared (entries_told (Answers properties)))) (compacted_told sizes (with_entries sizes shared (entries_told (Answers properties)))) shared properties told
+    answers_told (compacted_steps sizes (with_entries sizes shared (entries_in_body (Answers properties)))) (compacted_told sizes (with_entries sizes shared (entries_in_body (Answers properties)))) shared properties told
 
 -- what can be told can be told in format 2
 in_second : (format : ℕ) (told : WindowRecord) → IsWindowRecord format told → IsWindowRecord 2 told
@@ -126,9 +126,9 @@ in_second format told is = record { shared = is.shared; first_format = λ wrong.
 by_told : (format : ℕ) (sizes : Sizes) (told : WindowRecord) → IsWindowRecord format told → IsWindowRecord 2 (compacted_by sizes told)
 by_told format sizes told is = by (are_few sizes told.body)
   where
-    by : (b : Bool) → IsWindowRecord 2 (if b then over_list sizes (with_entries sizes told.shared (entries_told told.body)) told else told)
+    by : (b : Bool) → IsWindowRecord 2 (if b then over_list sizes (with_entries sizes told.shared (entries_in_body told.body)) told else told)
     by true = record {
-      shared = entries_list_told sizes told.shared (entries_told told.body) is.shared (body_own told.shared told.body is.body);
+      shared = entries_list_told sizes told.shared (entries_in_body told.body) is.shared (body_own told.shared told.body is.body);
       first_format = λ wrong. absurd (omega (arith, wrong));
       body = over_told sizes told.shared told.body is.body;
     }
@@ -155,7 +155,7 @@ windows_told format windows (one ∷ records) told =
 by_number : (sizes : Sizes) (told : WindowRecord) → (compacted_by sizes told).number ≡ told.number
 by_number sizes told = by (are_few sizes told.body)
   where
-    by : (b : Bool) → (if b then over_list sizes (with_entries sizes told.shared (entries_told told.body)) told else told).number ≡ told.number
+    by : (b : Bool) → (if b then over_list sizes (with_entries sizes told.shared (entries_in_body told.body)) told else told).number ≡ told.number
     by true = refl
     by false = refl
 

@@ -31,8 +31,8 @@ own_steps (Impossible certificate) = certificate.steps
 own_steps _ = []
 
 -- the entries that a window is told with
-abbrev pub entries_told : WindowBody → List Entry
-entries_told body = entries_among (properties_in body)
+abbrev pub entries_in_body : WindowBody → List Entry
+entries_in_body body = entries_among (properties_in body)
 
 -- a shared list with those steps of the certificates of some entries that move
 abbrev pub with_entries : Sizes → List Step → List Entry → List Step
@@ -74,7 +74,7 @@ sizes_of window shared = record {
 
 -- whether base clauses, shared steps and all steps of certificates are together fewer than 2^31
 abbrev pub are_few : Sizes → WindowBody → Bool
-are_few sizes body = nat_lt (first_own sizes + steps_in (entries_told body)) (2 ^ 31)
+are_few sizes body = nat_lt (first_own sizes + steps_in (entries_in_body body)) (2 ^ 31)
 
 -- a window with this new shared list, over which its answers are told
 abbrev pub over_list : Sizes → List Step → WindowRecord → WindowRecord
@@ -87,7 +87,7 @@ over_list sizes shared told = record {
 
 -- a window with these sizes: its steps move where all are few
 abbrev pub compacted_by : Sizes → WindowRecord → WindowRecord
-compacted_by sizes told = if are_few sizes told.body then over_list sizes (with_entries sizes told.shared (entries_told told.body)) told else told
+compacted_by sizes told = if are_few sizes told.body then over_list sizes (with_entries sizes told.shared (entries_in_body told.body)) told else told
 
 -- a window: nothing moves where it is too large
 abbrev pub compacted_over : Result WindowForm BaseFault → WindowRecord → WindowRecord

@@ -17,5 +17,5 @@ abbrev pub is_key_of : Step → StepKey → Bool
 is_key_of step key = pointwise lit_eq step.clause key.lits.items && pointwise nat_eq step.hints key.hints.items
 
 -- a table has the first place of each step in a list, and of no other; it knows a step by its key
-abbrev pub TellsFirsts : List (StepKey × ℕ) → List Step → Type 0
-TellsFirsts firsts steps = (step : Step) (key : StepKey) → IsKeyOf step key → lookup (is_key_of step) firsts ≡ position (step_eq step) steps
+abbrev pub HasFirsts : List (StepKey × ℕ) → List Step → Type 0
+HasFirsts firsts steps = (step : Step) (key : StepKey) → IsKeyOf step key → lookup (is_key_of step) firsts ≡ position (step_eq step) steps

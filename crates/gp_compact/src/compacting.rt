@@ -2,7 +2,7 @@ ghost use Rattle.std.specs.Prelude.{◌≡◌, ◌+◌, if◌then◌else◌, tru
 ghost use Rattle.std.specs.List.{AllZip};
 ghost use Rattle.gp_report.specs.declared.record.WindowRecord.{WindowRecord};
 ghost use Rattle.gp_window.specs.Windows.{all_windows};
-ghost use Rattle.gp_compact.specs.Compact.{CompactKeepsAcceptance, IsCompacted, IsSameWindow, are_few, compacted_by, compacted_next, compacted_windows, compacted_window, entries_told, own_steps, sizes_of, steps_in};
+ghost use Rattle.gp_compact.specs.Compact.{CompactKeepsAcceptance, IsCompacted, IsSameWindow, are_few, compacted_by, compacted_next, compacted_windows, compacted_window, entries_in_body, own_steps, sizes_of, steps_in};
 
 use crate::copying::{copy_steps, copy_workers};
 use crate::moving::Sizes;
@@ -112,7 +112,7 @@ fn sizes_of(encoded: &Encoded, told: &WindowRecord) -> Option<Sizes>
 
 // A number and the steps of a window's certificates together, or the greatest number if they do not fit.
 fn count_steps(count: u64, body: &WindowBody) -> u64
-    ensures { result ≡ min (count + steps_in (entries_told body.now)) 18446744073709551615 }
+    ensures { result ≡ min (count + steps_in (entries_in_body body.now)) 18446744073709551615 }
 {
     let mut count = count;
     for property in body.properties() {

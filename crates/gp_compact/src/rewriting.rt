@@ -1,5 +1,5 @@
 ghost use Rattle.std.specs.Prelude.{◌≡◌, IfOk, length, map};
-ghost use Rattle.gp_compact.specs.Compact.{answer_by, body_by, entries_by, entries_told, entry_by, own_steps, property_by, steps_in};
+ghost use Rattle.gp_compact.specs.Compact.{answer_by, body_by, entries_by, entries_in_body, entry_by, own_steps, property_by, steps_in};
 ghost use Rattle.gp_compact.specs.Rewriting.{RoomFor, steps_by};
 ghost use Rattle.gp_report.specs.Entries.{entries_among, entries_in};
 
@@ -25,7 +25,7 @@ pub(crate) fn rewrite_body(
     rewriting: &Rewriting,
     body: &WindowBody,
 ) -> Result<WindowBody, AllocError>
-    requires { RoomFor rewriting.now (steps_in (entries_told body.now)) }
+    requires { RoomFor rewriting.now (steps_in (entries_in_body body.now)) }
     ensures { IfOk result (λ made. made ≡ body_by (steps_by rewriting.now) body.now) }
 {
     match body {

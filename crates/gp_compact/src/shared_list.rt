@@ -1,6 +1,6 @@
 ghost use Rattle.std.specs.Prelude.{◌≡◌, [], ◌∷◌, ◌++◌, ◌<◌, ◌^◌, IfOk, List, OnErr, OnOk, length, position, Some};
 ghost use Rattle.gp_certificate.specs.declared.step.Step.{Step};
-ghost use Rattle.gp_compact.specs.Keys.{IsKeyOf, TellsFirsts};
+ghost use Rattle.gp_compact.specs.Keys.{IsKeyOf, HasFirsts};
 ghost use Rattle.gp_compact.specs.Moving.{step_eq, with_step};
 
 use gp_certificate::Step;
@@ -26,13 +26,13 @@ pub(crate) struct SharedList {
 impl Model for SharedList {
     ghost use Rattle.std.specs.Prelude.{List};
     ghost use Rattle.gp_certificate.specs.declared.step.Step.{Step};
-    ghost use Rattle.gp_compact.specs.Keys.{TellsFirsts};
+    ghost use Rattle.gp_compact.specs.Keys.{HasFirsts};
 
     ghost Value = { List Step };
 
     ghost view = { λ list. list.steps.items };
 
-    ghost invariant = { λ list. TellsFirsts list.firsts.entries list.steps.items };
+    ghost invariant = { λ list. HasFirsts list.firsts.entries list.steps.items };
 }
 
 impl SharedList {
@@ -97,7 +97,7 @@ impl SharedList {
 
 // Puts the place of a step at the end of a list into the table of the list, unless an equal one stands there.
 fn put_first(firsts: &mut HashMap<StepKey, u32>, key: StepKey, place: u32) -> Result<(), AllocError>
-    ensures ok { OnOk result ((step : Step) (steps : List Step) → IsKeyOf step key → length steps ≡ place → TellsFirsts firsts.old.entries steps → TellsFirsts firsts.new.entries (steps ++ step ∷ [])) }
+    ensures ok { OnOk result ((step : Step) (steps : List Step) → IsKeyOf step key → length steps ≡ place → HasFirsts firsts.old.entries steps → HasFirsts firsts.new.entries (steps ++ step ∷ [])) }
     ensures err { OnErr result (firsts.new.entries ≡ firsts.old.entries) }
 {
     match firsts.get(&key).copied() {

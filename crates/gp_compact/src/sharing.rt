@@ -1,5 +1,5 @@
 ghost use Rattle.std.specs.Prelude.{◌≡◌, ◌+◌, ◌<◌, ◌^◌, [], IfOk, OnOk, length};
-ghost use Rattle.gp_compact.specs.Compact.{entries_told, own_steps, steps_in, with_entries};
+ghost use Rattle.gp_compact.specs.Compact.{entries_in_body, own_steps, steps_in, with_entries};
 ghost use Rattle.gp_compact.specs.Moving.{PlacesFit, first_own, front_of, place_of, with_certificate, with_moved, with_steps};
 
 use crate::copying::copy_step;
@@ -16,8 +16,8 @@ pub(crate) fn share(
     shared: &[Step],
     body: &WindowBody,
 ) -> Result<SharedList, AllocError>
-    requires { sizes.clauses + length shared.now + steps_in (entries_told body.now) < 2 ^ 31 }
-    ensures { IfOk result (λ list. list ≡ with_entries sizes shared.now (entries_told body.now)) }
+    requires { sizes.clauses + length shared.now + steps_in (entries_in_body body.now) < 2 ^ 31 }
+    ensures { IfOk result (λ list. list ≡ with_entries sizes shared.now (entries_in_body body.now)) }
 {
     let mut list = list_of(alloc, shared)?;
     for property in body.properties() {

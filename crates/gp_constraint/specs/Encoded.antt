@@ -48,25 +48,25 @@ abbrev pub point_in : List ℕ → EventId → Option ℕ
 point_in sizes id = if nat_lt id.index (size_at sizes id.thread) then Some (number_at sizes id.thread id.index) else None
 
 -- a literal of a symbol, where it has a variable
-abbrev pub found_lit : List Symbol → Symbol → Bool → Option Lit
-found_lit names symbol positive = option_map (λ variable. record { variable = variable; positive = positive }) (position (symbol_eq symbol) names)
+abbrev pub symbol_lit : List Symbol → Symbol → Bool → Option Lit
+symbol_lit names symbol positive = option_map (λ variable. record { variable = variable; positive = positive }) (position (symbol_eq symbol) names)
 
 -- that one point is before another, as a literal
 abbrev pub order_between : List Symbol → ℕ → ℕ → Option Lit
 order_between names one other =
-    if nat_lt one other then found_lit names (Order one other) true else found_lit names (Order other one) false
+    if nat_lt one other then symbol_lit names (Order one other) true else symbol_lit names (Order other one) false
 
 -- the same of two points that are there
-abbrev pub order_found : List Symbol → Option ℕ → Option ℕ → Option Lit
-order_found names (Some one) (Some other) = order_between names one other
-order_found names _ _ = None
+abbrev pub order_of_points : List Symbol → Option ℕ → Option ℕ → Option Lit
+order_of_points names (Some one) (Some other) = order_between names one other
+order_of_points names _ _ = None
 
 -- that one event is before another, as a literal; nothing where one of them is not there, both are of one thread, or the
 -- constraints do not speak of their order
 abbrev pub order_in : WindowForm → EventId → EventId → Option Lit
 order_in window one other =
     if one.thread == other.thread then None
-    else order_found (names_in window) (point_in (sizes_of window) one) (point_in (sizes_of window) other)
+    else order_of_points (names_in window) (point_in (sizes_of window) one) (point_in (sizes_of window) other)
 
 -- each number of an event fits
 abbrev pub IsSmall : List ℕ → Type 0

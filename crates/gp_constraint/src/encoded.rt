@@ -1,7 +1,7 @@
 ghost use Rattle.std.specs.Prelude.{◌≡◌, IfOk};
 ghost use Rattle.gp_clause.specs.Problem.{IsValidProblem};
 ghost use Rattle.gp_constraint.specs.Base.{base_of, names_in};
-ghost use Rattle.gp_constraint.specs.Encoded.{IsBase, IsEncodable, IsSmall, found_lit, order_between, order_in, point_in};
+ghost use Rattle.gp_constraint.specs.Encoded.{IsBase, IsEncodable, IsSmall, symbol_lit, order_between, order_in, point_in};
 ghost use Rattle.gp_constraint.specs.Points.{number_in, points_of, sizes_of};
 
 use crate::naming::Names;
@@ -149,14 +149,14 @@ fn order_between(names: &Names, one: u32, other: u32) -> Option<Lit>
     ensures { result ≡ order_between names.now one other }
 {
     if one < other {
-        found_lit(names, Symbol::Order(one, other), true)
+        symbol_lit(names, Symbol::Order(one, other), true)
     } else {
-        found_lit(names, Symbol::Order(other, one), false)
+        symbol_lit(names, Symbol::Order(other, one), false)
     }
 }
 
-fn found_lit(names: &Names, symbol: Symbol, positive: bool) -> Option<Lit>
-    ensures { result ≡ found_lit names.now symbol positive }
+fn symbol_lit(names: &Names, symbol: Symbol, positive: bool) -> Option<Lit>
+    ensures { result ≡ symbol_lit names.now symbol positive }
 {
     let variable = names.find(symbol)?;
     Some(Lit { variable, positive })

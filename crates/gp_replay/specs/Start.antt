@@ -8,7 +8,7 @@ use Rattle.gp_replay.specs.Step.{holder_of, start_state}
 
 -- a window begins with its start values, its holders and its readers, just as it tells them; so a thread is the holder or a
 -- reader of a lock exactly where it holds the lock in that way
-pub record BeginsAsTold : Type 0 where
+pub record BeginsAsWindow : Type 0 where
   pub values : (window : WindowForm) → IsWindow window → (start_state window).values ≡ window.start_values
   pub holders : (window : WindowForm) → IsWindow window → (start_state window).holders ≡ window.holders
   pub readers : (window : WindowForm) → IsWindow window → (start_state window).readers ≡ window.readers

@@ -15,6 +15,6 @@ next_of state thread = record { thread = thread; index = count_of state thread }
 
 -- after a feasible schedule of a window, a thread holds a lock in a way exactly where it does so by its own trace, just before
 -- its next event
-abbrev pub HoldsAreTold : Type 0
-HoldsAreTold = (window : WindowForm) (ids : List EventId) (last : State) → IsWindow window → Runs window (start_state window) ids last
+abbrev pub HoldsAreTraced : Type 0
+HoldsAreTraced = (window : WindowForm) (ids : List EventId) (last : State) → IsWindow window → Runs window (start_state window) ids last
     → (thread : ℕ) (lock : List ℕ) (mode : LockMode) → IsHeldBy last mode lock thread ↔ (mode_before window (next_of last thread) lock ≡ Some mode)

@@ -6,8 +6,8 @@ ghost use Rattle.gp_replay.specs.Holder.{HoldersAcquired, LocksHaveOneHolder};
 ghost use Rattle.gp_replay.specs.Order.{JoinsComeLast, StartsComeFirst, ThreadsAreStarted};
 ghost use Rattle.gp_replay.specs.Part.{PartsArePrefixes};
 ghost use Rattle.gp_replay.specs.Sharing.{HoldersStayAlone, ReadersAcquired};
-ghost use Rattle.gp_replay.specs.Start.{BeginsAsTold};
-ghost use Rattle.gp_replay.specs.Told.{HoldsAreTold};
+ghost use Rattle.gp_replay.specs.Start.{BeginsAsWindow};
+ghost use Rattle.gp_replay.specs.Told.{HoldsAreTraced};
 ghost use Rattle.gp_replay.specs.Value.{ReadsFindLastWrites, ValuesAreLastWrites};
 
 use gp_text::one_spelling;
@@ -22,8 +22,8 @@ pub fn schedules_read_exactly()
 }
 
 /// A window begins with its start values, its holders and its readers, just as it tells them.
-pub fn begins_as_told()
-    ensures { BeginsAsTold }
+pub fn states_begin_as_windows()
+    ensures { BeginsAsWindow }
 {
     windows_are_formed();
 }
@@ -116,8 +116,8 @@ pub fn threads_are_started()
 
 /// After a feasible schedule of a window a thread holds a lock, alone or as a reader, exactly where it
 /// does so by its own trace.
-pub fn holds_are_told()
-    ensures { HoldsAreTold }
+pub fn holds_are_traced()
+    ensures { HoldsAreTraced }
 {
     windows_are_formed();
 }

@@ -14,11 +14,11 @@ mod schedule;
 mod state;
 
 pub use laws::{
-    alike_states_step_alike, begins_as_told, events_are_counted, events_happen_once,
-    holders_acquired, holders_stay_alone, holds_are_told, joins_come_last, locks_have_one_holder,
+    alike_states_step_alike, events_are_counted, events_happen_once, holders_acquired,
+    holders_stay_alone, holds_are_traced, joins_come_last, locks_have_one_holder,
     parts_are_prefixes, prefixes_are_feasible, readers_acquired, reads_find_last_writes,
-    replay_means_feasible, schedules_read_exactly, starts_come_first, threads_are_started,
-    values_are_last_writes,
+    replay_means_feasible, schedules_read_exactly, starts_come_first, states_begin_as_windows,
+    threads_are_started, values_are_last_writes,
 };
 pub use readers::Readers;
 pub use rule::{Rule, StepFault};

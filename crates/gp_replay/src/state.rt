@@ -8,7 +8,7 @@ ghost use Rattle.gp_replay.specs.Readers.{with_readers};
 ghost use Rattle.gp_replay.specs.Step.{allowed_in, allowed_use, count_of, counted, effect, has_ended, holder_of, holders_after, is_held_against, next, readers_after, start_state, turn_of, value_of};
 ghost use Rattle.gp_replay.specs.StepFault.{BreaksRule};
 
-use crate::laws::begins_as_told;
+use crate::laws::states_begin_as_windows;
 use crate::readers::Readers;
 use crate::rule::{Rule, StepFault};
 use gp_base::{Row, Table};
@@ -37,7 +37,7 @@ impl State {
     pub fn new(alloc: Global, window: &Window) -> Result<State, AllocError>
         ensures { IfOk result (λ state. state ≡ start_state window.now) }
     {
-        begins_as_told();
+        states_begin_as_windows();
         let counts = vec![in alloc; 0u32; window.segments().len()]?;
         let mut state = State {
             counts: Row::from_vec(counts),

@@ -171,14 +171,14 @@ pub record DecidesNext (old new : SolverForm) : Type 0 where
   pub decided : new ≡ with_literal old lit (old.level + 1) None
 
 -- a verdict other than a spent budget is right
-abbrev pub IsFound : Problem → Query → Verdict → Type 0
-IsFound problem query (Model valuation) = Meets problem query valuation
-IsFound problem query (Refuted certificate) = Refutes problem query certificate
-IsFound problem query (Spent from to) = ⊥
+abbrev pub IsRightVerdict : Problem → Query → Verdict → Type 0
+IsRightVerdict problem query (Model valuation) = Meets problem query valuation
+IsRightVerdict problem query (Refuted certificate) = Refutes problem query certificate
+IsRightVerdict problem query (Spent from to) = ⊥
 
 -- a descent ended with a verdict, or with a conflict above the levels of the assumptions
 abbrev pub IsEnded : Problem → Query → Engine → Descent → Type 0
-IsEnded problem query engine (Ended verdict) = IsFound problem query verdict
+IsEnded problem query engine (Ended verdict) = IsRightVerdict problem query verdict
 IsEnded problem query engine (Stuck conflict) = IsConflict problem query engine.solver conflict.lits.items conflict.number × (engine.assumed < engine.solver.level)
 
 -- so many entries came to the end of the log

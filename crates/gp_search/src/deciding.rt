@@ -4,7 +4,7 @@ ghost use Rattle.gp_sat.specs.Deciding.{IsNextFree, IsFull};
 ghost use Rattle.gp_sat.specs.Looking.{IsTrueLit};
 ghost use Rattle.gp_sat.specs.Sound.{IsSound};
 ghost use Rattle.gp_search.specs.Inside.{IsTurning, IsSettled};
-ghost use Rattle.gp_search.specs.Moves.{IsAllTrue, IsOpen, KeepsLog, IsFound, GoesFurther, DecidesNext, MovesNext, BeginsLevel};
+ghost use Rattle.gp_search.specs.Moves.{IsAllTrue, IsOpen, KeepsLog, IsRightVerdict, GoesFurther, DecidesNext, MovesNext, BeginsLevel};
 
 use crate::asked::Asked;
 use crate::bounds::phase;
@@ -21,7 +21,7 @@ impl Engine {
         requires settled { IsSettled self.old }
         ensures turning { IsTurning asked.now.problem.now asked.now.query.now self.new }
         ensures same { KeepsLog self.old self.new }
-        ensures found { IfOk result (λ found. MatchOption found (GoesFurther self.old.solver self.new.solver) (IsFound asked.now.problem.now asked.now.query.now)) }
+        ensures found { IfOk result (λ found. MatchOption found (GoesFurther self.old.solver self.new.solver) (IsRightVerdict asked.now.problem.now asked.now.query.now)) }
     {
         match self.open_assumption(asked) {
             Some(lit) => self.assume(asked, lit),
@@ -65,7 +65,7 @@ impl Engine {
         requires next { IsOpen asked.now.query.now.assumed self.old.solver lit }
         ensures turning { IsTurning asked.now.problem.now asked.now.query.now self.new }
         ensures same { KeepsLog self.old self.new }
-        ensures found { IfOk result (λ found. MatchOption found (GoesFurther self.old.solver self.new.solver) (IsFound asked.now.problem.now asked.now.query.now)) }
+        ensures found { IfOk result (λ found. MatchOption found (GoesFurther self.old.solver self.new.solver) (IsRightVerdict asked.now.problem.now asked.now.query.now)) }
     {
         if self.solver.value(lit.variable).is_some() {
             let certificate = self.refute_assumption(asked, lit)?;
@@ -103,7 +103,7 @@ impl Engine {
         ensures turning { IsTurning asked.now.problem.now asked.now.query.now self.new }
         ensures same { KeepsLog self.old self.new }
         ensures first { IfOk result (λ found. MatchOption found (DecidesNext self.old.solver self.new.solver) (λ _. IsFull self.old.solver)) }
-        ensures found { IfOk result (λ found. MatchOption found (GoesFurther self.old.solver self.new.solver) (IsFound asked.now.problem.now asked.now.query.now)) }
+        ensures found { IfOk result (λ found. MatchOption found (GoesFurther self.old.solver self.new.solver) (IsRightVerdict asked.now.problem.now asked.now.query.now)) }
     {
         match self.free_variable() {
             None => Ok(Some(Verdict::Model(self.model(asked)?))),

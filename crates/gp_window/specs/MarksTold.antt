@@ -29,7 +29,7 @@ pub record IsFirstHeld (epochs : ℕ) (traces : List LocalTraceForm) (lock : Lis
   pub least : (other : List ℕ) → TwoHoldBefore traces window other → slice_cmp nat_cmp other lock ≡ Less → ⊥
 
 -- the check of the marks tells exactly that lock and that window, and no fault exactly where two threads hold none over any
-pub record MarksAreTold : Type 0 where
+pub record MarksMean : Type 0 where
   pub first : (epochs : ℕ) (traces : List LocalTraceForm) (fault : RecordingFault)
       → (after_marks epochs traces ≡ Err fault) ↔ ((lock : List ℕ) × (window : ℕ) × (fault ≡ TwoHolders lock window) × IsFirstHeld epochs traces lock window)
   pub none : (epochs : ℕ) (traces : List LocalTraceForm)

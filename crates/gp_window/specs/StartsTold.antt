@@ -43,7 +43,7 @@ IsFirstWrong threads roots before later fault =
 
 -- the checks of starts and joins tell a fault exactly where it is what is wrong with the first event with which something is
 -- wrong, and none exactly where nothing is wrong with any
-pub record StartsAreTold : Type 0 where
+pub record StartsMean : Type 0 where
   pub first : (threads : ℕ) (roots : List ℕ) (traces : List LocalTraceForm) (fault : RecordingFault)
       → (after_traces threads roots [] traces ≡ Err fault) ↔ IsFirstWrong threads roots [] (events_of traces) fault
   pub none : (threads : ℕ) (roots : List ℕ) (traces : List LocalTraceForm)

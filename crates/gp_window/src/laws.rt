@@ -1,8 +1,8 @@
 ghost use Rattle.gp_window.specs.Follow.{WindowsFollow};
 ghost use Rattle.gp_window.specs.Formed.{WindowsAreFormed};
 ghost use Rattle.gp_window.specs.Grammar.{ManifestsAreSpelled};
-ghost use Rattle.gp_window.specs.MarksTold.{MarksAreTold};
-ghost use Rattle.gp_window.specs.StartsTold.{StartsAreTold};
+ghost use Rattle.gp_window.specs.MarksTold.{MarksMean};
+ghost use Rattle.gp_window.specs.StartsTold.{StartsMean};
 
 use gp_text::one_spelling;
 
@@ -28,12 +28,12 @@ pub fn windows_follow()
 
 /// The check of starts and joins tells a fault exactly where it is what is wrong with the first event, by
 /// thread and then in the thread's order, with which something is wrong.
-pub fn starts_are_told()
-    ensures { StartsAreTold }
+pub fn starts_mean()
+    ensures { StartsMean }
 {}
 
 /// The check of the marks tells exactly the least window before which two threads hold a lock, not both
 /// as readers, and the least such lock there.
-pub fn marks_are_told()
-    ensures { MarksAreTold }
+pub fn marks_mean()
+    ensures { MarksMean }
 {}

@@ -30,7 +30,7 @@ pub use event_id::{event_id_of, event_ids_read_exactly, put_event_id};
 pub use fault::RecordingFault;
 pub use file_name::FileName;
 pub use laws::{
-    manifests_are_spelled, marks_are_told, starts_are_told, windows_are_formed, windows_follow,
+    manifests_are_spelled, marks_mean, starts_mean, windows_are_formed, windows_follow,
 };
 pub use manifest::{
     MOST_EPOCHS, MOST_FORMAT, MOST_THREADS, Manifest, ManifestFault, StartValue, read_manifest,

@@ -17,7 +17,7 @@ use Rattle.gp_replay.specs.Feasible.{IsFeasible}
 use Rattle.gp_replay.specs.Holder.{HoldersAcquired}
 use Rattle.gp_replay.specs.RunLaws.{runs_prefix}
 use Rattle.gp_replay.specs.Sharing.{ReadersAcquired}
-use Rattle.gp_replay.specs.Start.{BeginsAsTold}
+use Rattle.gp_replay.specs.Start.{BeginsAsWindow}
 use Rattle.gp_replay.specs.Step.{start_state}
 use Rattle.gp_replay.specs.Value.{ValuesAreLastWrites}
 use Rattle.gp_constraint.specs.declared.symbol.Symbol.{Symbol}
@@ -44,7 +44,7 @@ use Rattle.gp_witness.proofs.Told.{clauses_told}
 -- the laws of the lower crates
 pub record LowerLaws : Type 0 where
   pub formed : WindowsAreFormed
-  pub begins : BeginsAsTold
+  pub begins : BeginsAsWindow
   pub written : ValuesAreLastWrites
   pub acquired : HoldersAcquired
   pub shared : ReadersAcquired

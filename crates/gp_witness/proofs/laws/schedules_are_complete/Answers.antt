@@ -7,7 +7,7 @@ use Rattle.gp_witness.proofs.laws.schedules_are_complete.Goals as goal
 pub returns : goal.returns
 returns c =
     let formed = c.windows_are_formed.ensures in
-    let begins = c.begins_as_told.ensures in
+    let begins = c.states_begin_as_windows.ensures in
     let numbered = c.truths_are_numbered.ensures in
     let rows = c.groups_stand_in_rows.ensures in
     let told : (window : WindowForm) → IsWindow window → IsTold window =

@@ -6,7 +6,7 @@ pub returns : goal.returns
 returns c =
     let laws : LowerLaws = record {
       formed = c.windows_are_formed.ensures;
-      begins = c.begins_as_told.ensures;
+      begins = c.states_begin_as_windows.ensures;
       written = c.values_are_last_writes.ensures;
       acquired = c.holders_acquired.ensures;
       shared = c.readers_acquired.ensures;

@@ -3,7 +3,7 @@ use Rattle.std.specs.List.{position}
 use Rattle.std.specs.Map.{lookup}
 use Rattle.gp_certificate.specs.declared.step.Step.{Step}
 use Rattle.gp_compact.specs.declared.shared_list.StepKey.{StepKey}
-use Rattle.gp_compact.specs.Keys.{TellsFirsts, is_key_of}
+use Rattle.gp_compact.specs.Keys.{HasFirsts, is_key_of}
 use Rattle.gp_compact.specs.Moving.{step_eq}
 use Rattle.gp_compact.proofs.shared_list.SharedList.push.Goals as goal
 
@@ -18,6 +18,6 @@ invariant_of-self-in_err-put_first c = λ step key is.
 pub invariant_of-self-2 : goal.invariant_of-self-2
 invariant_of-self-2 c =
     let size : length c.self.inside.steps.items ≡ c.len.result = omega (arith, ap length c.reserve.ensures.items) in
-    let told : TellsFirsts c.put_first.new.firsts.entries (c.self.inside.steps.items ++ c.args.step ∷ []) =
+    let told : HasFirsts c.put_first.new.firsts.entries (c.self.inside.steps.items ++ c.args.step ∷ []) =
     c.in_ok-put_first.ensures.ok c.args.step c.self.inside.steps.items c.in_ok-key.ensures size c.self.invariant in
-    subst (TellsFirsts c.put_first.new.firsts.entries) (sym (c.push_reserved.ensures.items ∙ ap (λ (steps : List Step). steps ++ c.args.step ∷ []) c.reserve.ensures.items)) told
+    subst (HasFirsts c.put_first.new.firsts.entries) (sym (c.push_reserved.ensures.items ∙ ap (λ (steps : List Step). steps ++ c.args.step ∷ []) c.reserve.ensures.items)) told

@@ -1,6 +1,6 @@
 use Rattle.gp_replay.specs.Step.{start_state}
 use Rattle.gp_replay.specs.ToldLaws.{tells_run, tells_start}
-use Rattle.gp_replay.proofs.laws.holds_are_told.Goals as goal
+use Rattle.gp_replay.proofs.laws.holds_are_traced.Goals as goal
 
 pub returns : goal.returns
 returns c = λ window ids last is r thread lock mode.

@@ -3,7 +3,7 @@ use Rattle.std.proofs.Common.{◌∙◌, [], ap, sym}
 use Rattle.std.specs.Prelude.{is_ok}
 use Rattle.gp_window.specs.StartsTold.{events_of}
 use Rattle.gp_window.proofs.StartsTold.{first_wrong, none_passes, nothing_started, passed_none, traces_walked, wrong_first}
-use Rattle.gp_window.proofs.laws.starts_are_told.Goals as goal
+use Rattle.gp_window.proofs.laws.starts_mean.Goals as goal
 
 pub returns : goal.returns
 returns c = record {

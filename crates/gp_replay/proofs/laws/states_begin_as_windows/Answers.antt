@@ -1,5 +1,5 @@
 use Rattle.gp_replay.specs.StartLaws.{held_as_told, holders_as_told, read_as_told, readers_as_told, values_as_told}
-use Rattle.gp_replay.proofs.laws.begins_as_told.Goals as goal
+use Rattle.gp_replay.proofs.laws.states_begin_as_windows.Goals as goal
 
 pub returns : goal.returns
 returns c =

@@ -1,7 +1,7 @@
 -- The first lock that two threads hold over a mark is told, since holdings stand in the order of the locks.
 use Rattle.gp_window.proofs.HeldRising.{over_rises}
 use Rattle.gp_window.proofs.MarksTold.{first_told, held_none, none_held, told_first}
-use Rattle.gp_window.proofs.laws.marks_are_told.Goals as goal
+use Rattle.gp_window.proofs.laws.marks_mean.Goals as goal
 
 pub returns : goal.returns
 returns c = record {

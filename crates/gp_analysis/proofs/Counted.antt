@@ -1,5 +1,5 @@
 -- The counts of the runs, collected and added.
-use Rattle.std.proofs.Common.{◌≡◌, refl, sym, ap, ◌∙◌, subst, ℕ, ◌+◌, ◌*◌, ◌≤◌, Option, None, Some, Bool, false, nat_lt, if◌then◌else◌, List, [], ◌∷◌, map, flat_map, sum, sum_by, Result, Ok, Err, IfOk, arith}
+use Rattle.std.proofs.Common.{◌≡◌, refl, sym, ap, ◌∙◌, subst, ℕ, ◌+◌, ◌*◌, ◌≤◌, None, Some, Bool, false, nat_lt, if◌then◌else◌, List, [], ◌∷◌, map, flat_map, sum, sum_by, Result, Ok, Err, IfOk, arith}
 use Rattle.std.specs.declared.alloc.AllocError.{AllocError}
 use Rattle.std.specs.List.{AllZip}
 use Rattle.std.specs.Prelude.{MatchResult}
@@ -10,7 +10,7 @@ use Rattle.gp_window.specs.WindowForm.{WindowForm, numbers_from, window_of}
 use Rattle.gp_constraint.specs.declared.fault.BaseFault.{BaseFault}
 use Rattle.gp_constraint.specs.Encoded.{base_due}
 use Rattle.gp_analysis.specs.declared.counting.Counted.{Counted}
-use Rattle.gp_analysis.specs.declared.counting.Counted.TheVariants.{Listed, Asked}
+use Rattle.gp_analysis.specs.declared.counting.Counted.TheVariants.{Listed}
 use Rattle.std.proofs.lemmas.Bool.{le-ltb, ltb-false}
 use Rattle.std.proofs.Math.Nat.{mul-le-mul_right}
 use Rattle.gp_analysis.specs.declared.runs.Run.{Run}

@@ -11,17 +11,17 @@ use Rattle.gp_tickets.specs.declared.drawn.Made.{Made}
 use Rattle.gp_tickets.specs.declared.tickets.Tickets.{Tickets}
 use Rattle.gp_tickets.specs.Drawn.{AreInOrder, drawers_of, HasDrawn, numbers_of}
 use Rattle.gp_window.specs.RecordingForm.{RecordingForm}
-use Rattle.gp_window.specs.WindowForm.{WindowForm, numbers_from, window_of}
+use Rattle.gp_window.specs.WindowForm.{numbers_from, window_of}
 use Rattle.gp_window.specs.Windows.{all_windows}
 use Rattle.gp_analysis.specs.Drawn.{TellsDrawn, TellsOwn}
 use Rattle.gp_analysis.specs.Told.{TellEach, TellsWindow}
 
 -- one window more is drawn and told
-pub next_drawn : (r : RecordingForm) (ps : List PropertyForm) (count budget ticket : ℕ) (before after : List ℕ) (made more : List (Made WindowRecord)) (window : WindowForm) (own : WindowRecord) → window ≡ window_of r (ticket + 1) → TellsWindow ps count budget window own
+pub next_drawn : (r : RecordingForm) (ps : List PropertyForm) (count budget ticket : ℕ) (before after : List ℕ) (made more : List (Made WindowRecord)) (k : ℕ) (own : WindowRecord) → k ≡ ticket + 1 → TellsWindow ps count budget (window_of r k) own
     → numbers_of made ≡ before → All (TellsOwn r ps count budget) made → after ≡ before ++ ticket ∷ [] → more ≡ made ++ record { number = ticket; value = own } ∷ [] → (numbers_of more ≡ after) × All (TellsOwn r ps count budget) more
-next_drawn r ps count budget ticket before after made more window own here tells numbers all drawn pushed = (
+next_drawn r ps count budget ticket before after made more k own is tells numbers all drawn pushed = (
   ap numbers_of pushed ∙ map-append (λ (m : Made WindowRecord). m.number) made (one ∷ []) ∙ (λ i. numbers i ++ ticket ∷ []) ∙ sym drawn,
-  subst (All (TellsOwn r ps count budget)) (sym pushed) (All-push (TellsOwn r ps count budget) made one all (subst (λ (w : WindowForm). TellsWindow ps count budget w own) here tells)),
+  subst (All (TellsOwn r ps count budget)) (sym pushed) (All-push (TellsOwn r ps count budget) made one all (subst (λ (n : ℕ). TellsWindow ps count budget (window_of r n) own) is tells)),
 )
   where
     one : Made WindowRecord

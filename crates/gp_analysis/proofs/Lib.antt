@@ -8,4 +8,5 @@ mod Windows
 mod Parted
 mod Counted
 mod Drawing
+mod Ahead
 mod Agreement

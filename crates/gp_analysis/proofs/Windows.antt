@@ -11,6 +11,7 @@ use Rattle.gp_report.specs.ReportForm.{ReportForm}
 use Rattle.gp_window.specs.RecordingForm.{RecordingForm}
 use Rattle.gp_window.specs.WindowForm.{WindowForm, numbers_from, window_of}
 use Rattle.gp_window.specs.Windows.{all_windows}
+use Rattle.gp_window.specs.WindowsLaws.{count_numbers}
 use Rattle.gp_analysis.specs.declared.runs.Run.{Run}
 use Rattle.gp_analysis.specs.Answered.{AnswersWindow, IsAnswered}
 use Rattle.gp_analysis.specs.Runs.{IsRun, run_windows}
@@ -90,10 +91,6 @@ told_fit ps count budget [] [] tell = All-nil (IsWindowRecord 1)
 told_fit ps count budget [] (own ∷ told) tell = absurd tell
 told_fit ps count budget (window ∷ windows) [] tell = absurd tell
 told_fit ps count budget (window ∷ windows) (own ∷ told) tell = All-cons (IsWindowRecord 1) own told tell.0.fits (told_fit ps count budget windows told tell.1)
-
-count_numbers : (first count : ℕ) → length (numbers_from first count) ≡ count
-count_numbers first zero = refl
-count_numbers first (suc count) = ap suc (count_numbers (first + 1) count)
 
 -- what is told of all windows is a report
 pub is_report : (r : RecordingForm) (ps : List PropertyForm) (count budget : ℕ) (told : List WindowRecord) → 1 ≤ budget → budget ≤ 1000000 → TellEach ps count budget (all_windows r) told

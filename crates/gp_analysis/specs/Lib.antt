@@ -5,5 +5,6 @@ pub mod Queries
 pub mod Telling
 pub mod Told
 pub mod Drawn
+pub mod Ahead
 pub mod Laws
 pub mod Agreement

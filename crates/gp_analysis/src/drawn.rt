@@ -1,19 +1,20 @@
-ghost use Rattle.std.specs.Prelude.{◌≡◌, ◌≤◌, ℕ, List, All, IfOk, length};
+ghost use Rattle.std.specs.Prelude.{◌≡◌, ◌<◌, ◌≤◌, ◌+◌, ℕ, List, All, IfOk, length};
 ghost use Rattle.gp_property.specs.PropertyForm.{PropertyForm};
 ghost use Rattle.gp_window.specs.RecordingForm.{RecordingForm};
 ghost use Rattle.gp_window.specs.WindowForm.{window_of};
 ghost use Rattle.gp_tickets.specs.Drawn.{HasDrawn, numbers_of};
 ghost use Rattle.gp_tickets.specs.Tickets.{IsSingle, IsUnused, hand_of};
+ghost use Rattle.gp_analysis.specs.Ahead.{AreAhead};
 ghost use Rattle.gp_analysis.specs.Drawn.{TellsDrawn, TellsOwn};
 ghost use Rattle.gp_analysis.specs.Told.{CanBeAnalysed, TellsWindow};
 
 use crate::task::{Instructions, Order};
 use crate::window::window_record;
-use crate::window_walk::walk_to;
+use crate::windows_ahead::WindowsAhead;
 use gp_outside::Gate;
 use gp_report::WindowRecord;
 use gp_tickets::{Drawer, Drawn, Made, Tickets};
-use gp_window::{Recording, WindowWalk};
+use gp_window::Recording;
 use std::alloc::{AllocError, Global};
 use std::sync::Wait;
 use std::thread::Threads;
@@ -53,27 +54,41 @@ fn told_as_drawn<R: Threads + Wait + Sync, G: Gate + Sync>(
     ensures tells { IfOk result (λ made. All (TellsOwn recording.now task.now.properties.now task.now.workers task.now.budget) made.items) }
 {
     let mut made = Vec::new(alloc);
-    let mut walk = WindowWalk::new(alloc, recording)?;
+    let mut ahead = WindowsAhead::new(alloc, recording)?;
     while let Some(number) = tickets.draw(drawer) {
-        walk = walk_to(alloc, recording, walk, number as u32 + 1)?;
-        let value = told_here(rt, alloc, &walk, task)?;
+        let k = window_number(recording, number);
+        let value = told_next(rt, alloc, recording, task, &mut ahead, k)?;
         made.push(Made { number, value })?;
     }
     Ok(made)
 }
 
-// What is told of the window at which a walk stands.
-fn told_here<R: Threads + Wait + Sync, G: Gate + Sync>(
+// The number of the window of a ticket.
+fn window_number(recording: &Recording, ticket: u64) -> u32
+    requires { ticket < recording.now.manifest.epochs }
+    ensures { result ≡ ticket + 1 }
+{
+    let epochs = recording.manifest().epochs();
+    prove!(ticket < u64::from(epochs));
+    ticket as u32 + 1
+}
+
+// What is told of window `k`.
+fn told_next<'a, R: Threads + Wait + Sync, G: Gate + Sync>(
     rt: &R,
     alloc: Global,
-    walk: &WindowWalk<'_>,
+    recording: &'a Recording,
     task: &Instructions<'_, G>,
+    ahead: &mut WindowsAhead<'a>,
+    k: u32,
 ) -> Result<WindowRecord, AllocError>
-    requires can { CanBeAnalysed walk.now.recording task.now.properties.now task.now.workers task.now.budget }
-    requires window { (1 ≤ walk.now.number) × (walk.now.number ≤ walk.now.recording.manifest.epochs) }
-    ensures { IfOk result (TellsWindow task.now.properties.now task.now.workers task.now.budget (window_of walk.now.recording walk.now.number)) }
+    requires can { CanBeAnalysed recording.now task.now.properties.now task.now.workers task.now.budget }
+    requires ahead { AreAhead recording.now ahead.old }
+    requires k { (1 ≤ k) × (k ≤ recording.now.manifest.epochs) }
+    ensures ahead { IfOk result (λ told. AreAhead recording.now ahead.new) }
+    ensures tells { IfOk result (TellsWindow task.now.properties.now task.now.workers task.now.budget (window_of recording.now k)) }
 {
-    let window = walk.window(alloc)?;
+    let window = ahead.window(alloc, recording, k)?;
     window_record(rt, alloc, window, task, Order::InTurn)
 }
 

@@ -16,7 +16,7 @@ mod side_by_side;
 mod task;
 mod untold;
 mod window;
-mod window_walk;
+mod windows_ahead;
 
 pub use analysing::analyse;
 pub use counting::too_much;

@@ -1,7 +1,5 @@
 -- Where what is listed is not too much, neither is what is asked.
-use Rattle.std.proofs.Common.{◌≡◌, ◌*◌, ◌∙◌, sym, ap, subst, false, nat_lt, ℕ}
-use Rattle.gp_analysis.specs.declared.counting.Counted.TheVariants.{Listed}
-use Rattle.gp_analysis.specs.Tickets.{total_of}
+use Rattle.std.proofs.Common.{◌≡◌, ◌*◌, ◌∙◌, sym, subst, false, nat_lt, ℕ}
 use Rattle.gp_analysis.proofs.Counted.{not_too_much}
 use Rattle.gp_analysis.proofs.counting.too_much.Goals as goal
 

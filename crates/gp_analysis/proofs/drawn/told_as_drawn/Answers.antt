@@ -5,7 +5,6 @@ use Rattle.gp_tickets.specs.declared.hand.Hand.{Hand}
 use Rattle.gp_tickets.specs.Hand.{drew}
 use Rattle.gp_tickets.specs.Tickets.{hand_of}
 use Rattle.gp_tickets.specs.TicketLaws.{fewer_drawn, still_single}
-use Rattle.gp_window.specs.WindowForm.{window_of}
 use Rattle.gp_analysis.proofs.Drawing.{next_drawn}
 use Rattle.gp_analysis.proofs.drawn.told_as_drawn.Goals as goal
 
@@ -17,13 +16,12 @@ loop-number-preserved g c =
     let number = c.in-Some.number in
     let single = c.loop-number.invariant.single in
     let hands : hand_of c.draw.new.drawer ≡ drew (hand_of old) number = (c.in-Some.ensures.first single.told).1 in
-    let at = c.in_ok-walk-2.ensures in
     let next =
-    next_drawn c.args.recording.now task.properties.now task.workers task.budget number (hand_of old).drawn (hand_of c.draw.new.drawer).drawn c.loop-number.made.items c.push.new.self.items
-    (window_of c.in_ok-walk-2.walk.recording c.in_ok-walk-2.walk.number) c.in_ok-value.value (λ i. window_of (at.0 i) (at.1 i)) c.in_ok-value.ensures c.loop-number.invariant.numbers c.loop-number.invariant.tells
+    next_drawn c.args.recording.now task.properties.now task.workers task.budget number (hand_of old).drawn (hand_of c.draw.new.drawer).drawn c.loop-number.made.items c.push.new.self.items c.window_number-k.result
+    c.in_ok-value.value c.window_number-k.ensures c.in_ok-value.ensures.tells c.loop-number.invariant.numbers c.loop-number.invariant.tells
     (ap (λ (h : Hand). h.drawn) hands) c.in_ok-push.ensures.items in
     record {
-      same = at.0;
+      ahead = c.in_ok-value.ensures.ahead;
       single = still_single tickets old c.draw.new.drawer number single c.in-Some.ensures.drawer hands;
       numbers = next.0;
       tells = next.1;

@@ -1,6 +1,7 @@
 use Rattle.std.proofs.Common.{◌≡◌, ◌-◌, All, length}
 use Rattle.gp_tickets.specs.Drawn.{numbers_of}
 use Rattle.gp_tickets.specs.Tickets.{IsSingle, hand_of}
+use Rattle.gp_analysis.specs.Ahead.{AreAhead}
 use Rattle.gp_analysis.specs.Drawn.{TellsOwn}
 use Rattle.gp_analysis.proofs.drawn.told_as_drawn.Given as goal
 
@@ -9,7 +10,7 @@ decreases-loop-number g l = l.tickets.count - length (hand_of l.drawer).drawn
 
 abbrev pub invariant-loop-number : goal.invariant-loop-number
 invariant-loop-number g l = record {
-  same : l.walk.recording ≡ l.recording;
+  ahead : AreAhead l.recording l.ahead;
   single : IsSingle l.tickets 0 l.drawer;
   numbers : numbers_of l.made.items ≡ (hand_of l.drawer).drawn;
   tells : All (TellsOwn l.recording l.task.properties.now l.task.workers l.task.budget) l.made.items;

@@ -39,6 +39,6 @@ pub use reading::read_recording;
 pub use recording::Recording;
 pub use schedule::{EventId, Schedule, contains_event};
 pub use starts::is_among;
-pub use walk::{WindowWalk, cut};
+pub use walk::cut;
 pub use window::Window;
 pub use windows::Windows;

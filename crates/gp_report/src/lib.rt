@@ -7,6 +7,7 @@
 
 mod checks;
 mod fault;
+mod fit;
 mod laws;
 mod lines;
 mod printing;

@@ -1,9 +1,14 @@
-ghost use Rattle.std.specs.Prelude.{◌≡◌, [], ◌∷◌, ◌++◌, IfOk, OnOk, codes, decimal, flat_map, length, map};
+ghost use Rattle.std.specs.Prelude.{◌≡◌, [], ◌∷◌, ◌++◌, IfOk, Ok, OnOk, codes, decimal, flat_map, length, map};
 ghost use Rattle.gp_text.specs.Spelling.{after_words, spelling};
 ghost use Rattle.gp_window.specs.EventIds.{event_id_text};
 ghost use Rattle.gp_report.specs.Entries.{entries_of};
+ghost use Rattle.gp_report.specs.Reading.{report_of};
+ghost use Rattle.gp_report.specs.Telling.{IsWhole, without_records};
+ghost use Rattle.gp_report.specs.Typed.{AreCounted};
 ghost use Rattle.gp_report.specs.Printed.{answer_lines, count_word, entries_lines, in_lines, instance_words, lit_word, property_lines, report_lines, shared_lines, step_lines, summary_words, window_body_lines, window_lines};
 
+use crate::fit::windows_fit;
+use crate::laws::reports_read_again;
 use crate::lines::{put_line, put_list, put_word, put_words};
 use crate::record::{Answer, Entry, PropertyBody, PropertyRecord, WindowBody, WindowRecord};
 use crate::report::Report;
@@ -14,15 +19,21 @@ use gp_clause::Lit;
 use gp_window::EventId;
 use std::alloc::{AllocError, Global};
 
-/// The text of a report: its lines of words, with one space between words and a newline after each line.
+/// The text of a report: its lines of words, with one space between words and a newline after each line. It is read as the
+/// report without its workers' records.
 pub fn print_report(alloc: Global, report: &Report) -> Result<Row<u8>, AllocError>
-    ensures { IfOk result (λ text. text ≡ spelling (report_lines report.now)) }
+    ensures text { IfOk result (λ text. text ≡ spelling (report_lines report.now)) }
+    ensures whole { IfOk result (λ text. IsWhole report.now) }
+    ensures again { IfOk result (λ text. report_of text ≡ Ok (without_records report.now)) }
 {
+    reports_read_again();
+    let windows = report.windows();
+    windows_fit(windows);
     let mut text = Vec::new(alloc);
     put_line(&mut text, b"gpredict", &[u64::from(report.format())])?;
     put_line(&mut text, b"budget", &[report.budget()])?;
-    put_windows(&mut text, report.format(), report.windows())?;
-    put_summary(&mut text, report.windows())?;
+    put_windows(&mut text, report.format(), windows)?;
+    put_summary(&mut text, windows)?;
     Ok(Row::from_vec(text))
 }
 
@@ -197,7 +208,8 @@ fn put_lists(text: &mut Vec<u8>, lits: &[Lit], hints: &[u32]) -> Result<(), Allo
 }
 
 fn put_summary(text: &mut Vec<u8>, windows: &[WindowRecord]) -> Result<(), AllocError>
-    ensures { OnOk result (text.new.items ≡ text.old.items ++ spelling (summary_words (entries_of windows.now) ∷ [])) }
+    ensures text { OnOk result (text.new.items ≡ text.old.items ++ spelling (summary_words (entries_of windows.now) ∷ [])) }
+    ensures counted { OnOk result (AreCounted (entries_of windows.now)) }
 {
     let tally = tally_of(windows)?;
     let counts = [tally.found, tally.impossible, tally.undecided];

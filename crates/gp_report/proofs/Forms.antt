@@ -4,6 +4,7 @@ use Rattle.std.specs.Prelude.{◌⊎◌, ◌==◌}
 use Rattle.std.specs.List.{AllByRecursion, flat_map}
 use Rattle.std.proofs.lemmas.List.Elements.{All-from_recursion, recursion_from_All}
 use Rattle.gp_base.specs.ListLaws.{recursion_at, recursion_flat_map, recursion_flat_map_at, recursion_from_each}
+use Rattle.gp_base.specs.OrderLaws.{each}
 use Rattle.gp_certificate.specs.declared.step.Step.{Step}
 use Rattle.gp_text.specs.declared.line.Line.{Line}
 use Rattle.gp_text.specs.Numbers.{OneSpelling}
@@ -34,10 +35,6 @@ use Rattle.gp_report.proofs.WindowsRead.{WindowBodyIs, WindowIs, WindowsAre}
 -- three facts of each thing are one
 each_of : {A : Type 0} (P Q R S : A → Type 0) (join : (x : A) → P x → Q x → R x → S x) (xs : List A) → AllByRecursion P xs → AllByRecursion Q xs → AllByRecursion R xs → AllByRecursion S xs
 each_of P Q R S join xs p q r = recursion_from_each S xs (λ x i. join x (recursion_at P xs x p i) (recursion_at Q xs x q i) (recursion_at R xs x r i))
-
--- one fact of each thing is another
-each_is : {A : Type 0} (P Q : A → Type 0) (turn : (x : A) → P x → Q x) (xs : List A) → AllByRecursion P xs → AllByRecursion Q xs
-each_is P Q turn xs p = recursion_from_each Q xs (λ x i. turn x (recursion_at P xs x p i))
 
 -- what holds of the things in each of these holds of all of them, and the other way round
 flat_of : {A B : Type 0} (P : A → Type 0) (f : B → List A) (xs : List B) → AllByRecursion (λ x. AllByRecursion P (f x)) xs → AllByRecursion P (flat_map f xs)
@@ -159,7 +156,7 @@ step_clause : (step : Step) → StepIs step → HasClause step
 step_clause step is = rising_from_test step.clause is.rising
 
 from_each : {A : Type 0} (P Q : A → Type 0) (turn : (x : A) → P x → Q x) (xs : List A) → AllByRecursion P xs → All Q xs
-from_each P Q turn xs are = All-from_recursion Q xs (each_is P Q turn xs are)
+from_each P Q turn xs are = All-from_recursion Q xs (each P Q turn xs are)
 
 answer_told : (answer : Answer) → AnswerIs answer → IsToldAnswer answer
 answer_told (Found schedule) is = tt
@@ -200,7 +197,7 @@ property_typed : (property : PropertyRecord) → PropertyIs property → IsTyped
 property_typed property is = record { name = is.name; entries = from_each EntryIs IsTypedEntry entry_typed (entries_in property.body) (body_entries property.body is.body) }
 
 property_clauses : (property : PropertyRecord) → PropertyIs property → AllByRecursion HasEntryClauses (entries_in property.body)
-property_clauses property is = each_is EntryIs HasEntryClauses entry_clauses (entries_in property.body) (body_entries property.body is.body)
+property_clauses property is = each EntryIs HasEntryClauses entry_clauses (entries_in property.body) (body_entries property.body is.body)
 
 window_body_told : (shared : List Step) (body : WindowBody) → WindowBodyIs shared body → IsWindowBody shared body
 window_body_told shared (TooLarge events clauses) is = is.0
@@ -213,7 +210,7 @@ window_body_typed shared (Answers properties) is = from_each PropertyIs IsTypedP
 window_body_clauses : (shared : List Step) (body : WindowBody) → WindowBodyIs shared body → AllByRecursion HasEntryClauses (entries_among (properties_in body))
 window_body_clauses shared (TooLarge events clauses) is = tt
 window_body_clauses shared (Answers properties) is =
-    flat_of HasEntryClauses (λ (property : PropertyRecord). entries_in property.body) properties (each_is PropertyIs (λ property. AllByRecursion HasEntryClauses (entries_in property.body)) property_clauses properties is)
+    flat_of HasEntryClauses (λ (property : PropertyRecord). entries_in property.body) properties (each PropertyIs (λ property. AllByRecursion HasEntryClauses (entries_in property.body)) property_clauses properties is)
 
 -- what follows of each window
 record WindowFrom (format : ℕ) (window : WindowRecord) : Type 0 where
@@ -282,7 +279,7 @@ report_whole report is =
         shared = from_each (WindowFrom report.format) (λ window. All HasClause window.shared) (λ window from. from.shared) report.windows windows;
         answers = All-from_recursion HasEntryClauses (entries_of report.windows)
             (flat_of HasEntryClauses (λ (window : WindowRecord). entries_among (properties_in window.body)) report.windows
-            (each_is (WindowFrom report.format) (λ window. AllByRecursion HasEntryClauses (entries_among (properties_in window.body))) (λ window from. from.answers) report.windows windows));
+            (each (WindowFrom report.format) (λ window. AllByRecursion HasEntryClauses (entries_among (properties_in window.body))) (λ window from. from.answers) report.windows windows));
       };
     }
 

@@ -27,17 +27,17 @@ use Rattle.gp_report.specs.declared.record.Entry.{Entry}
 use Rattle.gp_report.specs.declared.record.PropertyBody.{PropertyBody}
 use Rattle.gp_report.specs.declared.record.PropertyBody.TheVariants as body
 use Rattle.gp_report.specs.declared.record.PropertyRecord.{PropertyRecord}
-use Rattle.gp_report.specs.Report.{IsEntry, IsPropertyBody, IsPropertyRecord, IsToldAnswer, IsToldStep}
+use Rattle.gp_report.specs.Report.{IsEntry, IsPropertyBody, IsPropertyRecord, IsPrintableAnswer, IsPrintableStep}
 use Rattle.gp_window.specs.declared.schedule.EventId.{EventId}
 use Rattle.gp_window.specs.WindowForm.{WindowForm}
 use Rattle.gp_analysis.specs.Answered.{AnswersEach, AnswersListed, AnswersProperties, IsAnswer}
 use Rattle.gp_analysis.specs.Tickets.{found_count}
 use Rattle.gp_analysis.proofs.Evidence.{IsAnswerable, unshared}
 
-told_steps : (edges : List Edge) (kinds : List Kind) (earlier : List (List Lit)) (steps : List Step) → length kinds < 2 ^ 31 - 1 → StepsCheck edges kinds earlier steps → All IsToldStep steps
-told_steps edges kinds earlier [] few checks = All-nil IsToldStep
+told_steps : (edges : List Edge) (kinds : List Kind) (earlier : List (List Lit)) (steps : List Step) → length kinds < 2 ^ 31 - 1 → StepsCheck edges kinds earlier steps → All IsPrintableStep steps
+told_steps edges kinds earlier [] few checks = All-nil IsPrintableStep
 told_steps edges kinds earlier (step ∷ steps) few checks =
-    All-cons IsToldStep step steps
+    All-cons IsPrintableStep step steps
     (All-weaker (λ (lit : Lit). lit.variable < length kinds) (λ (lit : Lit). lit.variable < 2 ^ 31 - 1) (λ lit below. omega (arith, below, few)) step.clause checks.0.passes.in_range)
     (told_steps edges kinds (earlier ++ step.clause ∷ []) steps few checks.1)
 
@@ -52,7 +52,7 @@ within P (worker ∷ workers) zero own = omega arith
 within P (worker ∷ workers) (suc place) own = let rest = within P workers place own in omega (arith, rest)
 
 told_answer : (window : WindowForm) → IsAnswerable window → (budget ticket : ℕ) (workers : List WorkerRecord) → length workers ≤ 16 → (property : PropertyForm) (ids : List EventId) (answer : Answer)
-    → IsValidQuery (base_of window) (query_of window property ids) → IsAnswer window (unshared budget workers) property ticket ids answer → IsToldAnswer answer
+    → IsValidQuery (base_of window) (query_of window property ids) → IsAnswer window (unshared budget workers) property ticket ids answer → IsPrintableAnswer answer
 told_answer window can budget ticket workers few property ids (Found schedule) valid is = tt
 told_answer window can budget ticket workers few property ids (Impossible certificate) valid is =
     let refutes = (can.laws.alone.refutes (base_of window) (query_of window property ids) certificate).0 is.refutes in

@@ -14,7 +14,7 @@ use Rattle.gp_property.specs.PropertyForm.{PropertyForm}
 use Rattle.gp_report.specs.declared.record.PropertyRecord.{PropertyRecord}
 use Rattle.gp_report.specs.declared.record.WindowBody.TheVariants as told
 use Rattle.gp_report.specs.declared.record.WindowRecord.{WindowRecord}
-use Rattle.gp_report.specs.Report.{IsToldStep, IsWindowRecord}
+use Rattle.gp_report.specs.Report.{IsPrintableStep, IsWindowRecord}
 use Rattle.gp_window.specs.WindowForm.{WindowForm}
 use Rattle.gp_workers.specs.declared.work.WindowWork.{WindowWork}
 use Rattle.gp_workers.specs.declared.work.WorkAnswer.{WorkAnswer}
@@ -114,7 +114,7 @@ all_done window can properties are count budget number place most work found lef
     done = record {
       answered = subst (λ due. AnswersBody window properties count (unshared budget work.records) due (told.Answers records)) (sym (is_due window can.encodable)) (answers, own);
       fits = record {
-        shared = All-nil IsToldStep;
+        shared = All-nil IsPrintableStep;
         first_format = λ one. refl;
         body = told_records window can budget 0 0 work.records (omega (arith, is.workers, most)) properties records (recursion_from_All IsProperty properties are) answers;
       };

@@ -18,7 +18,7 @@ use Rattle.gp_report.specs.declared.record.WindowBody.{WindowBody}
 use Rattle.gp_report.specs.declared.record.WindowBody.TheVariants.{TooLarge, Answers}
 use Rattle.gp_report.specs.declared.record.WindowRecord.{WindowRecord}
 use Rattle.gp_report.specs.Entries.{entries_among, entries_in}
-use Rattle.gp_report.specs.Report.{IsEntry, IsPropertyBody, IsPropertyRecord, IsReport, IsToldAnswer, IsToldStep, IsWindowBody, IsWindowRecord}
+use Rattle.gp_report.specs.Report.{IsEntry, IsPropertyBody, IsPropertyRecord, IsReport, IsPrintableAnswer, IsPrintableStep, IsWindowBody, IsWindowRecord}
 use Rattle.gp_report.specs.ReportForm.{ReportForm}
 use Rattle.gp_window.specs.RecordingForm.{RecordingForm}
 use Rattle.gp_window.specs.WindowForm.{WindowForm, numbers_from}
@@ -29,56 +29,56 @@ use Rattle.gp_compact.specs.Moving.{are_movable, compacted_steps, first_own, fro
 use Rattle.gp_compact.proofs.NewNumbers.{staying_all}
 
 -- new hints keep a step such that it can be told
-hinted_told : (f : ℕ → ℕ) (steps : List Step) → All IsToldStep steps → All IsToldStep (map (with_hints f) steps)
-hinted_told f steps told = All-map IsToldStep (with_hints f) steps told
+hinted_told : (f : ℕ → ℕ) (steps : List Step) → All IsPrintableStep steps → All IsPrintableStep (map (with_hints f) steps)
+hinted_told f steps told = All-map IsPrintableStep (with_hints f) steps told
 
-compacted_told : (sizes : Sizes) (list steps : List Step) → All IsToldStep steps → All IsToldStep (compacted_steps sizes list steps)
+compacted_told : (sizes : Sizes) (list steps : List Step) → All IsPrintableStep steps → All IsPrintableStep (compacted_steps sizes list steps)
 compacted_told sizes list steps told = by (are_movable (first_own sizes) steps)
   where
-    by : (b : Bool) → All IsToldStep (if b then map (with_hints (new_number sizes (length list) (places_of sizes list steps))) (staying (places_of sizes list steps) steps) else map (with_hints (raised sizes (length list - sizes.shared))) steps)
-    by true = hinted_told (new_number sizes (length list) (places_of sizes list steps)) (staying (places_of sizes list steps) steps) (staying_all IsToldStep (places_of sizes list steps) steps told)
+    by : (b : Bool) → All IsPrintableStep (if b then map (with_hints (new_number sizes (length list) (places_of sizes list steps))) (staying (places_of sizes list steps) steps) else map (with_hints (raised sizes (length list - sizes.shared))) steps)
+    by true = hinted_told (new_number sizes (length list) (places_of sizes list steps)) (staying (places_of sizes list steps) steps) (staying_all IsPrintableStep (places_of sizes list steps) steps told)
     by false = hinted_told (raised sizes (length list - sizes.shared)) steps told
 
 -- the shared list can be told with what moves into it
-moved_told : (sizes : Sizes) (list : List Step) (places : List (Option ℕ)) (step : Step) → All IsToldStep list → IsToldStep step → All IsToldStep (with_moved sizes list places step)
+moved_told : (sizes : Sizes) (list : List Step) (places : List (Option ℕ)) (step : Step) → All IsPrintableStep list → IsPrintableStep step → All IsPrintableStep (with_moved sizes list places step)
 moved_told sizes list places step told one = by (moves sizes places step)
   where
-    pushed : (b : Bool) → All IsToldStep (if b then list else (list ++ moved_step sizes places step ∷ []))
+    pushed : (b : Bool) → All IsPrintableStep (if b then list else (list ++ moved_step sizes places step ∷ []))
     pushed true = told
-    pushed false = All-push IsToldStep list (moved_step sizes places step) told one
+    pushed false = All-push IsPrintableStep list (moved_step sizes places step) told one
 
-    by : (b : Bool) → All IsToldStep (if b then with_step list (moved_step sizes places step) else list)
+    by : (b : Bool) → All IsPrintableStep (if b then with_step list (moved_step sizes places step) else list)
     by true = pushed (list_any (step_eq (moved_step sizes places step)) list)
     by false = told
 
-steps_told : (sizes : Sizes) (list : List Step) (places : List (Option ℕ)) (steps : List Step) → All IsToldStep list → All IsToldStep steps → All IsToldStep (with_steps sizes list places steps)
+steps_told : (sizes : Sizes) (list : List Step) (places : List (Option ℕ)) (steps : List Step) → All IsPrintableStep list → All IsPrintableStep steps → All IsPrintableStep (with_steps sizes list places steps)
 steps_told sizes list places [] told own = told
 steps_told sizes list places (step ∷ steps) told own =
     let more = with_moved sizes list places step in
     steps_told sizes more (places ++ place_of sizes more places step ∷ []) steps
-    (moved_told sizes list places step told (All-head IsToldStep step steps own)) (All-tail IsToldStep step steps own)
+    (moved_told sizes list places step told (All-head IsPrintableStep step steps own)) (All-tail IsPrintableStep step steps own)
 
-certificate_told : (sizes : Sizes) (list steps : List Step) → All IsToldStep list → All IsToldStep steps → All IsToldStep (with_certificate sizes list steps)
+certificate_told : (sizes : Sizes) (list steps : List Step) → All IsPrintableStep list → All IsPrintableStep steps → All IsPrintableStep (with_certificate sizes list steps)
 certificate_told sizes list steps told own = by (are_movable (first_own sizes) steps)
   where
-    by : (b : Bool) → All IsToldStep (if b then with_steps sizes list [] (front_of steps) else list)
-    by true = steps_told sizes list [] (front_of steps) told (All-take IsToldStep (length steps - 1) steps own)
+    by : (b : Bool) → All IsPrintableStep (if b then with_steps sizes list [] (front_of steps) else list)
+    by true = steps_told sizes list [] (front_of steps) told (All-take IsPrintableStep (length steps - 1) steps own)
     by false = told
 
 abbrev OwnTold : Entry → Type 0
-OwnTold entry = All IsToldStep (own_steps entry.answer)
+OwnTold entry = All IsPrintableStep (own_steps entry.answer)
 
-entries_list_told : (sizes : Sizes) (list : List Step) (entries : List Entry) → All IsToldStep list → All OwnTold entries → All IsToldStep (with_entries sizes list entries)
+entries_list_told : (sizes : Sizes) (list : List Step) (entries : List Entry) → All IsPrintableStep list → All OwnTold entries → All IsPrintableStep (with_entries sizes list entries)
 entries_list_told sizes list [] told own = told
 entries_list_told sizes list (entry ∷ entries) told own =
     entries_list_told sizes (with_certificate sizes list (own_steps entry.answer)) entries
     (certificate_told sizes list (own_steps entry.answer) told (All-head OwnTold entry entries own)) (All-tail OwnTold entry entries own)
 
 -- the steps of the entries of a window can be told
-answer_own : (answer : Answer) → IsToldAnswer answer → All IsToldStep (own_steps answer)
-answer_own (Found schedule) told = All-nil IsToldStep
+answer_own : (answer : Answer) → IsPrintableAnswer answer → All IsPrintableStep (own_steps answer)
+answer_own (Found schedule) told = All-nil IsPrintableStep
 answer_own (Impossible certificate) told = told
-answer_own (Undecided worker from to) told = All-nil IsToldStep
+answer_own (Undecided worker from to) told = All-nil IsPrintableStep
 
 property_own : (body : PropertyBody) → IsPropertyBody body → All OwnTold (entries_in body)
 property_own TooMany told = All-nil OwnTold
@@ -95,8 +95,8 @@ body_own shared (TooLarge events clauses) told = All-nil OwnTold
 body_own shared (Answers properties) told = properties_own properties told
 
 -- and so can its answers over another list
-module _ (f : List Step → List Step) (keeps : (steps : List Step) → All IsToldStep steps → All IsToldStep (f steps)) where
-  answer_told : (answer : Answer) → IsToldAnswer answer → IsToldAnswer (answer_by f answer)
+module _ (f : List Step → List Step) (keeps : (steps : List Step) → All IsPrintableStep steps → All IsPrintableStep (f steps)) where
+  answer_told : (answer : Answer) → IsPrintableAnswer answer → IsPrintableAnswer (answer_by f answer)
   answer_told (Found schedule) told = told
   answer_told (Impossible certificate) told = keeps certificate.steps told
   answer_told (Undecided worker from to) told = told
@@ -192,7 +192,7 @@ same_told (one ∷ ones) (other ∷ others) same told =
     let is = All-head (IsWindowRecord 2) one ones told in
     All-cons (IsWindowRecord 2) other others
     (record {
-      shared = subst (All IsToldStep) (sym same.0.shared) is.shared;
+      shared = subst (All IsPrintableStep) (sym same.0.shared) is.shared;
       first_format = λ wrong. absurd (omega (arith, wrong));
       body = subst (λ (shared : List Step). IsWindowBody shared other.body) (sym same.0.shared) (subst (IsWindowBody one.shared) (sym same.0.body) is.body);
     })

@@ -21,7 +21,7 @@ use Rattle.gp_report.specs.declared.record.WindowBody.TheVariants.{TooLarge, Ans
 use Rattle.gp_report.specs.declared.record.WindowRecord.{WindowRecord}
 use Rattle.gp_report.specs.Entries.{entries_among, entries_in, entries_of, properties_in}
 use Rattle.gp_report.specs.Reading.{report_from}
-use Rattle.gp_report.specs.Report.{IsEntry, IsPropertyBody, IsPropertyRecord, IsReport, IsToldAnswer, IsToldStep, IsWindowBody, IsWindowRecord}
+use Rattle.gp_report.specs.Report.{IsEntry, IsPropertyBody, IsPropertyRecord, IsReport, IsPrintableAnswer, IsPrintableStep, IsWindowBody, IsWindowRecord}
 use Rattle.gp_report.specs.ReportForm.{ReportForm}
 use Rattle.gp_report.specs.Telling.{HasClause, HasClauses, IsWhole, window_without_records, without_records}
 use Rattle.gp_report.specs.Typed.{IsTypedAnswer, IsTypedBody, IsTypedEntry, IsTypedId, IsTypedProperty, IsTypedStep, IsTypedWindow}
@@ -45,7 +45,7 @@ flat_parts P f xs all = recursion_from_each (λ x. AllByRecursion P (f x)) xs (�
 
 -- ---- to what can be read again
 
-step_to : (step : Step) → IsToldStep step → IsTypedStep step → HasClause step → StepIs step
+step_to : (step : Step) → IsPrintableStep step → IsTypedStep step → HasClause step → StepIs step
 step_to step told typed clause = record {
   lits_fit = typed.lits_fit;
   hints_fit = typed.hints_fit;
@@ -54,12 +54,12 @@ step_to step told typed clause = record {
   hints = recursion_from_All IsSmall step.hints typed.hints;
 }
 
-steps_to : (steps : List Step) → All IsToldStep steps → All IsTypedStep steps → All HasClause steps → AllByRecursion StepIs steps
+steps_to : (steps : List Step) → All IsPrintableStep steps → All IsTypedStep steps → All HasClause steps → AllByRecursion StepIs steps
 steps_to steps told typed clauses =
-    each_of IsToldStep IsTypedStep HasClause StepIs step_to steps
-    (recursion_from_All IsToldStep steps told) (recursion_from_All IsTypedStep steps typed) (recursion_from_All HasClause steps clauses)
+    each_of IsPrintableStep IsTypedStep HasClause StepIs step_to steps
+    (recursion_from_All IsPrintableStep steps told) (recursion_from_All IsTypedStep steps typed) (recursion_from_All HasClause steps clauses)
 
-answer_to : (answer : Answer) → IsToldAnswer answer → IsTypedAnswer answer → HasClauses answer → AnswerIs answer
+answer_to : (answer : Answer) → IsPrintableAnswer answer → IsTypedAnswer answer → HasClauses answer → AnswerIs answer
 answer_to (Found schedule) told typed clauses = (typed.0, recursion_from_All IsTypedId schedule.events typed.1)
 answer_to (Impossible certificate) told typed clauses = (typed.0, steps_to certificate.steps told typed.1 clauses)
 answer_to (Undecided worker from to) told typed clauses = (told.0, told.1, typed.0, typed.1)
@@ -146,7 +146,7 @@ report_to report whole =
 
 -- ---- from what can be read again
 
-step_told : (step : Step) → StepIs step → IsToldStep step
+step_told : (step : Step) → StepIs step → IsPrintableStep step
 step_told step is = All-from_recursion IsLow step.clause is.lits
 
 step_typed : (step : Step) → StepIs step → IsTypedStep step
@@ -158,9 +158,9 @@ step_clause step is = rising_from_test step.clause is.rising
 from_each : {A : Type 0} (P Q : A → Type 0) (turn : (x : A) → P x → Q x) (xs : List A) → AllByRecursion P xs → All Q xs
 from_each P Q turn xs are = All-from_recursion Q xs (each P Q turn xs are)
 
-answer_told : (answer : Answer) → AnswerIs answer → IsToldAnswer answer
+answer_told : (answer : Answer) → AnswerIs answer → IsPrintableAnswer answer
 answer_told (Found schedule) is = tt
-answer_told (Impossible certificate) is = from_each StepIs IsToldStep step_told certificate.steps is.1
+answer_told (Impossible certificate) is = from_each StepIs IsPrintableStep step_told certificate.steps is.1
 answer_told (Undecided worker from to) is = (is.0, is.1)
 
 answer_typed : (answer : Answer) → AnswerIs answer → IsTypedAnswer answer
@@ -225,7 +225,7 @@ not_second format first = ap (λ n. n == 2) first
 window_from : (format due : ℕ) (window : WindowRecord) → WindowIs format due window → WindowFrom format window
 window_from format due window is = record {
   told = record {
-    shared = from_each StepIs IsToldStep step_told window.shared is.told.steps.steps;
+    shared = from_each StepIs IsPrintableStep step_told window.shared is.told.steps.steps;
     first_format = λ first. is.told.steps.none (not_second format first);
     body = window_body_told window.shared window.body is.told.rest;
   };

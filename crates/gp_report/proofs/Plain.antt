@@ -19,7 +19,7 @@ use Rattle.gp_report.specs.declared.record.WindowRecord.{WindowRecord}
 use Rattle.gp_report.specs.Entries.{count_of, entries_in, entries_of, is_found, is_impossible, is_undecided}
 use Rattle.gp_report.specs.Laws.{ReportsArePlain}
 use Rattle.gp_report.specs.Printed.{answer_lines, count_word, entries_lines, in_lines, instance_words, lit_word, property_lines, report_lines, shared_lines, step_lines, summary_words, window_body_lines, window_lines}
-use Rattle.gp_report.specs.Report.{IsEntry, IsPropertyBody, IsPropertyRecord, IsReport, IsToldAnswer, IsToldStep, IsWindowBody, IsWindowRecord}
+use Rattle.gp_report.specs.Report.{IsEntry, IsPropertyBody, IsPropertyRecord, IsReport, IsPrintableAnswer, IsPrintableStep, IsWindowBody, IsWindowRecord}
 use Rattle.gp_report.specs.ReportForm.{ReportForm}
 use Rattle.gp_report.specs.Typed.{AreCounted, AreTypedSteps, IsTyped, IsTypedAnswer, IsTypedBody, IsTypedEntry, IsTypedId, IsTypedProperty, IsTypedStep, IsTypedWindow}
 use Rattle.gp_report.proofs.Words.{ArePlain, id_word, IsListWord, is_keyword, keyword_word, line, list_lines, literal, mapped, name_word, number}
@@ -45,7 +45,7 @@ numbers_line : (laws : PlainWords) (keyword : List ℕ) (numbers : List ℕ) →
 numbers_line laws keyword numbers is fit few =
     line keyword (map decimal numbers) (keyword_word keyword is) (mapped decimal (λ n. n < 2 ^ 64) (number laws) numbers fit) (omega (arith, few, length-map numbers decimal))
 
-step_plain : (laws : PlainWords) (step : Step) → IsToldStep step × IsTypedStep step → ArePlain (step_lines step)
+step_plain : (laws : PlainWords) (step : Step) → IsPrintableStep step × IsTypedStep step → ArePlain (step_lines step)
 step_plain laws step is =
     let lits = mapped lit_word (λ (lit : Lit). lit.variable < 2 ^ 31 - 1) (literal laws) step.clause (recursion_from_All _ step.clause is.0) in
     let hints = mapped decimal (λ hint. hint < 2 ^ 32) (λ hint lt. number laws hint (omega arith)) step.hints (recursion_from_All _ step.hints is.1.hints) in (
@@ -53,11 +53,11 @@ step_plain laws step is =
       append_plain (in_lines (map lit_word step.clause)) (in_lines (map decimal step.hints)) (list_lines (map lit_word step.clause) lits) (list_lines (map decimal step.hints) hints),
     )
 
-steps_plain : (laws : PlainWords) (steps : List Step) → All IsToldStep steps → All IsTypedStep steps → ArePlain (flat_map step_lines steps)
+steps_plain : (laws : PlainWords) (steps : List Step) → All IsPrintableStep steps → All IsTypedStep steps → ArePlain (flat_map step_lines steps)
 steps_plain laws steps told typed =
-    flat_plain step_lines (λ step. IsToldStep step × IsTypedStep step) (step_plain laws) steps (both IsToldStep IsTypedStep steps told typed)
+    flat_plain step_lines (λ step. IsPrintableStep step × IsTypedStep step) (step_plain laws) steps (both IsPrintableStep IsTypedStep steps told typed)
 
-answer_plain : (laws : PlainWords) (answer : Answer) → IsToldAnswer answer → IsTypedAnswer answer → ArePlain (answer_lines answer)
+answer_plain : (laws : PlainWords) (answer : Answer) → IsPrintableAnswer answer → IsTypedAnswer answer → ArePlain (answer_lines answer)
 answer_plain laws (Found schedule) told typed = (
   numbers_line laws (codes "found") (length schedule.events ∷ []) refl (typed.0, tt) (omega arith),
   list_lines (map event_id_text schedule.events) (mapped event_id_text IsTypedId (id_word laws) schedule.events (recursion_from_All IsTypedId schedule.events typed.1)),
@@ -99,7 +99,7 @@ property_plain laws property is = (
   body_entries_plain laws property.body is.0 is.1.entries,
 )
 
-shared_plain : (laws : PlainWords) (told : Bool) (shared : List Step) → All IsToldStep shared → AreTypedSteps shared
+shared_plain : (laws : PlainWords) (told : Bool) (shared : List Step) → All IsPrintableStep shared → AreTypedSteps shared
     → ArePlain (if told then (codes "shared" ∷ decimal (length shared) ∷ []) ∷ flat_map step_lines shared else [])
 shared_plain laws true shared are typed = (
   numbers_line laws (codes "shared") (length shared ∷ []) refl (typed.0, tt) (omega arith),
@@ -107,7 +107,7 @@ shared_plain laws true shared are typed = (
 )
 shared_plain laws false shared are typed = tt
 
-window_body_plain : (laws : PlainWords) (format : ℕ) (shared : List Step) (body : WindowBody) → All IsToldStep shared → IsWindowBody shared body → AreTypedSteps shared → IsTypedBody body → ArePlain (window_body_lines format shared body)
+window_body_plain : (laws : PlainWords) (format : ℕ) (shared : List Step) (body : WindowBody) → All IsPrintableStep shared → IsWindowBody shared body → AreTypedSteps shared → IsTypedBody body → ArePlain (window_body_lines format shared body)
 window_body_plain laws format shared (TooLarge events clauses) told is fit typed = (
   numbers_line laws (codes "toolarge") (events ∷ clauses ∷ []) refl (typed.0, (typed.1, tt)) (omega arith),
   tt,

@@ -14,21 +14,21 @@ use Rattle.gp_report.specs.declared.record.WindowBody.TheVariants.{TooLarge, Ans
 use Rattle.gp_report.specs.declared.record.WindowRecord.{WindowRecord}
 use Rattle.gp_report.specs.ReportForm.{ReportForm}
 
--- a step whose literals can be told: variable n is told as n + 1, up to 2^31 - 1
-abbrev pub IsToldStep : Step → Type 0
-IsToldStep step = NamesBelow (2 ^ 31 - 1) step.clause
+-- a step whose literals can be printed: variable n is printed as n + 1, up to 2^31 - 1
+abbrev pub IsPrintableStep : Step → Type 0
+IsPrintableStep step = NamesBelow (2 ^ 31 - 1) step.clause
 
--- steps that can be told; an undecided answer names one of the workers
-abbrev pub IsToldAnswer : Answer → Type 0
-IsToldAnswer (Found schedule) = Unit {0}
-IsToldAnswer (Impossible certificate) = All IsToldStep certificate.steps
-IsToldAnswer (Undecided worker from to) = (1 ≤ worker) × (worker ≤ 16)
+-- steps that can be printed; an undecided answer names one of the workers
+abbrev pub IsPrintableAnswer : Answer → Type 0
+IsPrintableAnswer (Found schedule) = Unit {0}
+IsPrintableAnswer (Impossible certificate) = All IsPrintableStep certificate.steps
+IsPrintableAnswer (Undecided worker from to) = (1 ≤ worker) × (worker ≤ 16)
 
--- an entry has 1 to 6 events, and an answer that can be told
+-- an entry has 1 to 6 events, and an answer that can be printed
 pub record IsEntry (entry : Entry) : Type 0 where
   pub some : 1 ≤ length entry.events
   pub few : length entry.events ≤ 6
-  pub answer : IsToldAnswer entry.answer
+  pub answer : IsPrintableAnswer entry.answer
 
 -- at most 10,000 entries
 abbrev pub IsPropertyBody : PropertyBody → Type 0
@@ -46,7 +46,7 @@ IsWindowBody shared (Answers properties) = All IsPropertyRecord properties
 
 -- what is told of a window in a report of this format: format 1 has no shared steps
 pub record IsWindowRecord (format : ℕ) (window : WindowRecord) : Type 0 where
-  pub shared : All IsToldStep window.shared
+  pub shared : All IsPrintableStep window.shared
   pub first_format : format ≡ 1 → window.shared ≡ []
   pub body : IsWindowBody window.shared window.body
 

@@ -1,6 +1,6 @@
 ghost use Rattle.std.specs.Prelude.{◌≡◌, ◌⊎◌, ◌↔◌, IsTrue, All, length, map};
 ghost use Rattle.gp_window.specs.WindowForm.{numbers_from};
-ghost use Rattle.gp_report.specs.Report.{IsEntry, IsPropertyBody, IsPropertyRecord, IsReport, IsToldAnswer, IsToldStep, IsWindowBody, IsWindowRecord};
+ghost use Rattle.gp_report.specs.Report.{IsEntry, IsPropertyBody, IsPropertyRecord, IsReport, IsPrintableAnswer, IsPrintableStep, IsWindowBody, IsWindowRecord};
 
 use crate::record::{
     Answer, Entry, MOST_BUDGET, MOST_ENTRIES, MOST_EVENTS, MOST_WORKERS, PropertyBody,
@@ -51,7 +51,7 @@ fn is_window_record(format: u32, window: &WindowRecord) -> bool
     ensures { IsTrue result ↔ IsWindowRecord format window.now }
 {
     let shared = window.shared.as_slice();
-    are_told_steps(shared)
+    are_printable_steps(shared)
         && (format != 1 || shared.is_empty())
         && is_window_body(shared, &window.body)
 }
@@ -93,27 +93,29 @@ fn are_entries(entries: &[Entry]) -> bool
 fn is_entry(entry: &Entry) -> bool
     ensures { IsTrue result ↔ IsEntry entry.now }
 {
-    1 <= entry.events.len() && entry.events.len() <= MOST_EVENTS && is_told_answer(&entry.answer)
+    1 <= entry.events.len()
+        && entry.events.len() <= MOST_EVENTS
+        && is_printable_answer(&entry.answer)
 }
 
-fn is_told_answer(answer: &Answer) -> bool
-    ensures { IsTrue result ↔ IsToldAnswer answer.now }
+fn is_printable_answer(answer: &Answer) -> bool
+    ensures { IsTrue result ↔ IsPrintableAnswer answer.now }
 {
     match answer {
         Answer::Found(_) => true,
-        Answer::Impossible(certificate) => are_told_steps(certificate.steps.as_slice()),
+        Answer::Impossible(certificate) => are_printable_steps(certificate.steps.as_slice()),
         Answer::Undecided { worker, .. } => 1 <= *worker && *worker <= MOST_WORKERS,
     }
 }
 
-fn are_told_steps(steps: &[Step]) -> bool
-    ensures { IsTrue result ↔ All IsToldStep steps.now }
+fn are_printable_steps(steps: &[Step]) -> bool
+    ensures { IsTrue result ↔ All IsPrintableStep steps.now }
 {
-    steps.iter().all(is_told_step)
+    steps.iter().all(is_printable_step)
 }
 
-fn is_told_step(step: &Step) -> bool
-    ensures { IsTrue result ↔ IsToldStep step.now }
+fn is_printable_step(step: &Step) -> bool
+    ensures { IsTrue result ↔ IsPrintableStep step.now }
 {
     step.clause
         .lits()

@@ -10,3 +10,6 @@ mod Counted
 mod Drawing
 mod Ahead
 mod Agreement
+mod Digits
+mod Few
+mod Enough

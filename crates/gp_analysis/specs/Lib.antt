@@ -8,3 +8,4 @@ pub mod Drawn
 pub mod Ahead
 pub mod Laws
 pub mod Agreement
+pub mod Enough

@@ -20,4 +20,4 @@ mod windows_ahead;
 
 pub use analysing::analyse;
 pub use counting::too_much;
-pub use laws::reports_agree;
+pub use laws::{enough_decides, reports_agree};

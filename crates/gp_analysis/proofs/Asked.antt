@@ -21,10 +21,10 @@ use Rattle.gp_window.specs.WindowForm.{WindowForm}
 use Rattle.gp_workers.specs.declared.work.WindowWork.{WindowWork}
 use Rattle.gp_workers.specs.Work.{CanBeWorked, IsWork}
 use Rattle.gp_analysis.specs.Laws.{Laws}
-use Rattle.gp_analysis.specs.Queries.{found_of, queries_from, queries_of}
-use Rattle.gp_analysis.specs.Tickets.{found_count, properties_count}
+use Rattle.gp_analysis.specs.Queries.{listed_of, queries_from, queries_of}
+use Rattle.gp_analysis.specs.Tickets.{listed_count, properties_count}
 
-own_count : (window : WindowForm) (property : PropertyForm) (due : Result (List Instance) InstancesFault) → length (queries_of window property (found_of due)) ≡ found_count due
+own_count : (window : WindowForm) (property : PropertyForm) (due : Result (List Instance) InstancesFault) → length (queries_of window property (listed_of due)) ≡ listed_count due
 own_count window property (Ok found) = length-map found (λ (instance : Instance). query_of window property instance.events)
 own_count window property (Err fault) = refl
 
@@ -34,7 +34,7 @@ query_count window number [] = refl
 query_count window number (property ∷ properties) =
     let own = own_count window property (due_instances window property number) in
     let rest = query_count window (number + 1) properties in
-    let both = length-append (queries_of window property (found_of (due_instances window property number))) (queries_from window (number + 1) properties) in
+    let both = length-append (queries_of window property (listed_of (due_instances window property number))) (queries_from window (number + 1) properties) in
     omega (arith, own, rest, both)
 
 each_valid : Laws → (window : WindowForm) → IsEncodable window → (property : PropertyForm) (found : List Instance)
@@ -45,7 +45,7 @@ each_valid laws window is property (instance ∷ found) listed =
     (query_valid laws.valid window is property instance.events listed.0.few listed.0.instance) (each_valid laws window is property found listed.1)
 
 own_valid : Laws → (window : WindowForm) → IsEncodable window → (property : PropertyForm) (due : Result (List Instance) InstancesFault)
-    → AreListed window property due → All (IsValidQuery (base_of window)) (queries_of window property (found_of due))
+    → AreListed window property due → All (IsValidQuery (base_of window)) (queries_of window property (listed_of due))
 own_valid laws window is property (Ok found) listed = each_valid laws window is property found listed.1
 own_valid laws window is property (Err TooMany) listed = All-nil (IsValidQuery (base_of window))
 own_valid laws window is property (Err Memory) listed = absurd listed
@@ -55,7 +55,7 @@ pub queries_valid : Laws → (window : WindowForm) → IsEncodable window → (n
     → All (IsValidQuery (base_of window)) (queries_from window number properties)
 queries_valid laws window is number [] each = All-nil (IsValidQuery (base_of window))
 queries_valid laws window is number (property ∷ properties) each =
-    All-append (IsValidQuery (base_of window)) (queries_of window property (found_of (due_instances window property number))) (queries_from window (number + 1) properties)
+    All-append (IsValidQuery (base_of window)) (queries_of window property (listed_of (due_instances window property number))) (queries_from window (number + 1) properties)
     (own_valid laws window is property (due_instances window property number) (are_listed laws.atoms window property number each.0))
     (queries_valid laws window is (number + 1) properties each.1)
 

@@ -27,9 +27,9 @@ use Rattle.gp_workers.specs.declared.work.WorkAnswer.TheVariants.{Model, Refuted
 use Rattle.gp_workers.specs.Work.{AnswerEach, IsAnswerTo, IsSpentBy}
 use Rattle.gp_analysis.specs.Answered.{AnswersEach, AnswersListed, Evidence, IsAnswer, IsRefuted}
 use Rattle.gp_analysis.specs.Laws.{Laws}
-use Rattle.gp_analysis.specs.Queries.{found_of, queries_of}
-use Rattle.gp_analysis.specs.Telling.{CanTell, CanTellEach, IsSound, TellsAnswer, TellsEach, TellsFound}
-use Rattle.gp_analysis.specs.Tickets.{found_count}
+use Rattle.gp_analysis.specs.Queries.{listed_of, queries_of}
+use Rattle.gp_analysis.specs.EntryRecords.{CanRecordListed, CanRecordEach, IsSound, RecordsAnswer, RecordsEach, RecordsListed}
+use Rattle.gp_analysis.specs.Tickets.{listed_count}
 
 -- what is known of a window whose certificates share no steps
 abbrev pub unshared : ℕ → List WorkerRecord → Evidence
@@ -61,7 +61,7 @@ spent_is window query budget ticket workers worker from to by begins ends same f
 -- each kind of answer
 one_answered : (window : WindowForm) → IsAnswerable window → (budget ticket : ℕ) (workers : List WorkerRecord) (property : PropertyForm) (ids : List EventId) (answer : WorkAnswer) (told : Answer)
     → IsValidQuery (base_of window) (query_of window property ids) → IsAnswerTo (base_of window) (query_of window property ids) budget workers ticket answer
-    → TellsAnswer window property ids answer told → IsAnswer window (unshared budget workers) property ticket ids told
+    → RecordsAnswer window property ids answer told → IsAnswer window (unshared budget workers) property ticket ids told
 one_answered window can budget ticket workers property ids (Model valuation) (Found schedule) valid is tells = tells
 one_answered window can budget ticket workers property ids (Model valuation) _ valid is tells = absurd tells
 one_answered window can budget ticket workers property ids (Refuted certificate) (Impossible told) valid is tells =
@@ -77,7 +77,7 @@ LeavesAnswers window budget workers ticket queries left = (next : ℕ) → next 
 
 each_answered : (window : WindowForm) → IsAnswerable window → (budget ticket : ℕ) (workers : List WorkerRecord) (property : PropertyForm) (found : List Instance) (more : List Query)
     (answers : List WorkAnswer) (entries : List Entry) (left : List WorkAnswer) → AllByRecursion (λ (instance : Instance). IsListed window property instance.events) found
-    → AnswerEach (base_of window) budget workers ticket (queries_of window property (Some found) ++ more) answers → TellsEach window property found answers entries left
+    → AnswerEach (base_of window) budget workers ticket (queries_of window property (Some found) ++ more) answers → RecordsEach window property found answers entries left
     → AnswersEach window (unshared budget workers) property ticket found entries × LeavesAnswers window budget workers (ticket + length found) more left
 each_answered window can budget ticket workers property [] more answers [] left listed each tells =
     (tt, λ next is. subst (λ others. AnswerEach (base_of window) budget workers next more others) tells (subst (λ n. AnswerEach (base_of window) budget workers n more answers) (sym (is ∙ add-zero ticket)) each))
@@ -92,8 +92,8 @@ each_answered window can budget ticket workers property (instance ∷ found) mor
 -- what is told of a property answers it
 pub found_answered : (window : WindowForm) → IsAnswerable window → (budget ticket : ℕ) (workers : List WorkerRecord) (property : PropertyForm) (due : Result (List Instance) InstancesFault) (more : List Query)
     (answers : List WorkAnswer) (told : PropertyBody) (left : List WorkAnswer) → AreListed window property due
-    → AnswerEach (base_of window) budget workers ticket (queries_of window property (found_of due) ++ more) answers → TellsFound window property (found_of due) answers told left
-    → AnswersListed window (unshared budget workers) property ticket due told × LeavesAnswers window budget workers (ticket + found_count due) more left
+    → AnswerEach (base_of window) budget workers ticket (queries_of window property (listed_of due) ++ more) answers → RecordsListed window property (listed_of due) answers told left
+    → AnswersListed window (unshared budget workers) property ticket due told × LeavesAnswers window budget workers (ticket + listed_count due) more left
 found_answered window can budget ticket workers property (Ok found) more answers (body.Entries entries) left listed each tells =
     each_answered window can budget ticket workers property found more answers entries left listed.1 each tells
 found_answered window can budget ticket workers property (Ok found) more answers body.TooMany left listed each tells = absurd tells
@@ -109,7 +109,7 @@ is_sound window query budget ticket workers (Spent worker from to) is = tt
 
 can_tell_each : (window : WindowForm) (budget ticket : ℕ) (workers : List WorkerRecord) (property : PropertyForm) (found : List Instance) (more : List Query) (answers : List WorkAnswer)
     → AllByRecursion (λ (instance : Instance). IsListed window property instance.events) found
-    → AnswerEach (base_of window) budget workers ticket (queries_of window property (Some found) ++ more) answers → CanTellEach window property found answers
+    → AnswerEach (base_of window) budget workers ticket (queries_of window property (Some found) ++ more) answers → CanRecordEach window property found answers
 can_tell_each window budget ticket workers property [] more answers listed each = tt
 can_tell_each window budget ticket workers property (instance ∷ found) more [] listed each = absurd each
 can_tell_each window budget ticket workers property (instance ∷ found) more (answer ∷ answers) listed each = (
@@ -120,6 +120,6 @@ can_tell_each window budget ticket workers property (instance ∷ found) more (a
 
 -- the first of the answers can be told of a property
 pub can_tell : (window : WindowForm) (budget ticket : ℕ) (workers : List WorkerRecord) (property : PropertyForm) (due : Result (List Instance) InstancesFault) (more : List Query) (answers : List WorkAnswer)
-    → AreListed window property due → AnswerEach (base_of window) budget workers ticket (queries_of window property (found_of due) ++ more) answers → CanTell window property (found_of due) answers
+    → AreListed window property due → AnswerEach (base_of window) budget workers ticket (queries_of window property (listed_of due) ++ more) answers → CanRecordListed window property (listed_of due) answers
 can_tell window budget ticket workers property (Ok found) more answers listed each = can_tell_each window budget ticket workers property found more answers listed.1 each
 can_tell window budget ticket workers property (Err fault) more answers listed each = tt

@@ -31,7 +31,7 @@ use Rattle.gp_report.specs.Report.{IsEntry, IsPropertyBody, IsPropertyRecord, Is
 use Rattle.gp_window.specs.declared.schedule.EventId.{EventId}
 use Rattle.gp_window.specs.WindowForm.{WindowForm}
 use Rattle.gp_analysis.specs.Answered.{AnswersEach, AnswersListed, AnswersProperties, IsAnswer}
-use Rattle.gp_analysis.specs.Tickets.{found_count}
+use Rattle.gp_analysis.specs.Tickets.{listed_count}
 use Rattle.gp_analysis.proofs.Evidence.{IsAnswerable, unshared}
 
 told_steps : (edges : List Edge) (kinds : List Kind) (earlier : List (List Lit)) (steps : List Step) → length kinds < 2 ^ 31 - 1 → StepsCheck edges kinds earlier steps → All IsPrintableStep steps
@@ -104,4 +104,4 @@ told_records window can budget number ticket workers few (property ∷ propertie
 told_records window can budget number ticket workers few (property ∷ properties) (told ∷ records) each answers =
     All-cons IsPropertyRecord told records
     (told_body window can budget ticket workers few property (due_instances window property number) told.body (are_listed can.laws.atoms window property number each.0) answers.1)
-    (told_records window can budget (number + 1) (ticket + found_count (due_instances window property number)) workers few properties records each.1 answers.2)
+    (told_records window can budget (number + 1) (ticket + listed_count (due_instances window property number)) workers few properties records each.1 answers.2)

@@ -2,7 +2,7 @@ mod Asked
 mod Gathered
 mod Evidence
 mod Fitting
-mod Told
+mod EntriesMade
 mod OnWay
 mod Windows
 mod Parted

@@ -21,9 +21,9 @@ use Rattle.gp_workers.specs.declared.work.WorkAnswer.{WorkAnswer}
 use Rattle.gp_workers.specs.Record.{EachOnce}
 use Rattle.gp_workers.specs.Work.{AnswerEach, IsWork}
 use Rattle.gp_analysis.specs.Answered.{AnswersBody, AnswersProperties, AnswersWindow, AreWorkers}
-use Rattle.gp_analysis.specs.Queries.{found_from, found_of, queries_from}
-use Rattle.gp_analysis.specs.Telling.{CanTell, TellsFound}
-use Rattle.gp_analysis.specs.Tickets.{found_count, properties_count}
+use Rattle.gp_analysis.specs.Queries.{listed_from, listed_of, queries_from}
+use Rattle.gp_analysis.specs.EntryRecords.{CanRecordListed, RecordsListed}
+use Rattle.gp_analysis.specs.Tickets.{listed_count, properties_count}
 use Rattle.gp_analysis.proofs.Asked.{query_count}
 use Rattle.gp_analysis.proofs.Evidence.{IsAnswerable, can_tell, found_answered, unshared}
 use Rattle.gp_analysis.proofs.Fitting.{told_records}
@@ -32,13 +32,13 @@ use Rattle.gp_analysis.proofs.Gathered.{rest_at}
 -- some properties are answered, and with what answers the rest, the first of which has this number, they are all
 pub record IsOnWay (window : WindowForm) (all rest : List PropertyForm) (budget number : ℕ) (workers : List WorkerRecord) (found : List (Option (List Instance))) (left : List WorkAnswer) (records : List PropertyRecord) : Type 0 where
   pub ticket : ℕ
-  pub lists : found ≡ found_from window number rest
+  pub lists : found ≡ listed_from window number rest
   pub answers : AnswerEach (base_of window) budget workers ticket (queries_from window number rest) left
   pub told : (more : List PropertyRecord) → AnswersProperties window (unshared budget workers) number ticket rest more → AnswersProperties window (unshared budget workers) 0 0 all (records ++ more)
 
 -- at first
 pub none_answered : (window : WindowForm) (all : List PropertyForm) (count budget : ℕ) (work : WindowWork) (found : List (Option (List Instance))) (left : List WorkAnswer) (records : List PropertyRecord)
-    → found ≡ found_from window 0 all → left ≡ work.answers → records ≡ [] → IsWork (base_of window) (queries_from window 0 all) count budget work → IsOnWay window all all budget 0 work.records found left records
+    → found ≡ listed_from window 0 all → left ≡ work.answers → records ≡ [] → IsWork (base_of window) (queries_from window 0 all) count budget work → IsOnWay window all all budget 0 work.records found left records
 none_answered window all count budget work found left records lists answers none is = record {
   ticket = 0;
   lists = lists;
@@ -61,24 +61,24 @@ stands_at window all property budget place workers own found left records below 
 
 -- the list of the next property is at the front, and the first answers can be told of it
 pub next_can : (window : WindowForm) → IsAnswerable window → (all rest : List PropertyForm) (property : PropertyForm) (budget number : ℕ) (workers : List WorkerRecord) (own : Option (List Instance)) (found : List (Option (List Instance)))
-    (left : List WorkAnswer) (records : List PropertyRecord) → IsProperty property → IsOnWay window all (property ∷ rest) budget number workers (own ∷ found) left records → CanTell window property own left
+    (left : List WorkAnswer) (records : List PropertyRecord) → IsProperty property → IsOnWay window all (property ∷ rest) budget number workers (own ∷ found) left records → CanRecordListed window property own left
 next_can window can all rest property budget number workers own found left records is way =
-    let same : own ≡ found_of (due_instances window property number) = cc (way.lists) in
-    subst (λ o. CanTell window property o left) (sym same)
+    let same : own ≡ listed_of (due_instances window property number) = cc (way.lists) in
+    subst (λ o. CanRecordListed window property o left) (sym same)
     (can_tell window budget way.ticket workers property (due_instances window property number) (queries_from window (number + 1) rest) left (are_listed can.laws.atoms window property number is) way.answers)
 
 -- and then it is answered too
 pub one_more : (window : WindowForm) → IsAnswerable window → (all rest : List PropertyForm) (property : PropertyForm) (budget number : ℕ) (workers : List WorkerRecord) (own : Option (List Instance)) (found : List (Option (List Instance)))
     (left last : List WorkAnswer) (records new : List PropertyRecord) (told : PropertyRecord) → IsProperty property → IsOnWay window all (property ∷ rest) budget number workers (own ∷ found) left records
-    → told.name ≡ property.name → TellsFound window property own left told.body last → new ≡ records ++ told ∷ [] → IsOnWay window all rest budget (number + 1) workers found last new
+    → told.name ≡ property.name → RecordsListed window property own left told.body last → new ≡ records ++ told ∷ [] → IsOnWay window all rest budget (number + 1) workers found last new
 one_more window can all rest property budget number workers own found left last records new told is way name tells pushed =
-    let same : own ≡ found_of (due_instances window property number) = cc (way.lists) in
+    let same : own ≡ listed_of (due_instances window property number) = cc (way.lists) in
     let answered = found_answered window can budget way.ticket workers property (due_instances window property number) (queries_from window (number + 1) rest) left told.body last
-    (are_listed can.laws.atoms window property number is) way.answers (subst (λ o. TellsFound window property o left told.body last) same tells) in
+    (are_listed can.laws.atoms window property number is) way.answers (subst (λ o. RecordsListed window property o left told.body last) same tells) in
     record {
-      ticket = way.ticket + found_count (due_instances window property number);
+      ticket = way.ticket + listed_count (due_instances window property number);
       lists = cc (way.lists);
-      answers = answered.1 (way.ticket + found_count (due_instances window property number)) refl;
+      answers = answered.1 (way.ticket + listed_count (due_instances window property number)) refl;
       told = λ more later. rw (pushed, append_assoc) (way.told (told ∷ more) (name, answered.0, later));
     }
 

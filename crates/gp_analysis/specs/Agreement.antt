@@ -26,7 +26,7 @@ pub record EntriesAgree (one other : Entry) : Type 0 where
   pub events : one.events ≡ other.events
   pub answers : Contradict one.answer other.answer → ⊥
 
--- what is told of a property agrees: both times there are too many instances, or the entries agree one by one
+-- what is recorded of a property agrees: both times there are too many instances, or the entries agree one by one
 abbrev pub BodiesAgree : PropertyBody → PropertyBody → Type 0
 BodiesAgree TooMany TooMany = Unit {0}
 BodiesAgree (Entries one) (Entries other) = AllZip EntriesAgree one other
@@ -37,7 +37,7 @@ pub record PropertiesAgree (one other : PropertyRecord) : Type 0 where
   pub name : one.name ≡ other.name
   pub body : BodiesAgree one.body other.body
 
--- what is told of a window agrees: both times it is too large by the same two numbers, or the records of its properties
+-- what is recorded of a window agrees: both times it is too large by the same two numbers, or the records of its properties
 -- agree one by one
 abbrev pub WindowsAgree : WindowBody → WindowBody → Type 0
 WindowsAgree (TooLarge events clauses) (TooLarge more_events more_clauses) = (events ≡ more_events) × (clauses ≡ more_clauses)

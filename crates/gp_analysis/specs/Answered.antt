@@ -34,7 +34,7 @@ use Rattle.gp_window.specs.WindowForm.{WindowForm, numbers_from, window_of}
 use Rattle.gp_witness.specs.Possible.{IsPossible}
 use Rattle.gp_workers.specs.Record.{EachOnce, IsWorkerRecord}
 use Rattle.gp_workers.specs.Work.{IsSpentBy}
-use Rattle.gp_analysis.specs.Tickets.{found_count, properties_count}
+use Rattle.gp_analysis.specs.Tickets.{listed_count, properties_count}
 
 -- found: the schedule is feasible and matches the instance
 pub record IsShown (window : WindowForm) (property : PropertyForm) (ids schedule : List EventId) : Type 0 where
@@ -67,7 +67,7 @@ AnswersEach window evidence property ticket (instance ∷ instances) (entry ∷ 
     × AnswersEach window evidence property (ticket + 1) instances entries
 AnswersEach window evidence property ticket _ _ = ⊥
 
--- what is told of a property that has these instances, or too many
+-- what is recorded of a property that has these instances, or too many
 abbrev pub AnswersListed : WindowForm → Evidence → PropertyForm → ℕ → Result (List Instance) InstancesFault → PropertyBody → Type 0
 AnswersListed window evidence property ticket (Err TooMany) body.TooMany = Unit {0}
 AnswersListed window evidence property ticket (Ok instances) (body.Entries entries) = AnswersEach window evidence property ticket instances entries
@@ -78,7 +78,7 @@ abbrev pub AnswersProperties : WindowForm → Evidence → ℕ → ℕ → List 
 AnswersProperties window evidence number ticket [] [] = Unit {0}
 AnswersProperties window evidence number ticket (property ∷ properties) (told ∷ more) =
     (told.name ≡ property.name) × AnswersListed window evidence property ticket (due_instances window property number) told.body
-    × AnswersProperties window evidence (number + 1) (ticket + found_count (due_instances window property number)) properties more
+    × AnswersProperties window evidence (number + 1) (ticket + listed_count (due_instances window property number)) properties more
 AnswersProperties window evidence number ticket _ _ = ⊥
 
 -- what so many workers did in a window: what each took follows from the constraints, its turns cover its log, and each
@@ -88,7 +88,7 @@ pub record AreWorkers (problem : Problem) (count tickets : ℕ) (workers : List 
   pub each : All (IsWorkerRecord problem) workers
   pub once : EachOnce tickets workers
 
--- what is told of a window by the constraints that it has: one that is too large is told with its two numbers, and has no
+-- what is recorded of a window by the constraints that it has: one that is too large is recorded with its two numbers, and has no
 -- workers
 abbrev pub AnswersBody : WindowForm → List PropertyForm → ℕ → Evidence → Result WindowForm BaseFault → WindowBody → Type 0
 AnswersBody window properties count evidence (Err (TooLarge events clauses)) (told.TooLarge more_events more_clauses) =

@@ -1,4 +1,4 @@
--- What is told of windows that are drawn by ticket.
+-- What is recorded of windows that are drawn by ticket.
 use Rattle.std.specs.Prelude.{ℕ, ◌≡◌, ◌+◌, List, All}
 use Rattle.gp_property.specs.PropertyForm.{PropertyForm}
 use Rattle.gp_report.specs.declared.record.WindowRecord.{WindowRecord}
@@ -8,14 +8,14 @@ use Rattle.gp_tickets.specs.declared.tickets.Tickets.{Tickets}
 use Rattle.gp_tickets.specs.Drawn.{drawers_of, HasDrawn}
 use Rattle.gp_window.specs.RecordingForm.{RecordingForm}
 use Rattle.gp_window.specs.WindowForm.{window_of}
-use Rattle.gp_analysis.specs.Told.{TellsWindow}
+use Rattle.gp_analysis.specs.WindowRecords.{RecordsWindow}
 
--- what was made of a ticket tells its window, whose number is one more
-abbrev pub TellsOwn : RecordingForm → List PropertyForm → ℕ → ℕ → Made WindowRecord → Type 0
-TellsOwn recording properties count budget made = TellsWindow properties count budget (window_of recording (made.number + 1)) made.value
+-- what was made of a ticket records its window, whose number is one more
+abbrev pub RecordsOwn : RecordingForm → List PropertyForm → ℕ → ℕ → Made WindowRecord → Type 0
+RecordsOwn recording properties count budget made = RecordsWindow properties count budget (window_of recording (made.number + 1)) made.value
 
--- so many drawers drew, and what was made of each ticket that they drew tells its window
-pub record TellsDrawn (tickets : Tickets) (recording : RecordingForm) (properties : List PropertyForm) (count budget drawers : ℕ) (drawn : Drawn WindowRecord) : Type 0 where
+-- so many drawers drew, and what was made of each ticket that they drew records its window
+pub record RecordsDrawn (tickets : Tickets) (recording : RecordingForm) (properties : List PropertyForm) (count budget drawers : ℕ) (drawn : Drawn WindowRecord) : Type 0 where
   pub own : HasDrawn tickets drawn
   pub stands_for : drawers_of drawn ≡ drawers
-  pub tells : All (TellsOwn recording properties count budget) drawn.made.items
+  pub tells : All (RecordsOwn recording properties count budget) drawn.made.items

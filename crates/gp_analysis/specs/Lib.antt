@@ -2,8 +2,8 @@ pub mod Tickets
 pub mod Runs
 pub mod Answered
 pub mod Queries
-pub mod Telling
-pub mod Told
+pub mod EntryRecords
+pub mod WindowRecords
 pub mod Drawn
 pub mod Ahead
 pub mod Laws

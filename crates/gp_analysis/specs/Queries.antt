@@ -9,23 +9,23 @@ use Rattle.gp_property.specs.PropertyForm.{PropertyForm}
 use Rattle.gp_window.specs.WindowForm.{WindowForm}
 
 -- the instances that are listed; nothing where there are too many
-abbrev pub found_of : Result (List Instance) InstancesFault → Option (List Instance)
-found_of (Ok found) = Some found
-found_of (Err fault) = None
+abbrev pub listed_of : Result (List Instance) InstancesFault → Option (List Instance)
+listed_of (Ok listed) = Some listed
+listed_of (Err fault) = None
 
 -- the instances of each of these properties in a window, the first of which has this number
-abbrev pub found_from : WindowForm → ℕ → List PropertyForm → List (Option (List Instance))
-found_from window number [] = []
-found_from window number (property ∷ properties) =
-    found_of (due_instances window property number) ∷ found_from window (number + 1) properties
+abbrev pub listed_from : WindowForm → ℕ → List PropertyForm → List (Option (List Instance))
+listed_from window number [] = []
+listed_from window number (property ∷ properties) =
+    listed_of (due_instances window property number) ∷ listed_from window (number + 1) properties
 
 -- the queries of the instances of a property
 abbrev pub queries_of : WindowForm → PropertyForm → Option (List Instance) → List Query
 queries_of window property None = []
-queries_of window property (Some found) = map (λ (instance : Instance). query_of window property instance.events) found
+queries_of window property (Some listed) = map (λ (instance : Instance). query_of window property instance.events) listed
 
 -- the queries of these properties, the first of which has this number
 abbrev pub queries_from : WindowForm → ℕ → List PropertyForm → List Query
 queries_from window number [] = []
 queries_from window number (property ∷ properties) =
-    queries_of window property (found_of (due_instances window property number)) ++ queries_from window (number + 1) properties
+    queries_of window property (listed_of (due_instances window property number)) ++ queries_from window (number + 1) properties

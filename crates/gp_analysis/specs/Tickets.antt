@@ -11,16 +11,16 @@ use Rattle.gp_analysis.specs.declared.counting.Counted.TheVariants.{Listed, Aske
 use Rattle.gp_window.specs.RecordingForm.{RecordingForm}
 use Rattle.gp_window.specs.WindowForm.{WindowForm, numbers_from, window_of}
 
--- how many instances are told of a property; of one that has too many, none
-abbrev pub found_count : Result (List Instance) InstancesFault → ℕ
-found_count (Ok found) = length found
-found_count (Err fault) = 0
+-- how many instances are listed of a property; of one that has too many, none
+abbrev pub listed_count : Result (List Instance) InstancesFault → ℕ
+listed_count (Ok listed) = length listed
+listed_count (Err fault) = 0
 
--- how many instances are told of these properties in a window, the first of which has this number
+-- how many instances are listed of these properties in a window, the first of which has this number
 abbrev pub properties_count : WindowForm → ℕ → List PropertyForm → ℕ
 properties_count window number [] = 0
 properties_count window number (property ∷ properties) =
-    found_count (due_instances window property number) + properties_count window (number + 1) properties
+    listed_count (due_instances window property number) + properties_count window (number + 1) properties
 
 -- how many of so many instances are asked in a window that has these constraints: none where it is too large
 abbrev pub asked_of : Result WindowForm BaseFault → ℕ → ℕ

@@ -2,11 +2,11 @@ ghost use Rattle.std.specs.Prelude.{◌≡◌, ◌*◌, ◌≤◌, IfOk, length}
 ghost use Rattle.gp_analysis.specs.Answered.{IsAnswered};
 ghost use Rattle.gp_analysis.specs.Runs.{IsRun, run_windows};
 ghost use Rattle.gp_analysis.specs.Tickets.{asked_total};
-ghost use Rattle.gp_analysis.specs.Told.{CanBeAnalysed, TellEach};
+ghost use Rattle.gp_analysis.specs.WindowRecords.{CanBeAnalysed, RecordWindows};
 ghost use Rattle.gp_window.specs.Windows.{all_windows};
 
 use crate::runs::Run;
-use crate::side_by_side::told_side_by_side;
+use crate::side_by_side::records_side_by_side;
 use crate::task::{Instructions, Order};
 use crate::window::window_record;
 use gp_base::Row;
@@ -48,12 +48,12 @@ pub fn analyse<R: Threads + Wait + Sync, G: Gate + Sync>(
         budget,
         gate,
     };
-    let windows = told_windows(rt, alloc, recording, &task)?;
+    let windows = window_records(rt, alloc, recording, &task)?;
     Ok(Report::new(1, budget, Row::from_vec(windows)))
 }
 
-// What is told of all windows, in order.
-fn told_windows<R: Threads + Wait + Sync, G: Gate + Sync>(
+// What is recorded of all windows, in order.
+fn window_records<R: Threads + Wait + Sync, G: Gate + Sync>(
     rt: &R,
     alloc: Global,
     recording: &Recording,
@@ -61,7 +61,7 @@ fn told_windows<R: Threads + Wait + Sync, G: Gate + Sync>(
 ) -> Result<Vec<WindowRecord>, AllocError>
     requires { CanBeAnalysed recording.now task.now.properties.now task.now.workers task.now.budget }
     ensures { IfOk result (λ told.
-        TellEach task.now.properties.now task.now.workers task.now.budget (all_windows recording.now) told.items) }
+        RecordWindows task.now.properties.now task.now.workers task.now.budget (all_windows recording.now) told.items) }
 {
     let epochs = recording.manifest().epochs();
     if epochs < MANY_WINDOWS * task.workers {
@@ -69,13 +69,13 @@ fn told_windows<R: Threads + Wait + Sync, G: Gate + Sync>(
             first: 1,
             count: epochs,
         };
-        return told_run(rt, alloc, recording, all, task);
+        return run_records(rt, alloc, recording, all, task);
     }
-    told_side_by_side(rt, alloc, recording, task)
+    records_side_by_side(rt, alloc, recording, task)
 }
 
-// What is told of the windows of a run, in order. The workers of each work side by side.
-fn told_run<R: Threads + Wait + Sync, G: Gate + Sync>(
+// What is recorded of the windows of a run, in order. The workers of each work side by side.
+fn run_records<R: Threads + Wait + Sync, G: Gate + Sync>(
     rt: &R,
     alloc: Global,
     recording: &Recording,
@@ -85,7 +85,7 @@ fn told_run<R: Threads + Wait + Sync, G: Gate + Sync>(
     requires can { CanBeAnalysed recording.now task.now.properties.now task.now.workers task.now.budget }
     requires run { IsRun recording.now.manifest.epochs run }
     ensures { IfOk result (λ told.
-        TellEach task.now.properties.now task.now.workers task.now.budget (run_windows recording.now run) told.items) }
+        RecordWindows task.now.properties.now task.now.workers task.now.budget (run_windows recording.now run) told.items) }
 {
     let mut told = Vec::new(alloc);
     let mut windows = Windows::from(alloc, recording, run.first, run.count)?;

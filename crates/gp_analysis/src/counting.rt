@@ -1,7 +1,7 @@
 ghost use Rattle.std.specs.Prelude.{◌≡◌, ◌+◌, ◌*◌, ◌≤◌, IfOk, length, map, nat_lt, sum};
 ghost use Rattle.gp_instance.specs.Instances.{due_instances};
 ghost use Rattle.gp_analysis.specs.Runs.{IsRun, PartAll, run_count};
-ghost use Rattle.gp_analysis.specs.Tickets.{found_count, properties_count, too_much, total_of, window_asked, window_count};
+ghost use Rattle.gp_analysis.specs.Tickets.{listed_count, properties_count, too_much, total_of, window_asked, window_count};
 
 use crate::runs::{Run, runs_of};
 use gp_constraint::{BaseFault, base};
@@ -173,19 +173,19 @@ fn properties_count(
 {
     let mut count = 0;
     for (number, property) in properties.iter().enumerate() {
-        count = added(count, found_count(alloc, window, property, number as u32)?)?;
+        count = added(count, listed_count(alloc, window, property, number as u32)?)?;
     }
     Ok(count)
 }
 
 // How many instances of a property are listed in a window: none where there are too many.
-fn found_count(
+fn listed_count(
     alloc: Global,
     window: &Window,
     property: &Property,
     number: u32,
 ) -> Result<u64, AllocError>
-    ensures { IfOk result (λ count. count ≡ found_count (due_instances window.now property.now number)) }
+    ensures { IfOk result (λ count. count ≡ listed_count (due_instances window.now property.now number)) }
 {
     match instances(alloc, window, property, number) {
         Ok(found) => Ok(found.len() as u64),

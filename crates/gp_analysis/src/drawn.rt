@@ -5,8 +5,8 @@ ghost use Rattle.gp_window.specs.WindowForm.{window_of};
 ghost use Rattle.gp_tickets.specs.Drawn.{HasDrawn, numbers_of};
 ghost use Rattle.gp_tickets.specs.Tickets.{IsSingle, IsUnused, hand_of};
 ghost use Rattle.gp_analysis.specs.Ahead.{AreAhead};
-ghost use Rattle.gp_analysis.specs.Drawn.{TellsDrawn, TellsOwn};
-ghost use Rattle.gp_analysis.specs.Told.{CanBeAnalysed, TellsWindow};
+ghost use Rattle.gp_analysis.specs.Drawn.{RecordsDrawn, RecordsOwn};
+ghost use Rattle.gp_analysis.specs.WindowRecords.{CanBeAnalysed, RecordsWindow};
 
 use crate::task::{Instructions, Order};
 use crate::window::window_record;
@@ -19,8 +19,8 @@ use std::alloc::{AllocError, Global};
 use std::sync::Wait;
 use std::thread::Threads;
 
-// Draws windows until none is left, and tells each. The workers of a window work in turn.
-pub(crate) fn tell_drawn<R: Threads + Wait + Sync, G: Gate + Sync>(
+// Draws windows until none is left, and makes a record of each. The workers of a window work in turn.
+pub(crate) fn record_drawn<R: Threads + Wait + Sync, G: Gate + Sync>(
     rt: &R,
     alloc: Global,
     recording: &Recording,
@@ -31,14 +31,14 @@ pub(crate) fn tell_drawn<R: Threads + Wait + Sync, G: Gate + Sync>(
     requires can { CanBeAnalysed recording.now task.now.properties.now task.now.workers task.now.budget }
     requires count { tickets.now.count ≡ recording.now.manifest.epochs }
     requires drawer { IsUnused tickets.now drawer }
-    ensures { IfOk result (TellsDrawn tickets.now recording.now task.now.properties.now task.now.workers task.now.budget 1) }
+    ensures { IfOk result (RecordsDrawn tickets.now recording.now task.now.properties.now task.now.workers task.now.budget 1) }
 {
-    let made = told_as_drawn(rt, alloc, recording, task, tickets, &mut drawer)?;
+    let made = records_as_drawn(rt, alloc, recording, task, tickets, &mut drawer)?;
     Ok(Drawn { made, drawer })
 }
 
-// What is told of the windows that a drawer draws, in the order in which it draws them.
-fn told_as_drawn<R: Threads + Wait + Sync, G: Gate + Sync>(
+// What is recorded of the windows that a drawer draws, in the order in which it draws them.
+fn records_as_drawn<R: Threads + Wait + Sync, G: Gate + Sync>(
     rt: &R,
     alloc: Global,
     recording: &Recording,
@@ -51,13 +51,13 @@ fn told_as_drawn<R: Threads + Wait + Sync, G: Gate + Sync>(
     requires drawer { IsUnused tickets.now drawer.old }
     ensures drawer { IfOk result (λ made. IsSingle tickets.now 1 drawer.new) }
     ensures numbers { IfOk result (λ made. numbers_of made.items ≡ (hand_of drawer.new).drawn) }
-    ensures tells { IfOk result (λ made. All (TellsOwn recording.now task.now.properties.now task.now.workers task.now.budget) made.items) }
+    ensures tells { IfOk result (λ made. All (RecordsOwn recording.now task.now.properties.now task.now.workers task.now.budget) made.items) }
 {
     let mut made = Vec::new(alloc);
     let mut ahead = WindowsAhead::new(alloc, recording)?;
     while let Some(number) = tickets.draw(drawer) {
         let k = window_number(recording, number);
-        let value = told_next(rt, alloc, recording, task, &mut ahead, k)?;
+        let value = record_next(rt, alloc, recording, task, &mut ahead, k)?;
         made.push(Made { number, value })?;
     }
     Ok(made)
@@ -73,8 +73,8 @@ fn window_number(recording: &Recording, ticket: u64) -> u32
     ticket as u32 + 1
 }
 
-// What is told of window `k`.
-fn told_next<'a, R: Threads + Wait + Sync, G: Gate + Sync>(
+// What is recorded of window `k`.
+fn record_next<'a, R: Threads + Wait + Sync, G: Gate + Sync>(
     rt: &R,
     alloc: Global,
     recording: &'a Recording,
@@ -86,7 +86,7 @@ fn told_next<'a, R: Threads + Wait + Sync, G: Gate + Sync>(
     requires ahead { AreAhead recording.now ahead.old }
     requires k { (1 ≤ k) × (k ≤ recording.now.manifest.epochs) }
     ensures ahead { IfOk result (λ told. AreAhead recording.now ahead.new) }
-    ensures tells { IfOk result (TellsWindow task.now.properties.now task.now.workers task.now.budget (window_of recording.now k)) }
+    ensures tells { IfOk result (RecordsWindow task.now.properties.now task.now.workers task.now.budget (window_of recording.now k)) }
 {
     let window = ahead.window(alloc, recording, k)?;
     window_record(rt, alloc, window, task, Order::InTurn)
@@ -99,8 +99,8 @@ pub(crate) fn gather(
 ) -> Result<Drawn<WindowRecord>, AllocError>
     requires some { 1 ≤ length parts.items }
     requires drawn { All (λ part. IfOk part (HasDrawn tickets.now)) parts.items }
-    ensures { (recording : RecordingForm) (properties : List PropertyForm) (count budget : ℕ) → All (λ part. IfOk part (TellsDrawn tickets.now recording properties count budget 1)) parts.items
-        → IfOk result (TellsDrawn tickets.now recording properties count budget (length parts.items)) }
+    ensures { (recording : RecordingForm) (properties : List PropertyForm) (count budget : ℕ) → All (λ part. IfOk part (RecordsDrawn tickets.now recording properties count budget 1)) parts.items
+        → IfOk result (RecordsDrawn tickets.now recording properties count budget (length parts.items)) }
 {
     let Some(first) = parts.pop() else {
         unreachable!()

@@ -2,9 +2,9 @@ ghost use Rattle.std.specs.Prelude.{◌≡◌, true, IfOk};
 ghost use Rattle.gp_constraint.specs.Base.{base_of};
 ghost use Rattle.gp_constraint.specs.Query.{query_of};
 ghost use Rattle.gp_instance.specs.Instance.{is_instance};
-ghost use Rattle.gp_analysis.specs.Telling.{CanTell, CanTellEach, IsSound, TellsAnswer, TellsEach, TellsFound};
+ghost use Rattle.gp_analysis.specs.EntryRecords.{CanRecordListed, CanRecordEach, IsSound, RecordsAnswer, RecordsEach, RecordsListed};
 
-use crate::untold::Untold;
+use crate::answers_left::AnswersLeft;
 use gp_base::Row;
 use gp_constraint::Encoded;
 use gp_instance::Instance;
@@ -14,20 +14,20 @@ use gp_witness::schedule_of;
 use gp_workers::WorkAnswer;
 use std::alloc::{AllocError, Global};
 
-// What is told of a property by the first of the answers, which are those to its instances.
+// What is recorded of a property by the first of the answers, which are those to its instances.
 pub(crate) fn property_record(
     alloc: Global,
     encoded: &Encoded,
     property: &Property,
-    found: &Option<Row<Instance>>,
-    answers: &mut Untold,
+    listed: &Option<Row<Instance>>,
+    answers: &mut AnswersLeft,
 ) -> Result<PropertyRecord, AllocError>
-    requires { CanTell encoded.now property.now found.now answers.old }
+    requires { CanRecordListed encoded.now property.now listed.now answers.old }
     ensures name { IfOk result (λ told. told.name ≡ property.now.name) }
-    ensures body { IfOk result (λ told. TellsFound encoded.now property.now found.now answers.old told.body answers.new) }
+    ensures body { IfOk result (λ told. RecordsListed encoded.now property.now listed.now answers.old told.body answers.new) }
 {
     let name = *property.name();
-    let body = property_body(alloc, encoded, property, found, answers)?;
+    let body = property_body(alloc, encoded, property, listed, answers)?;
     Ok(PropertyRecord { name, body })
 }
 
@@ -35,19 +35,19 @@ fn property_body(
     alloc: Global,
     encoded: &Encoded,
     property: &Property,
-    found: &Option<Row<Instance>>,
-    answers: &mut Untold,
+    listed: &Option<Row<Instance>>,
+    answers: &mut AnswersLeft,
 ) -> Result<PropertyBody, AllocError>
-    requires { CanTell encoded.now property.now found.now answers.old }
-    ensures { IfOk result (λ body. TellsFound encoded.now property.now found.now answers.old body answers.new) }
+    requires { CanRecordListed encoded.now property.now listed.now answers.old }
+    ensures { IfOk result (λ body. RecordsListed encoded.now property.now listed.now answers.old body answers.new) }
 {
-    match found {
+    match listed {
         None => Ok(PropertyBody::TooMany),
-        Some(found) => Ok(PropertyBody::Entries(entries_of(
+        Some(listed) => Ok(PropertyBody::Entries(entries_of(
             alloc,
             encoded,
             property,
-            found.as_slice(),
+            listed.as_slice(),
             answers,
         )?)),
     }
@@ -58,14 +58,14 @@ fn entries_of(
     alloc: Global,
     encoded: &Encoded,
     property: &Property,
-    found: &[Instance],
-    answers: &mut Untold,
+    listed: &[Instance],
+    answers: &mut AnswersLeft,
 ) -> Result<Row<Entry>, AllocError>
-    requires { CanTellEach encoded.now property.now found.now answers.old }
-    ensures { IfOk result (λ entries. TellsEach encoded.now property.now found.now answers.old entries answers.new) }
+    requires { CanRecordEach encoded.now property.now listed.now answers.old }
+    ensures { IfOk result (λ entries. RecordsEach encoded.now property.now listed.now answers.old entries answers.new) }
 {
     let mut entries = Row::new(alloc);
-    for instance in found {
+    for instance in listed {
         let answer = answers.take_first();
         entries.push(entry_of(alloc, encoded, property, instance, answer)?)?;
     }
@@ -82,14 +82,14 @@ fn entry_of(
     requires instance { is_instance encoded.now property.now instance.now.events ≡ true }
     requires answer { IsSound (base_of encoded.now) (query_of encoded.now property.now instance.now.events) answer }
     ensures events { IfOk result (λ entry. entry.events ≡ instance.now.events) }
-    ensures answer { IfOk result (λ entry. TellsAnswer encoded.now property.now instance.now.events answer entry.answer) }
+    ensures answer { IfOk result (λ entry. RecordsAnswer encoded.now property.now instance.now.events answer entry.answer) }
 {
     let answer = answer_of(alloc, encoded, property, instance, answer)?;
     let events = Row::from_vec(Vec::from_slice(alloc, instance.events.as_slice())?);
     Ok(Entry { events, answer })
 }
 
-// A valuation is told as the schedule that it gives; a certificate and a spent budget are told as they are.
+// A valuation is recorded as the schedule that it gives; a certificate and a spent budget are recorded as they are.
 fn answer_of(
     alloc: Global,
     encoded: &Encoded,
@@ -99,7 +99,7 @@ fn answer_of(
 ) -> Result<Answer, AllocError>
     requires instance { is_instance encoded.now property.now instance.now.events ≡ true }
     requires answer { IsSound (base_of encoded.now) (query_of encoded.now property.now instance.now.events) answer }
-    ensures { IfOk result (TellsAnswer encoded.now property.now instance.now.events answer) }
+    ensures { IfOk result (RecordsAnswer encoded.now property.now instance.now.events answer) }
 {
     match answer {
         WorkAnswer::Model(valuation) => Ok(Answer::Found(schedule_of(

@@ -2,10 +2,11 @@
 // it, by a certificate that no schedule does, or by the part of a worker's log that spent the budget.
 //
 // A window's constraints are made once. Its instances are listed, property by property; each is a query, whose ticket is
-// its number in that list; the workers answer the queries, each query once, and each answer is told with its evidence.
+// its number in that list; the workers answer the queries, each query once, and each answer is recorded with its evidence.
 #![tactic(auto)]
 
 mod analysing;
+mod answers_left;
 mod counting;
 mod drawn;
 mod entries;
@@ -14,7 +15,6 @@ mod listing;
 mod runs;
 mod side_by_side;
 mod task;
-mod untold;
 mod window;
 mod windows_ahead;
 

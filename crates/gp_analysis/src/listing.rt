@@ -2,7 +2,7 @@ ghost use Rattle.std.specs.Prelude.{◌≡◌, ◌≤◌, ◌++◌, All, IfOk, O
 ghost use Rattle.gp_constraint.specs.Query.{query_of};
 ghost use Rattle.gp_instance.specs.Instances.{due_instances};
 ghost use Rattle.gp_property.specs.Property.{IsProperty};
-ghost use Rattle.gp_analysis.specs.Queries.{found_from, found_of, queries_from, queries_of};
+ghost use Rattle.gp_analysis.specs.Queries.{listed_from, listed_of, queries_from, queries_of};
 
 use gp_base::Row;
 use gp_clause::Query;
@@ -16,7 +16,7 @@ use std::alloc::{AllocError, Global};
 // instance, in order. The number of a query is its ticket.
 #[derive(Drop)]
 pub(crate) struct AskedWindow {
-    pub(crate) found: Vec<Option<Row<Instance>>>,
+    pub(crate) listed: Vec<Option<Row<Instance>>>,
     pub(crate) queries: Vec<Query>,
 }
 
@@ -28,32 +28,32 @@ pub(crate) fn listing_of(
 ) -> Result<AskedWindow, AllocError>
     requires { length properties.now ≤ 64 }
     ensures properties { OnOk result (All IsProperty properties.now) }
-    ensures found { IfOk result (λ listing. listing.found.items ≡ found_from encoded.now 0 properties.now) }
+    ensures listed { IfOk result (λ listing. listing.listed.items ≡ listed_from encoded.now 0 properties.now) }
     ensures queries { IfOk result (λ listing. listing.queries.items ≡ queries_from encoded.now 0 properties.now) }
 {
     let window = encoded.window();
-    let mut found = Vec::new(alloc);
+    let mut listed = Vec::new(alloc);
     let mut queries = Vec::new(alloc);
     for (number, property) in properties.iter().enumerate() {
         property.keeps_rules();
-        let own = found_of(alloc, window, property, number as u32)?;
+        let own = listed_of(alloc, window, property, number as u32)?;
         add_queries(alloc, &mut queries, encoded, property, &own)?;
-        found.push(own)?;
+        listed.push(own)?;
     }
-    Ok(AskedWindow { found, queries })
+    Ok(AskedWindow { listed, queries })
 }
 
 // The instances of a property in a window, nothing where there are too many.
-fn found_of(
+fn listed_of(
     alloc: Global,
     window: &Window,
     property: &Property,
     number: u32,
 ) -> Result<Option<Row<Instance>>, AllocError>
-    ensures { IfOk result (λ found. found ≡ found_of (due_instances window.now property.now number)) }
+    ensures { IfOk result (λ listed. listed ≡ listed_of (due_instances window.now property.now number)) }
 {
     match instances(alloc, window, property, number) {
-        Ok(found) => Ok(Some(found)),
+        Ok(listed) => Ok(Some(listed)),
         Err(InstancesFault::TooMany) => Ok(None),
         Err(InstancesFault::Memory) => Err(AllocError),
     }
@@ -65,13 +65,13 @@ fn add_queries(
     queries: &mut Vec<Query>,
     encoded: &Encoded,
     property: &Property,
-    found: &Option<Row<Instance>>,
+    listed: &Option<Row<Instance>>,
 ) -> Result<(), AllocError>
-    ensures { OnOk result (queries.new.items ≡ queries.old.items ++ queries_of encoded.now property.now found.now) }
+    ensures { OnOk result (queries.new.items ≡ queries.old.items ++ queries_of encoded.now property.now listed.now) }
 {
-    match found {
+    match listed {
         None => Ok(()),
-        Some(found) => add_all(alloc, queries, encoded, property, found.as_slice()),
+        Some(listed) => add_all(alloc, queries, encoded, property, listed.as_slice()),
     }
 }
 
@@ -80,11 +80,11 @@ fn add_all(
     queries: &mut Vec<Query>,
     encoded: &Encoded,
     property: &Property,
-    found: &[Instance],
+    listed: &[Instance],
 ) -> Result<(), AllocError>
-    ensures { OnOk result (queries.new.items ≡ queries.old.items ++ map (λ instance. query_of encoded.now property.now instance.events) found.now) }
+    ensures { OnOk result (queries.new.items ≡ queries.old.items ++ map (λ instance. query_of encoded.now property.now instance.events) listed.now) }
 {
-    for instance in found {
+    for instance in listed {
         queries.push(query(alloc, encoded, property, instance)?)?;
     }
     Ok(())

@@ -1,10 +1,10 @@
 ghost use Rattle.std.specs.Prelude.{◌≡◌, ◌≤◌, All, IfOk, length};
 ghost use Rattle.gp_tickets.specs.Tickets.{IsUnused};
-ghost use Rattle.gp_analysis.specs.Drawn.{TellsDrawn};
-ghost use Rattle.gp_analysis.specs.Told.{CanBeAnalysed, TellEach};
+ghost use Rattle.gp_analysis.specs.Drawn.{RecordsDrawn};
+ghost use Rattle.gp_analysis.specs.WindowRecords.{CanBeAnalysed, RecordWindows};
 ghost use Rattle.gp_window.specs.Windows.{all_windows};
 
-use crate::drawn::{gather, tell_drawn};
+use crate::drawn::{gather, record_drawn};
 use crate::task::Instructions;
 use gp_outside::Gate;
 use gp_report::WindowRecord;
@@ -15,8 +15,8 @@ use std::sync::Wait;
 use std::thread;
 use std::thread::Threads;
 
-// What is told of all windows, in order: as many threads as there are workers draw them side by side.
-pub(crate) fn told_side_by_side<R: Threads + Wait + Sync, G: Gate + Sync>(
+// What is recorded of all windows, in order: as many threads as there are workers draw them side by side.
+pub(crate) fn records_side_by_side<R: Threads + Wait + Sync, G: Gate + Sync>(
     rt: &R,
     alloc: Global,
     recording: &Recording,
@@ -25,17 +25,17 @@ pub(crate) fn told_side_by_side<R: Threads + Wait + Sync, G: Gate + Sync>(
     requires can { CanBeAnalysed recording.now task.now.properties.now task.now.workers task.now.budget }
     requires enough { task.now.workers ≤ recording.now.manifest.epochs }
     ensures { IfOk result (λ told.
-        TellEach task.now.properties.now task.now.workers task.now.budget (all_windows recording.now) told.items) }
+        RecordWindows task.now.properties.now task.now.workers task.now.budget (all_windows recording.now) told.items) }
 {
     let epochs = recording.manifest().epochs();
     let (tickets, drawers) = Tickets::new(alloc, u64::from(epochs), task.workers)?;
-    let parts = told_by_each(rt, alloc, recording, task, &tickets, drawers)?;
+    let parts = records_by_each(rt, alloc, recording, task, &tickets, drawers)?;
     let told = gather(&tickets, parts)?.in_order(alloc)?;
     Ok(told)
 }
 
-// What is told of the windows that each of these drawers draws. One alone draws in the calling thread.
-fn told_by_each<R: Threads + Wait + Sync, G: Gate + Sync>(
+// What is recorded of the windows that each of these drawers draws. One alone draws in the calling thread.
+fn records_by_each<R: Threads + Wait + Sync, G: Gate + Sync>(
     rt: &R,
     alloc: Global,
     recording: &Recording,
@@ -47,14 +47,14 @@ fn told_by_each<R: Threads + Wait + Sync, G: Gate + Sync>(
     requires count { tickets.now.count ≡ recording.now.manifest.epochs }
     requires drawers { All (IsUnused tickets.now) drawers.items }
     ensures len { IfOk result (λ parts. length parts.items ≡ length drawers.items) }
-    ensures drawn { IfOk result (λ parts. All (λ part. IfOk part (TellsDrawn tickets.now recording.now task.now.properties.now task.now.workers task.now.budget 1)) parts.items) }
+    ensures drawn { IfOk result (λ parts. All (λ part. IfOk part (RecordsDrawn tickets.now recording.now task.now.properties.now task.now.workers task.now.budget 1)) parts.items) }
 {
     thread::map_vec(
         rt,
         drawers,
         &|drawer: Drawer| -> Result<Drawn<WindowRecord>, AllocError>
             requires { CanBeAnalysed recording.now task.now.properties.now task.now.workers task.now.budget × (tickets.now.count ≡ recording.now.manifest.epochs) × IsUnused tickets.now drawer }
-            ensures { IfOk result (TellsDrawn tickets.entry.now recording.entry.now task.entry.now.properties.now task.entry.now.workers task.entry.now.budget 1) }
-        { tell_drawn(rt, alloc, recording, task, tickets, drawer) },
+            ensures { IfOk result (RecordsDrawn tickets.entry.now recording.entry.now task.entry.now.properties.now task.entry.now.workers task.entry.now.budget 1) }
+        { record_drawn(rt, alloc, recording, task, tickets, drawer) },
     )
 }

@@ -6,13 +6,13 @@ ghost use Rattle.gp_report.specs.Report.{IsWindowRecord};
 ghost use Rattle.gp_workers.specs.Work.{CanBeWorked, IsWork};
 ghost use Rattle.gp_analysis.specs.Answered.{AnswersWindow};
 ghost use Rattle.gp_analysis.specs.Laws.{Laws};
-ghost use Rattle.gp_analysis.specs.Queries.{found_from, queries_from};
+ghost use Rattle.gp_analysis.specs.Queries.{listed_from, queries_from};
 ghost use Rattle.gp_analysis.specs.Tickets.{properties_count, window_asked};
 
+use crate::answers_left::AnswersLeft;
 use crate::entries::property_record;
 use crate::listing::{AskedWindow, listing_of};
 use crate::task::{Instructions, Order};
-use crate::untold::Untold;
 use gp_base::Row;
 use gp_certificate::{refuted_means, shares_nothing};
 use gp_clause::{Problem, Query};
@@ -27,7 +27,7 @@ use std::alloc::{AllocError, Global};
 use std::sync::Wait;
 use std::thread::Threads;
 
-// What is told of a window: its constraints are too large, or each of its instances is answered.
+// What is recorded of a window: its constraints are too large, or each of its instances is answered.
 pub(crate) fn window_record<R: Threads + Wait + Sync, G: Gate + Sync>(
     rt: &R,
     alloc: Global,
@@ -56,7 +56,7 @@ pub(crate) fn window_record<R: Threads + Wait + Sync, G: Gate + Sync>(
     }
 }
 
-// What is told of a window that has these constraints.
+// What is recorded of a window that has these constraints.
 fn answered_record<R: Threads + Wait + Sync, G: Gate + Sync>(
     rt: &R,
     alloc: Global,
@@ -76,7 +76,7 @@ fn answered_record<R: Threads + Wait + Sync, G: Gate + Sync>(
     worked_record(rt, alloc, encoded, &listing, task, order)
 }
 
-// The workers answer the queries; then each answer is told, property by property.
+// The workers answer the queries; then each answer is recorded, property by property.
 fn worked_record<R: Threads + Wait + Sync, G: Gate + Sync>(
     rt: &R,
     alloc: Global,
@@ -89,7 +89,7 @@ fn worked_record<R: Threads + Wait + Sync, G: Gate + Sync>(
     requires budget { 1 ≤ task.now.budget }
     requires limit { properties_count encoded.now 0 task.now.properties.now * task.now.budget ≤ 1000000 }
     requires properties { All IsProperty task.now.properties.now }
-    requires found { listing.now.found.items ≡ found_from encoded.now 0 task.now.properties.now }
+    requires listed { listing.now.listed.items ≡ listed_from encoded.now 0 task.now.properties.now }
     requires queries { listing.now.queries.items ≡ queries_from encoded.now 0 task.now.properties.now }
     ensures number { IfOk result (λ told. told.number ≡ encoded.now.number) }
     ensures answered { IfOk result (AnswersWindow task.now.properties.now task.now.workers task.now.budget encoded.now) }
@@ -104,14 +104,14 @@ fn worked_record<R: Threads + Wait + Sync, G: Gate + Sync>(
         records,
         ..
     } = work(rt, alloc, encoded.problem(), queries, task, order)?;
-    let mut untold = Untold::of(answers);
+    let mut answers_left = AnswersLeft::of(answers);
     let mut told = Row::new(alloc);
-    let mut left = listing.found.as_slice();
+    let mut left = listing.listed.as_slice();
     for property in task.properties {
-        let [found, more @ ..] = left else {
+        let [listed, more @ ..] = left else {
             unreachable!()
         };
-        told.push(property_record(alloc, encoded, property, found, &mut untold)?)?;
+        told.push(property_record(alloc, encoded, property, listed, &mut answers_left)?)?;
         left = more;
     }
     Ok(WindowRecord {

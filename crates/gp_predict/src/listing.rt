@@ -5,7 +5,7 @@ ghost use Rattle.gp_outside.specs.Folders.{File};
 ghost use Rattle.gp_instance.specs.Instances.{due_instances};
 ghost use Rattle.gp_property.specs.Property.{IsProperty};
 ghost use Rattle.gp_property.specs.Reading.{properties_of};
-ghost use Rattle.gp_analysis.specs.Tickets.{found_count, properties_count};
+ghost use Rattle.gp_analysis.specs.Tickets.{listed_count, properties_count};
 ghost use Rattle.gp_predict.specs.Listing.{instance_lines, listing_at, properties_at, properties_lines, property_lines, window_count, window_lines};
 ghost use Rattle.gp_predict.specs.Refusal.{properties_refusal};
 ghost use Rattle.gp_base.specs.Results.{or_refused};
@@ -138,7 +138,7 @@ fn add_property(
 ) -> Result<u64, AllocError>
     ensures lines { OnOk result (lines.new ≡ lines.old
         ++ property_lines property.now.name (due_instances window.now property.now number)) }
-    ensures count { IfOk result (λ count. count ≡ found_count (due_instances window.now property.now number)) }
+    ensures count { IfOk result (λ count. count ≡ listed_count (due_instances window.now property.now number)) }
     ensures most { IfOk result (λ count. count ≤ 10000) }
 {
     match instances(alloc, window, property, number) {

@@ -5,7 +5,7 @@ use Rattle.std.proofs.lemmas.List.Elements.{All-pop}
 use Rattle.gp_report.specs.declared.record.WindowRecord.{WindowRecord}
 use Rattle.gp_tickets.specs.declared.drawn.Drawn.{Drawn}
 use Rattle.gp_tickets.specs.Drawn.{HasDrawn, drawers_of}
-use Rattle.gp_analysis.specs.Drawn.{TellsDrawn}
+use Rattle.gp_analysis.specs.Drawn.{RecordsDrawn}
 use Rattle.gp_analysis.proofs.Drawing.{both_drawn}
 use Rattle.gp_analysis.proofs.drawn.gather.Goals as goal
 
@@ -19,10 +19,10 @@ loop-part-init c =
       left = popped.0;
       own = subst Left c.in_ok-all.was popped.1;
       tells = λ recording properties count budget all.
-          let Own : Result (Drawn WindowRecord) AllocError → Type 0 = λ part. IfOk part (TellsDrawn tickets recording properties count budget 1) in
+          let Own : Result (Drawn WindowRecord) AllocError → Type 0 = λ part. IfOk part (RecordsDrawn tickets recording properties count budget 1) in
           let more = All-pop Own c.args.parts.items c.pop.new.self.items (Some c.in-Some.first) c.in-Some.ensures.items all in
-          let own : TellsDrawn tickets recording properties count budget 1 first = subst Own c.in_ok-all.was more.1 in
-          (omega (arith, own.stands_for, c.in-Some.ensures.cases), subst (λ (n : ℕ). TellsDrawn tickets recording properties count budget n first) (sym own.stands_for) own, more.0);
+          let own : RecordsDrawn tickets recording properties count budget 1 first = subst Own c.in_ok-all.was more.1 in
+          (omega (arith, own.stands_for, c.in-Some.ensures.cases), subst (λ (n : ℕ). RecordsDrawn tickets recording properties count budget n first) (sym own.stands_for) own, more.0);
     }
 
 pub loop-part-preserved : goal.loop-part-preserved
@@ -37,17 +37,17 @@ loop-part-preserved c =
       left = popped.0;
       own = c.in_ok-take.ensures.drawn;
       tells = λ recording properties count budget all.
-          let Own : Result (Drawn WindowRecord) AllocError → Type 0 = λ part. IfOk part (TellsDrawn tickets recording properties count budget 1) in
+          let Own : Result (Drawn WindowRecord) AllocError → Type 0 = λ part. IfOk part (RecordsDrawn tickets recording properties count budget 1) in
           let before = c.loop-part.invariant.tells recording properties count budget all in
           let more = All-pop Own c.loop-part.parts.items c.pop-in-loop-part.new.self.items (Some c.in-Some-pop.part) c.in-Some-pop.ensures.items before.2 in
-          let one : TellsDrawn tickets recording properties count budget 1 other = subst Own c.in_ok-part.was more.1 in
+          let one : RecordsDrawn tickets recording properties count budget 1 other = subst Own c.in_ok-part.was more.1 in
           let drawers : drawers_of new ≡ drawers_of old + 1 = c.in_ok-take.ensures.drawers ∙ ap (λ (n : ℕ). drawers_of old + n) one.stands_for in
           let both = both_drawn tickets recording properties count budget (drawers_of old) old other new before.1 one c.in_ok-take.ensures.made c.in_ok-take.ensures.drawn c.in_ok-take.ensures.drawers in
-          (omega (arith, drawers, before.0, c.in-Some-pop.ensures.cases), subst (λ (n : ℕ). TellsDrawn tickets recording properties count budget n new) (sym drawers) both, more.0);
+          (omega (arith, drawers, before.0, c.in-Some-pop.ensures.cases), subst (λ (n : ℕ). RecordsDrawn tickets recording properties count budget n new) (sym drawers) both, more.0);
     }
 
 pub returns : goal.returns
 returns c recording properties count budget all =
     let done = c.loop-part.invariant.tells recording properties count budget all in
     let drawers : drawers_of c.loop-part.all ≡ length c.args.parts.items = omega (arith, done.0, c.in_default-pop.ensures.cases.0) in
-    subst (λ (n : ℕ). TellsDrawn c.args.tickets.now recording properties count budget n c.loop-part.all) drawers done.1
+    subst (λ (n : ℕ). RecordsDrawn c.args.tickets.now recording properties count budget n c.loop-part.all) drawers done.1

@@ -1,4 +1,4 @@
--- What is told of the windows of a recording.
+-- What is recorded of the windows of a recording.
 use Rattle.std.specs.Prelude.{ℕ, ◌≡◌, ◌*◌, ◌≤◌, List, length}
 use Rattle.std.specs.List.{AllZip}
 use Rattle.gp_property.specs.PropertyForm.{PropertyForm}
@@ -16,12 +16,12 @@ pub record CanBeAnalysed (recording : RecordingForm) (properties : List Property
   pub least : 1 ≤ budget
   pub limit : asked_total recording properties * budget ≤ 1000000
 
--- a record tells a window: it has its number, answers it, and can be written
-pub record TellsWindow (properties : List PropertyForm) (count budget : ℕ) (window : WindowForm) (told : WindowRecord) : Type 0 where
+-- a record of a window: it has its number, answers it, and can be written
+pub record RecordsWindow (properties : List PropertyForm) (count budget : ℕ) (window : WindowForm) (told : WindowRecord) : Type 0 where
   pub number : told.number ≡ window.number
   pub answered : AnswersWindow properties count budget window told
   pub fits : IsWindowRecord 1 told
 
--- records tell windows, one by one and in order
-abbrev pub TellEach : List PropertyForm → ℕ → ℕ → List WindowForm → List WindowRecord → Type 0
-TellEach properties count budget windows told = AllZip (TellsWindow properties count budget) windows told
+-- records of windows, one by one and in order
+abbrev pub RecordWindows : List PropertyForm → ℕ → ℕ → List WindowForm → List WindowRecord → Type 0
+RecordWindows properties count budget windows told = AllZip (RecordsWindow properties count budget) windows told

@@ -3,7 +3,7 @@ use Rattle.std.proofs.Common.{◌≡◌, subst, ◌∷◌}
 use Rattle.gp_window.specs.Windows.{TakesFirst}
 use Rattle.gp_analysis.specs.Runs.{run_windows}
 use Rattle.gp_analysis.proofs.Windows.{all_told, none_told, one_told}
-use Rattle.gp_analysis.proofs.analysing.told_run.Goals as goal
+use Rattle.gp_analysis.proofs.analysing.run_records.Goals as goal
 
 pub loop-windows-init : goal.loop-windows-init
 loop-windows-init g c =

@@ -2,8 +2,8 @@ use Rattle.std.proofs.Common.{◌≡◌, ◌-◌, All, length}
 use Rattle.gp_tickets.specs.Drawn.{numbers_of}
 use Rattle.gp_tickets.specs.Tickets.{IsSingle, hand_of}
 use Rattle.gp_analysis.specs.Ahead.{AreAhead}
-use Rattle.gp_analysis.specs.Drawn.{TellsOwn}
-use Rattle.gp_analysis.proofs.drawn.told_as_drawn.Given as goal
+use Rattle.gp_analysis.specs.Drawn.{RecordsOwn}
+use Rattle.gp_analysis.proofs.drawn.records_as_drawn.Given as goal
 
 abbrev pub decreases-loop-number : goal.decreases-loop-number
 decreases-loop-number g l = l.tickets.count - length (hand_of l.drawer).drawn
@@ -13,5 +13,5 @@ invariant-loop-number g l = record {
   ahead : AreAhead l.recording l.ahead;
   single : IsSingle l.tickets 0 l.drawer;
   numbers : numbers_of l.made.items ≡ (hand_of l.drawer).drawn;
-  tells : All (TellsOwn l.recording l.task.properties.now l.task.workers l.task.budget) l.made.items;
+  tells : All (RecordsOwn l.recording l.task.properties.now l.task.workers l.task.budget) l.made.items;
 }

@@ -1,6 +1,6 @@
 use Rattle.std.proofs.Common.{length}
 use Rattle.gp_analysis.proofs.Windows.{AreTold}
-use Rattle.gp_analysis.proofs.analysing.told_run.Given as goal
+use Rattle.gp_analysis.proofs.analysing.run_records.Given as goal
 use Rattle.gp_analysis.specs.Runs.{run_windows}
 
 abbrev pub decreases-loop-windows : goal.decreases-loop-windows

@@ -3,7 +3,7 @@ use Rattle.std.proofs.Common.{sym, subst, ◌*◌, ◌≤◌}
 use Rattle.gp_window.specs.WindowForm.{WindowForm}
 use Rattle.gp_analysis.specs.Tickets.{window_asked}
 use Rattle.gp_analysis.proofs.Windows.{within_limit}
-use Rattle.gp_analysis.proofs.drawn.told_next.Goals as goal
+use Rattle.gp_analysis.proofs.drawn.record_next.Goals as goal
 
 pub window_record-requires-clause-limit : goal.window_record-requires-clause-limit
 window_record-requires-clause-limit g c κs within =

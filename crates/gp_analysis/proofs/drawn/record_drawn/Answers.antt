@@ -1,6 +1,6 @@
 -- A single drawer that was told that no ticket is left has drawn.
 use Rattle.gp_tickets.specs.TicketLaws.{single_has_drawn}
-use Rattle.gp_analysis.proofs.drawn.tell_drawn.Goals as goal
+use Rattle.gp_analysis.proofs.drawn.record_drawn.Goals as goal
 
 pub returns : goal.returns
 returns g c = record {

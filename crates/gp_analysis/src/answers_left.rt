@@ -5,13 +5,13 @@ use gp_workers::WorkAnswer;
 use std::marker::Model;
 use std::vec::IntoIter;
 
-// The answers of a window that are still to be told, in the order of their tickets.
+// The answers of a window that are still to be recorded, in the order of their tickets.
 #[derive(Drop)]
-pub(crate) struct Untold {
+pub(crate) struct AnswersLeft {
     left: IntoIter<WorkAnswer>,
 }
 
-impl Model for Untold {
+impl Model for AnswersLeft {
     ghost use Rattle.std.specs.Prelude.{◌≡◌, List, length};
     ghost use Rattle.std.specs.Vec.Iter.{into_iter_items, into_iter_len};
     ghost use Rattle.gp_workers.specs.declared.work.WorkAnswer.{WorkAnswer};
@@ -23,12 +23,12 @@ impl Model for Untold {
     ghost invariant = { λ a. into_iter_len a.left ≡ length (into_iter_items a.left) };
 }
 
-impl Untold {
+impl AnswersLeft {
     // All of these. Takes no memory.
-    pub(crate) fn of(answers: Row<WorkAnswer>) -> Untold
+    pub(crate) fn of(answers: Row<WorkAnswer>) -> AnswersLeft
         ensures { result ≡ answers }
     {
-        Untold {
+        AnswersLeft {
             left: answers.into_vec().into_iter(),
         }
     }

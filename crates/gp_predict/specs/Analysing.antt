@@ -8,7 +8,7 @@ use Rattle.gp_report.specs.Entries.{entries_of, is_found}
 use Rattle.gp_report.specs.ReportForm.{ReportForm}
 use Rattle.gp_base.specs.Results.{and_then}
 use Rattle.gp_predict.specs.declared.reply.Reply.{Reply}
-use Rattle.gp_predict.specs.declared.due.Asked.{Asked}
+use Rattle.gp_predict.specs.declared.analysing.Asked.{Asked}
 use Rattle.gp_predict.specs.declared.listing.Listing.{Listing}
 use Rattle.gp_predict.specs.Expected.{AnalysisForm, Expected, Text, Analysis}
 use Rattle.gp_predict.specs.Listing.{listing_at}

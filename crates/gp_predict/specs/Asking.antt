@@ -1,7 +1,7 @@
 -- What the words ask of an analysis and of a recording that is made.
 use Rattle.gp_make.specs.declared.recipe.Recipe.{Recipe}
 use Rattle.gp_words.specs.Command.{CommandForm}
-use Rattle.gp_predict.specs.declared.due.Asked.{Asked}
+use Rattle.gp_predict.specs.declared.analysing.Asked.{Asked}
 
 -- how many workers an analysis has, the budget of each query, and the format of its report
 abbrev pub asked_of : CommandForm → Asked

@@ -8,6 +8,8 @@ use Rattle.gp_words.specs.declared.task.Task.{Task}
 use Rattle.gp_words.specs.declared.task.Task.TheVariants as task
 use Rattle.gp_words.specs.Command.{CommandForm}
 use Rattle.gp_predict.specs.declared.reply.Reply.{Reply}
+use Rattle.gp_predict.specs.declared.stop.Stop.{Stop}
+use Rattle.gp_predict.specs.declared.stop.Stop.TheVariants.{Refused, FolderFailed, Memory}
 use Rattle.gp_predict.specs.Asking.{recipe_of}
 use Rattle.gp_predict.specs.Refusal.{one_line}
 
@@ -25,6 +27,12 @@ pub record IsLeft (made : List File) (status : ℕ) (before after : List File) :
 -- what task make leaves, where the files are told
 abbrev pub LeavesMade : List File → ℕ → Option (List File) → Option (List File) → Type 0
 LeavesMade made status before after = WhereTold before after (IsLeft made status)
+
+-- what a stop of task make leaves; nothing is refused there
+abbrev pub MakingStops : List File → Option (List File) → Option (List File) → Stop → Type 0
+MakingStops made before after (Refused why) = ⊥
+MakingStops made before after FolderFailed = WhereTold before after (AreSomeMade made)
+MakingStops made before after Memory = WhereTold before after (AreKeptOrMade made)
 
 -- a task but make leaves the files as they were
 abbrev pub LeavesBy : CommandForm → Task → ℕ → Option (List File) → Option (List File) → Type 0

@@ -1,83 +1,46 @@
--- What the top call says of its status, of what was written, and of the report that is kept.
-use Rattle.std.specs.Prelude.{ℕ, ◌≡◌, ◌≤◌, ◌⊎◌, ◌≢◌, List, Option, Some, None, IsSome, IsSomeAnd, MatchOption}
+-- What the top call says of its end and of what was written, against what is due: no case of a task.
+use Rattle.std.specs.Prelude.{ℕ, ◌≡◌, ◌≤◌, ◌⊎◌, List, Option, Some, None, codes}
+use Rattle.gp_outside.specs.Faults.{Rose}
+use Rattle.gp_outside.specs.Folders.{File}
 use Rattle.gp_outside.specs.Sinks.{Appends, AppendsFront}
-use Rattle.gp_analysis.specs.Answered.{IsAnswered}
-use Rattle.gp_checker.specs.declared.failure.Checked.{Checked}
-use Rattle.gp_compact.specs.Compact.{IsCompacted}
-use Rattle.gp_report.specs.Printed.{report_lines}
-use Rattle.gp_report.specs.ReportForm.{ReportForm}
-use Rattle.gp_text.specs.Spelling.{spelling}
-use Rattle.gp_window.specs.RecordingForm.{RecordingForm}
-use Rattle.gp_predict.specs.declared.submission.Submission.{Submission}
-use Rattle.gp_predict.specs.Analysing.{report_status}
-use Rattle.gp_predict.specs.Expected.{AnalysisForm, Expected, Text, Analysis, Verdict, Compacted, text_of}
-use Rattle.gp_predict.specs.Verdict.{VerdictIsBegun, VerdictIsGiven}
+use Rattle.gp_window.specs.declared.file_name.FileName.{FileName}
+use Rattle.gp_predict.specs.declared.outcome.Outcome.{Outcome}
+use Rattle.gp_predict.specs.declared.refusal.Refusal.{Refusal}
+use Rattle.gp_predict.specs.Expected.{Expected, text_of}
+use Rattle.gp_predict.specs.Means.{Means}
+use Rattle.gp_predict.specs.Refusal.{refused_as}
+use Rattle.gp_predict.specs.Refused.{reply_of}
+use Rattle.gp_predict.specs.Told.{IsDone, Nothing, Told, ends, ends_with}
 
 -- where something is due, it meets the fact
 abbrev pub WhereDue : Option Expected → (Expected → Type 0) → Type 0
 WhereDue due P = (expected : Expected) → due ≡ Some expected → P expected
 
--- a report told in the format that is asked for: format 2 is its compact form
-pub record IsInFormat (format : ℕ) (recording : RecordingForm) (answered report : ReportForm) : Type 0 where
-  pub compact : format ≡ 2 → IsCompacted recording answered report
-  pub plain : format ≢ 2 → report ≡ answered
+-- what is due was told, the sink got its whole text, and the run ends with it
+abbrev pub IsGiven : Outcome → Option (List ℕ) → Option (List ℕ) → Expected → Type 0
+IsGiven outcome old new expected = (told : Told) × Means expected told × (outcome ≡ ends told) × Appends old new told.text
 
--- a report answers an analysis: it is the report of all answers, in the format that is asked for
-pub record Answers (analysis : AnalysisForm) (report : ReportForm) : Type 0 where
-  pub answered : ReportForm
-  pub plain : answered.format ≡ 1
-  pub instances : IsAnswered analysis.recording analysis.properties analysis.workers analysis.budget answered
-  pub told : IsInFormat analysis.format analysis.recording answered report
+-- what is due was reached, the sink got a prefix of its text, and what is kept of it is kept
+abbrev pub IsBegun : Outcome → Option (List ℕ) → Option (List ℕ) → Expected → Type 0
+IsBegun outcome old new expected =
+    (told : Told) × Means expected told × (outcome ≡ ends_with outcome.status told.kept) × AppendsFront old new told.text
 
--- the text of a report
-abbrev pub report_text : ReportForm → List ℕ
-report_text report = spelling (report_lines report)
+-- nothing was written, and nothing is kept
+abbrev pub IsNothing : Outcome → Option (List ℕ) → Option (List ℕ) → Type 0
+IsNothing outcome old new = (outcome ≡ ends_with outcome.status Nothing) × (new ≡ old)
 
--- a report that is kept answers the analysis, its status is this one, and the sink got its whole text
-pub record ReportIsGiven (analysis : AnalysisForm) (status : ℕ) (old new : Option (List ℕ)) (report : ReportForm) : Type 0 where
-  pub answers : Answers analysis report
-  pub ends : status ≡ report_status report
-  pub written : Appends old new (report_text report)
+-- a refusal was written whole; where the files are not told, `refused FILE absent` has its cause
+pub record IsRefused (files : Option (List File)) (Cause : Type 0) (old new : Option (List ℕ)) : Type 0 where
+  pub refusal : Refusal
+  pub written : Appends old new (text_of (reply_of refusal))
+  pub absent : (name : FileName) → text_of (reply_of refusal) ≡ text_of (refused_as name (codes "absent")) → files ≡ None → Cause
 
--- a text is that of a compact form of the report that was submitted
-pub record IsCompactText (submission : Submission) (text : List ℕ) : Type 0 where
-  pub made : ReportForm
-  pub compacted : IsCompacted submission.listing.recording submission.report made
-  pub is : text ≡ report_text made
-
--- the status is that of what is due, and the sink got its whole text; a report is kept exactly where an analysis is due
-abbrev pub IsGiven : ℕ → Option ReportForm → Option (List ℕ) → Option (List ℕ) → Expected → Type 0
-IsGiven status report old new (Text answer) = (status ≡ answer.status) × Appends old new (text_of answer) × (report ≡ None)
-IsGiven status report old new (Analysis analysis) = IsSomeAnd report (ReportIsGiven analysis status old new)
-IsGiven status report old new (Verdict submission) = ((checked : Checked) × VerdictIsGiven submission status old new checked) × (report ≡ None)
-IsGiven status report old new (Compacted submission) =
-    (status ≡ 0) × ((text : List ℕ) × IsCompactText submission text × Appends old new text) × (report ≡ None)
-
--- the sink got a prefix of the text that is due; of an analysis that of the report that is kept, and nothing where none is;
--- nothing also where no verdict was reached or no compact form was made
-abbrev pub IsBegun : Option ReportForm → Option (List ℕ) → Option (List ℕ) → Expected → Type 0
-IsBegun report old new (Text answer) = AppendsFront old new (text_of answer) × (report ≡ None)
-IsBegun report old new (Analysis analysis) =
-    MatchOption report (new ≡ old) (λ kept. Answers analysis kept × AppendsFront old new (report_text kept))
-IsBegun report old new (Verdict submission) =
-    ((new ≡ old) ⊎ ((checked : Checked) × VerdictIsBegun submission old new checked)) × (report ≡ None)
-IsBegun report old new (Compacted submission) =
-    ((new ≡ old) ⊎ ((text : List ℕ) × IsCompactText submission text × AppendsFront old new text)) × (report ≡ None)
-
--- the status is that of what is due: of an analysis and of a verdict it is 0 or 1
-abbrev pub HasStatus : ℕ → Expected → Type 0
-HasStatus status (Text answer) = status ≡ answer.status
-HasStatus status (Analysis analysis) = status ≤ 1
-HasStatus status (Verdict submission) = status ≤ 1
-HasStatus status (Compacted submission) = status ≡ 0
-
--- where an analysis is due, a report is kept
-abbrev pub KeepsReport : Option ReportForm → Expected → Type 0
-KeepsReport report (Text answer) = Unit {0}
-KeepsReport report (Analysis analysis) = IsSome report
-KeepsReport report (Verdict submission) = Unit {0}
-KeepsReport report (Compacted submission) = Unit {0}
-
--- a status that comes with the text that is due
-abbrev pub IsDone : ℕ → Type 0
-IsDone status = (status ≤ 3) ⊎ (status ≡ 7)
+-- what a run did with its folder and its sink, against what is due
+pub record IsRun (due : Option Expected) (files : Option (List File)) (outcome : Outcome) (old new : Option (List ℕ)) (before after folder_before folder_after : ℕ) : Type 0 where
+  pub given : IsDone outcome.status → WhereDue due (IsGiven outcome old new)
+  pub complete : ¬ (Rose folder_before folder_after) → ¬ (Rose before after) → IsDone outcome.status ⊎ (outcome.status ≡ 6)
+  pub read_fault : outcome.status ≡ 4 → Rose folder_before folder_after × IsNothing outcome old new
+  pub write_fault : outcome.status ≡ 5 → Rose before after × WhereDue due (IsBegun outcome old new)
+  pub memory : outcome.status ≡ 6 → IsNothing outcome old new ⊎ WhereDue due (IsBegun outcome old new)
+  pub refused : outcome.status ≡ 3 → IsRefused files (Rose folder_before folder_after) old new
+  pub range : outcome.status ≤ 7

@@ -1,17 +1,15 @@
 -- The answer of task check: whether a report is accepted, and what is true where it is.
-use Rattle.std.specs.Prelude.{ℕ, ◌≡◌, ◌++◌, List, Option, length, codes, decimal}
+use Rattle.std.specs.Prelude.{ℕ, ◌≡◌, ◌++◌, List, length, codes, decimal}
 use Rattle.gp_checker.specs.declared.failure.Checked.{Checked}
 use Rattle.gp_checker.specs.declared.failure.Checked.TheVariants.{Accepted, Rejected}
 use Rattle.gp_checker.specs.declared.failure.Failure.{Failure}
 use Rattle.gp_checker.specs.Checked.{IsChecked}
 use Rattle.gp_checker.specs.Reasons.{number_of}
 use Rattle.gp_checker.specs.Sound.{AnswersAreTrue}
-use Rattle.gp_outside.specs.Sinks.{Appends, AppendsFront}
 use Rattle.gp_report.specs.Entries.{entries_of}
 use Rattle.gp_report.specs.ReportForm.{ReportForm}
 use Rattle.gp_predict.specs.declared.reply.Reply.{Reply}
 use Rattle.gp_predict.specs.declared.submission.Submission.{Submission}
-use Rattle.gp_predict.specs.Expected.{text_of}
 use Rattle.gp_predict.specs.Refusal.{one_line}
 
 -- a report of so many instances is accepted
@@ -37,14 +35,3 @@ verdict_on report (Rejected failure) = rejected failure
 pub record IsVerdict (submission : Submission) (checked : Checked) : Type 0 where
   pub checks : IsChecked submission.listing.recording submission.listing.properties submission.report checked
   pub sound : checked ≡ Accepted → AnswersAreTrue submission.listing.recording submission.listing.properties submission.report
-
--- the status and the whole text are those of the verdict
-pub record VerdictIsGiven (submission : Submission) (status : ℕ) (old new : Option (List ℕ)) (checked : Checked) : Type 0 where
-  pub verdict : IsVerdict submission checked
-  pub ends : status ≡ (verdict_on submission.report checked).status
-  pub written : Appends old new (text_of (verdict_on submission.report checked))
-
--- a prefix of the verdict's text was written
-pub record VerdictIsBegun (submission : Submission) (old new : Option (List ℕ)) (checked : Checked) : Type 0 where
-  pub verdict : IsVerdict submission checked
-  pub written : AppendsFront old new (text_of (verdict_on submission.report checked))

@@ -1,41 +1,38 @@
-ghost use Rattle.std.specs.Prelude.{ℕ, ◌≡◌, ◌≤◌, List, Some, Err, IfOk, IfErr, OnErr, length};
-ghost use Rattle.gp_outside.specs.Faults.{Rose};
-ghost use Rattle.gp_outside.specs.Folders.{File};
-ghost use Rattle.gp_predict.specs.Analysing.{IsAskable, analysing_at, analysis_of};
+ghost use Rattle.std.specs.Prelude.{ℕ, ◌≡◌, ◌≢◌, ◌≤◌, Err, IfOk, false, length};
+ghost use Rattle.gp_predict.specs.Analysing.{CanBeAnalysed, IsAskable, analysing_at, analysis_form, analysis_of};
 ghost use Rattle.gp_predict.specs.Asking.{asked_of};
-ghost use Rattle.gp_predict.specs.Due.{EndsIn, IsOfTask, IsWithinLimits, expected_of};
-ghost use Rattle.gp_predict.specs.Stage.{GivesAs, IsRefusal};
+ghost use Rattle.gp_predict.specs.Finished.{CameTo, told_by};
+ghost use Rattle.gp_predict.specs.Means.{Answers};
+ghost use Rattle.gp_predict.specs.Refused.{stops_absent};
+ghost use Rattle.gp_predict.specs.Reply.{either_expected};
+ghost use Rattle.gp_predict.specs.Stage.{IsStage};
+ghost use Rattle.gp_predict.specs.Telling.{of_report};
 ghost use Rattle.gp_words.specs.Command.{IsInRanges, form_of};
 
-use crate::due::{Asked, Due};
 use crate::listing::{Listing, listing_at};
-use crate::reply::limit_refused;
+use crate::refusal::Refusal;
 use crate::stop::Stop;
-use gp_analysis::too_much;
-use gp_outside::Folder;
+use gp_analysis::{analyse, too_much};
+use gp_compact::compact;
+use gp_outside::{Folder, Gate};
+use gp_report::Report;
 use gp_words::Command;
-use std::alloc::Global;
+use std::alloc::AllocError;
+use std::sync::Wait;
 use std::thread::Threads;
 
-/// Reads the recording and the properties in a folder, and counts the instances that are to be answered.
-pub fn analysing_at<R: AllocGlobal + Threads + Sync, F: Folder>(
-    rt: &R,
-    folder: &mut F,
-    directory: &str,
-    asked: Asked,
-) -> Result<Due, Stop>
-    requires { IsAskable asked }
-    ensures later { F.faults folder.old ≤ F.faults folder.new }
-    ensures kept { F.files folder.new ≡ F.files folder.old }
-    ensures told { (files : List File) → F.files folder.old ≡ Some files
-        → GivesAs expected_of result (analysing_at files directory.now asked) }
-    ensures done { IfOk result (λ due. EndsIn IsOfTask (expected_of due)) }
-    ensures within { IfOk result IsWithinLimits }
-    ensures refused { IfErr result IsRefusal }
-    ensures fault { result ≡ Err Stop.ReadFault → Rose (F.faults folder.old) (F.faults folder.new) }
-{
-    let listing = listing_at(rt, folder, directory)?;
-    analysis_of(rt, rt.alloc(), listing, asked)
+/// The format that tells the steps which the certificates of a window share by themselves.
+const COMPACT: u32 = 2;
+
+/// What is asked of an analysis.
+#[derive(Clone, Copy, Debug)]
+pub struct Asked {
+    /// How many workers answer the queries of a window, from 1 to 16.
+    pub workers: u32,
+    /// How many clauses a query may learn.
+    pub budget: u64,
+    /// The format of the report: 1, or 2 for the compact form.
+    pub format: u32,
 }
 
 /// What a command asks of an analysis.
@@ -51,23 +48,67 @@ pub fn asked_of(command: &Command<'_>) -> Asked
     }
 }
 
-/// An analysis of what would be listed, where that is not too much work.
-fn analysis_of<R: Threads + Sync>(
+/// Task analyse: answers each instance of what would be listed, in the format that is asked for.
+pub fn analysed<R: AllocGlobal + Threads + Wait + Sync, F: Folder, G: Gate + Sync>(
     rt: &R,
-    alloc: Global,
-    listing: Listing,
+    folder: &mut F,
+    directory: &str,
     asked: Asked,
-) -> Result<Due, Stop>
-    requires few { length listing.properties ≤ 64 }
+    gate: &G,
+) -> Result<Report, Stop>
+    requires { IsAskable asked }
+    ensures { IsStage result (λ files. CameTo (told_by of_report result) (either_expected (analysing_at files directory.now asked))) (F.files folder.old) (F.files folder.new) (F.faults folder.old) (F.faults folder.new) }
+{
+    let listing = listing_at(rt, folder, directory)?;
+    analysis_of(rt, &listing, asked, gate)
+}
+
+/// The report of what would be listed, where that is not too much work.
+fn analysis_of<R: AllocGlobal + Threads + Wait + Sync, G: Gate + Sync>(
+    rt: &R,
+    listing: &Listing,
+    asked: Asked,
+    gate: &G,
+) -> Result<Report, Stop>
+    requires few { length listing.now.properties ≤ 64 }
     requires askable { IsAskable asked }
-    ensures due { IfOk result (λ due. expected_of due ≡ analysis_of listing asked) }
-    ensures done { IfOk result (λ due. EndsIn IsOfTask (expected_of due)) }
-    ensures within { IfOk result IsWithinLimits }
-    ensures memory { OnErr result (result ≡ Err Stop.Memory) }
+    ensures due { CameTo (told_by of_report result) (analysis_of listing.now asked) }
+    ensures no_fault { result ≢ Err Stop.FolderFailed }
+    ensures present { stops_absent result ≡ false }
 {
     let properties = listing.properties.as_slice();
-    match too_much(rt, alloc, &listing.recording, properties, asked.budget)? {
-        Some(total) => Ok(Due::Whole(limit_refused(alloc, total, asked.budget)?)),
-        None => Ok(Due::Analysis { listing, asked }),
+    match too_much(rt, rt.alloc(), &listing.recording, properties, asked.budget)? {
+        Some(total) => Err(Stop::Refused(Refusal::Limit {
+            total,
+            budget: asked.budget,
+        })),
+        None => Ok(analysis_report(rt, listing, asked, gate)?),
     }
+}
+
+/// The report of an analysis, in the format that is asked for.
+fn analysis_report<R: AllocGlobal + Threads + Wait + Sync, G: Gate + Sync>(
+    rt: &R,
+    listing: &Listing,
+    asked: Asked,
+    gate: &G,
+) -> Result<Report, AllocError>
+    requires { CanBeAnalysed listing.now asked }
+    ensures { IfOk result (Answers (analysis_form listing.now asked)) }
+{
+    let recording = &listing.recording;
+    let properties = listing.properties.as_slice();
+    let report = analyse(
+        rt,
+        rt.alloc(),
+        recording,
+        properties,
+        asked.workers,
+        asked.budget,
+        gate,
+    )?;
+    if asked.format == COMPACT {
+        return compact(rt.alloc(), recording, &report);
+    }
+    Ok(report)
 }

@@ -1,12 +1,11 @@
-ghost use Rattle.std.specs.Prelude.{ℕ, ◌≡◌, ◌≤◌, List, Some, Err, IfOk, IfErr, length};
-ghost use Rattle.gp_outside.specs.Faults.{Rose};
-ghost use Rattle.gp_outside.specs.Folders.{File};
+ghost use Rattle.std.specs.Prelude.{◌≡◌, ◌≤◌, IfOk, length};
 ghost use Rattle.gp_predict.specs.Content.{content_at, recording_at};
-ghost use Rattle.gp_predict.specs.Stage.{IsRefusal, refusal_of};
+ghost use Rattle.gp_predict.specs.Refused.{stop_of_recording};
+ghost use Rattle.gp_predict.specs.Stage.{IsStage, refusal_of};
 ghost use Rattle.gp_window.specs.FileNames.{limit_of};
 ghost use Rattle.gp_window.specs.Gives.{Gives};
 
-use crate::refusal::{content_refusal, recording_refusal};
+use crate::refusal::Refusal;
 use crate::stop::Stop;
 use gp_base::Row;
 use gp_outside::Folder;
@@ -20,18 +19,30 @@ pub fn recording_at<R: AllocGlobal + Threads + Sync, F: Folder>(
     folder: &mut F,
     directory: &str,
 ) -> Result<Recording, Stop>
-    ensures later { F.faults folder.old ≤ F.faults folder.new }
-    ensures kept { F.files folder.new ≡ F.files folder.old }
-    ensures told { (files : List File) → F.files folder.old ≡ Some files
-        → Gives refusal_of result (recording_at files directory.now) }
-    ensures refused { IfErr result IsRefusal }
-    ensures fault { result ≡ Err Stop.ReadFault → Rose (F.faults folder.old) (F.faults folder.new) }
+    ensures stage { IsStage result (λ files. Gives refusal_of result (recording_at files directory.now)) (F.files folder.old) (F.files folder.new) (F.faults folder.old) (F.faults folder.new) }
 {
     match read_recording(rt, rt.alloc(), folder, directory) {
         Ok(recording) => Ok(recording),
-        Err(RecordingFault::ReadFailed) => Err(Stop::ReadFault),
-        Err(RecordingFault::Memory) => Err(Stop::Memory),
-        Err(fault) => Err(Stop::Refused(recording_refusal(rt.alloc(), fault)?)),
+        Err(fault) => Err(stop_of_recording(fault)),
+    }
+}
+
+/// What a fault of reading a recording stops with.
+fn stop_of_recording(fault: RecordingFault) -> Stop
+    ensures { result ≡ stop_of_recording fault }
+{
+    match fault {
+        RecordingFault::ReadFailed => Stop::FolderFailed,
+        RecordingFault::Memory => Stop::Memory,
+        RecordingFault::Absent(_)
+        | RecordingFault::TooLong(_)
+        | RecordingFault::ManifestText(_)
+        | RecordingFault::ManifestLine(_)
+        | RecordingFault::Trace(..)
+        | RecordingFault::UnknownThread(_)
+        | RecordingFault::StartsRoot(_)
+        | RecordingFault::TwoStarts(_)
+        | RecordingFault::TwoHolders(..) => Stop::Refused(Refusal::Recording(fault)),
     }
 }
 
@@ -42,18 +53,13 @@ pub fn content_at<F: Folder>(
     directory: &str,
     file: FileName,
 ) -> Result<Row<u8>, Stop>
-    ensures later { F.faults folder.old ≤ F.faults folder.new }
-    ensures kept { F.files folder.new ≡ F.files folder.old }
-    ensures told { (files : List File) → F.files folder.old ≡ Some files
-        → Gives refusal_of result (content_at files directory.now file) }
+    ensures stage { IsStage result (λ files. Gives refusal_of result (content_at files directory.now file)) (F.files folder.old) (F.files folder.new) (F.faults folder.old) (F.faults folder.new) }
     ensures fits { IfOk result (λ bytes. length bytes ≤ limit_of file) }
-    ensures refused { IfErr result IsRefusal }
-    ensures fault { result ≡ Err Stop.ReadFault → Rose (F.faults folder.old) (F.faults folder.new) }
 {
     match content_of(alloc, folder, directory, &file) {
         Ok(bytes) => Ok(bytes),
-        Err(ContentFault::ReadFailed) => Err(Stop::ReadFault),
+        Err(ContentFault::ReadFailed) => Err(Stop::FolderFailed),
         Err(ContentFault::Memory) => Err(Stop::Memory),
-        Err(fault) => Err(Stop::Refused(content_refusal(alloc, fault)?)),
+        Err(fault) => Err(Stop::Refused(Refusal::Content(fault))),
     }
 }

@@ -6,13 +6,15 @@
 // each window. Task analyse answers each of these instances, and writes the report; task check says whether
 // a report holds, whoever wrote it, and task compact tells it shorter. Task make writes a recording. The contract of `run`
 // is stated by one definition, what is due to the words and the files: a text with its status, an
-// analysis, or the verdict on a report. A file that breaks a rule is refused by its name, the line and the rule; a fault of the folder
-// or of the sink is never told as an answer.
+// analysis, the verdict on a report, or its compact form; and by one relation, what may be told where that is due. A file
+// that breaks a rule is refused by its name, the line and the rule; a fault of the folder or of the sink is never told as an
+// answer.
 #![tactic(auto)]
 
 mod analysing;
+mod compacting;
 mod content;
-mod due;
+mod finish;
 mod lines;
 mod listing;
 mod making;
@@ -21,6 +23,7 @@ mod refusal;
 mod replaying;
 mod reply;
 mod reporting;
+mod results;
 mod stop;
 mod submission;
 mod top;

@@ -1,20 +1,23 @@
-ghost use Rattle.std.specs.Prelude.{ℕ, ◌≡◌, ◌≢◌, ◌≤◌, ◌<◌, ◌-◌, ◌^◌, ◌++◌, ◌∷◌, [], List, Some, Err, IfOk, IfErr, OnOk, length};
+ghost use Rattle.std.specs.Prelude.{◌≡◌, ◌≢◌, ◌≤◌, ◌<◌, ◌-◌, ◌^◌, ◌++◌, ◌∷◌, [], Err, IfOk, OnOk, false, length};
 ghost use Rattle.std.specs.List.{AllByRecursion};
-ghost use Rattle.gp_outside.specs.Faults.{Rose};
-ghost use Rattle.gp_outside.specs.Folders.{File};
 ghost use Rattle.gp_instance.specs.Instances.{due_instances};
 ghost use Rattle.gp_property.specs.Property.{IsProperty};
 ghost use Rattle.gp_property.specs.Reading.{properties_of};
 ghost use Rattle.gp_analysis.specs.Tickets.{listed_count, properties_count};
-ghost use Rattle.gp_predict.specs.Listing.{instance_lines, listing_at, properties_at, properties_lines, property_lines, window_count, window_lines};
+ghost use Rattle.gp_predict.specs.Listing.{instance_lines, list_at, listing_at, properties_at, properties_lines, property_lines, window_count, window_lines};
+ghost use Rattle.gp_predict.specs.Finished.{CameTo, told_by};
 ghost use Rattle.gp_predict.specs.Refusal.{properties_refusal};
+ghost use Rattle.gp_predict.specs.Refused.{stops_absent};
+ghost use Rattle.gp_predict.specs.Reply.{as_text, either_expected};
 ghost use Rattle.gp_base.specs.Results.{or_refused};
-ghost use Rattle.gp_predict.specs.Stage.{IsRefusal, refusal_of};
+ghost use Rattle.gp_predict.specs.Stage.{IsStage, refusal_of};
+ghost use Rattle.gp_predict.specs.Telling.{of_listed};
 ghost use Rattle.gp_window.specs.Gives.{Gives};
 
 use crate::content::{content_at, recording_at};
 use crate::lines::{instance_line, property_line, window_line};
-use crate::refusal::properties_refusal;
+use crate::refusal::Refusal;
+use crate::results::Listed;
 use crate::stop::Stop;
 use gp_base::Row;
 use gp_instance::{Instance, InstancesFault, instances};
@@ -32,20 +35,27 @@ pub struct Listing {
     pub properties: Row<Property>,
 }
 
+/// Task list: what is to be listed.
+pub fn listed<R: AllocGlobal + Threads + Sync, F: Folder>(
+    rt: &R,
+    folder: &mut F,
+    directory: &str,
+) -> Result<Listed, Stop>
+    ensures { IsStage result (λ files. CameTo (told_by of_listed result) (either_expected (as_text (list_at files directory.now)))) (F.files folder.old) (F.files folder.new) (F.faults folder.old) (F.faults folder.new) }
+{
+    let listing = listing_at(rt, folder, directory)?;
+    Ok(Listed { listing })
+}
+
 /// Reads the recording and the properties in a folder.
 pub fn listing_at<R: AllocGlobal + Threads + Sync, F: Folder>(
     rt: &R,
     folder: &mut F,
     directory: &str,
 ) -> Result<Listing, Stop>
-    ensures later { F.faults folder.old ≤ F.faults folder.new }
-    ensures kept { F.files folder.new ≡ F.files folder.old }
-    ensures told { (files : List File) → F.files folder.old ≡ Some files
-        → Gives refusal_of result (listing_at files directory.now) }
+    ensures stage { IsStage result (λ files. Gives refusal_of result (listing_at files directory.now)) (F.files folder.old) (F.files folder.new) (F.faults folder.old) (F.faults folder.new) }
     ensures few { IfOk result (λ listing. length listing.properties ≤ 64) }
     ensures valid { IfOk result (λ listing. AllByRecursion IsProperty listing.properties) }
-    ensures refused { IfErr result IsRefusal }
-    ensures fault { result ≡ Err Stop.ReadFault → Rose (F.faults folder.old) (F.faults folder.new) }
 {
     let recording = recording_at(rt, folder, directory)?;
     let properties = properties_at(rt.alloc(), folder, directory)?;
@@ -60,14 +70,9 @@ fn properties_at<F: Folder>(
     folder: &mut F,
     directory: &str,
 ) -> Result<Row<Property>, Stop>
-    ensures later { F.faults folder.old ≤ F.faults folder.new }
-    ensures kept { F.files folder.new ≡ F.files folder.old }
-    ensures told { (files : List File) → F.files folder.old ≡ Some files
-        → Gives refusal_of result (properties_at files directory.now) }
+    ensures stage { IsStage result (λ files. Gives refusal_of result (properties_at files directory.now)) (F.files folder.old) (F.files folder.new) (F.faults folder.old) (F.faults folder.new) }
     ensures few { IfOk result (λ properties. length properties ≤ 64) }
     ensures valid { IfOk result (λ properties. AllByRecursion IsProperty properties) }
-    ensures refused { IfErr result IsRefusal }
-    ensures fault { result ≡ Err Stop.ReadFault → Rose (F.faults folder.old) (F.faults folder.new) }
 {
     let bytes = content_at(alloc, folder, directory, FileName::Properties)?;
     properties_from(alloc, bytes.as_slice())
@@ -78,26 +83,30 @@ fn properties_from(alloc: Global, bytes: &[u8]) -> Result<Row<Property>, Stop>
     ensures due { Gives refusal_of result (or_refused properties_refusal (properties_of bytes.now)) }
     ensures few { IfOk result (λ properties. length properties ≤ 64) }
     ensures valid { IfOk result (λ properties. AllByRecursion IsProperty properties) }
-    ensures refused { IfErr result IsRefusal }
-    ensures no_fault { result ≢ Err Stop.ReadFault }
+    ensures no_fault { result ≢ Err Stop.FolderFailed }
+    ensures present { stops_absent result ≡ false }
 {
     reads_exactly();
     match read_properties(alloc, bytes) {
         Ok(properties) => Ok(properties),
         Err(PropertyFault::Memory) => Err(Stop::Memory),
-        Err(fault) => Err(Stop::Refused(properties_refusal(alloc, fault)?)),
+        Err(fault) => Err(Stop::Refused(Refusal::Properties(fault))),
     }
 }
 
 /// What is told of a window: its lines, and how many instances they tell.
 #[derive(Debug, Drop)]
-pub struct Told {
+pub struct WindowLines {
     pub lines: Row<Row<u8>>,
     pub count: u64,
 }
 
 /// What is told of a window.
-pub fn told_of(alloc: Global, window: &Window, properties: &[Property]) -> Result<Told, AllocError>
+pub fn window_lines_of(
+    alloc: Global,
+    window: &Window,
+    properties: &[Property],
+) -> Result<WindowLines, AllocError>
     requires { length properties.now ≤ 64 }
     ensures lines { IfOk result (λ told. told.lines ≡ window_lines properties.now window.now) }
     ensures count { IfOk result (λ told. told.count ≡ window_count properties.now window.now) }
@@ -106,7 +115,7 @@ pub fn told_of(alloc: Global, window: &Window, properties: &[Property]) -> Resul
     let mut lines = Row::new(alloc);
     lines.push(window_line(alloc, window.number())?)?;
     let count = add_properties(alloc, &mut lines, window, properties)?;
-    Ok(Told { lines, count })
+    Ok(WindowLines { lines, count })
 }
 
 /// Adds what is told of the properties in a window, and gives how many instances that are.
@@ -143,7 +152,7 @@ fn add_property(
 {
     match instances(alloc, window, property, number) {
         Ok(found) => {
-            add_found(alloc, lines, property.name(), found.as_slice())?;
+            add_listed(alloc, lines, property.name(), found.as_slice())?;
             Ok(found.len() as u64)
         }
         Err(InstancesFault::TooMany) => {
@@ -154,7 +163,7 @@ fn add_property(
     }
 }
 
-fn add_found(
+fn add_listed(
     alloc: Global,
     lines: &mut Row<Row<u8>>,
     name: &Name,

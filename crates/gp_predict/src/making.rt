@@ -1,20 +1,25 @@
-ghost use Rattle.std.specs.Prelude.{◌≡◌, ◌≢◌, ◌<◌, Some, IfOk};
-ghost use Rattle.gp_make.specs.Writing.{made_at};
+ghost use Rattle.std.specs.Prelude.{◌≡◌, ◌≢◌, ◌≤◌, ◌<◌, Err, IfErr, IfOk, OnOk, Some};
+ghost use Rattle.gp_make.specs.Writing.{AreAllMade, AreKeptOrMade, AreSomeMade, WhereTold, made_at};
+ghost use Rattle.gp_outside.specs.Faults.{Rose};
 ghost use Rattle.gp_predict.specs.Asking.{recipe_of};
-ghost use Rattle.gp_predict.specs.Due.{IsPut, IsRun};
 ghost use Rattle.gp_predict.specs.Expected.{Text};
-ghost use Rattle.gp_predict.specs.Making.{LeavesMade, made_answer};
+ghost use Rattle.gp_predict.specs.Finished.{CameTo, told_by};
+ghost use Rattle.gp_predict.specs.Making.{LeavesMade, MakingStops, made_answer};
+ghost use Rattle.gp_predict.specs.Run.{IsRun};
+ghost use Rattle.gp_predict.specs.Telling.{of_answer};
 ghost use Rattle.gp_words.specs.Command.{IsInRanges, form_of};
 
+use crate::finish::finish;
 use crate::outcome::Outcome;
 use crate::reply::{Reply, one_line};
-use crate::writing::put_answer;
+use crate::results::Answer;
+use crate::stop::Stop;
 use gp_make::{Recipe, write_recording};
 use gp_outside::{Folder, Sink, WriteFault};
 use gp_words::Command;
 use std::alloc::{AllocError, Global};
 
-/// Makes a recording with its properties in the folder of a command, and writes how large it is.
+/// Task make: makes a recording with its properties in the folder of a command, and tells how large it is.
 pub fn make_at<F: Folder, S: Sink>(
     alloc: Global,
     command: &Command<'_>,
@@ -22,16 +27,13 @@ pub fn make_at<F: Folder, S: Sink>(
     sink: &mut S,
 ) -> Outcome
     requires { IsInRanges (form_of command.now) }
-    ensures run { IsRun (Some (Text (made_answer (recipe_of (form_of command.now))))) result (S.written sink.old) (S.written sink.new) (S.faults sink.old) (S.faults sink.new) (F.faults folder.old) (F.faults folder.new) }
+    ensures run { IsRun (Some (Text (made_answer (recipe_of (form_of command.now))))) (F.files folder.old) result (S.written sink.old) (S.written sink.new) (S.faults sink.old) (S.faults sink.new) (F.faults folder.old) (F.faults folder.new) }
     ensures left { LeavesMade (made_at command.now.folder.now (recipe_of (form_of command.now))) result.status (F.files folder.old) (F.files folder.new) }
     ensures words { result.status ≢ 2 }
 {
     let recipe = recipe_of(command);
-    match write_recording(alloc, folder, command.folder, &recipe) {
-        Ok(()) => put_made(alloc, sink, &recipe),
-        Err(WriteFault::Failed) => Outcome::of(4),
-        Err(WriteFault::Memory) => Outcome::of(6),
-    }
+    let made = made(alloc, folder, command.folder, &recipe);
+    finish(alloc, sink, made)
 }
 
 /// From which three numbers the recording of a command is made.
@@ -48,17 +50,37 @@ pub fn recipe_of(command: &Command<'_>) -> Recipe
     }
 }
 
-fn put_made<S: Sink>(alloc: Global, sink: &mut S, recipe: &Recipe) -> Outcome
-    ensures { IsPut (Text (made_answer recipe.now)) result (S.written sink.old) (S.written sink.new) (S.faults sink.old) (S.faults sink.new) }
+/// Writes the files of a recording, and tells how large it is.
+fn made<F: Folder>(
+    alloc: Global,
+    folder: &mut F,
+    directory: &str,
+    recipe: &Recipe,
+) -> Result<Answer, Stop>
+    requires threads { 0 < recipe.now.threads }
+    requires events { 0 < recipe.now.events }
+    ensures later { F.faults folder.old ≤ F.faults folder.new }
+    ensures due { CameTo (told_by of_answer result) (Text (made_answer recipe.now)) }
+    ensures fault { result ≡ Err Stop.FolderFailed → Rose (F.faults folder.old) (F.faults folder.new) }
+    ensures all { OnOk result (WhereTold (F.files folder.old) (F.files folder.new) (AreAllMade (made_at directory.now recipe.now))) }
+    ensures stopped { IfErr result (MakingStops (made_at directory.now recipe.now) (F.files folder.old) (F.files folder.new)) }
 {
-    match made_answer(alloc, recipe) {
-        Ok(answer) => put_answer(sink, &answer),
-        Err(_) => Outcome::of(6),
+    match write_recording(alloc, folder, directory, recipe) {
+        Ok(()) => Ok(answer_of(alloc, recipe)?),
+        Err(WriteFault::Failed) => Err(Stop::FolderFailed),
+        Err(WriteFault::Memory) => Err(Stop::Memory),
     }
 }
 
+fn answer_of(alloc: Global, recipe: &Recipe) -> Result<Answer, AllocError>
+    ensures { IfOk result (λ answer. answer.reply ≡ made_answer recipe.now) }
+{
+    let reply = made_answer(alloc, recipe)?;
+    Ok(Answer { reply })
+}
+
 /// The answer that so many threads, events and windows were made.
-pub fn made_answer(alloc: Global, recipe: &Recipe) -> Result<Reply, AllocError>
+fn made_answer(alloc: Global, recipe: &Recipe) -> Result<Reply, AllocError>
     ensures { IfOk result (λ answer. answer ≡ made_answer recipe.now) }
 {
     let Recipe {

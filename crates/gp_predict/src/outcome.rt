@@ -9,7 +9,7 @@ pub struct Outcome {
     /// words are refused, 3 an input file is refused, 4 the folder failed, 5 the sink failed, 6 want of memory, 7 too much
     /// work is asked.
     pub status: u8,
-    /// The report of task analyse, where it was made and its writing was begun.
+    /// The report of task analyse, where it was made.
     pub report: Option<Report>,
 }
 

@@ -1,7 +1,8 @@
-ghost use Rattle.std.specs.Prelude.{◌≡◌, IfOk};
+ghost use Rattle.std.specs.Prelude.{◌≡◌, ◌⊎◌, IfOk};
 ghost use Rattle.gp_predict.specs.Refusal.{content_refusal, properties_refusal, recording_refusal, recording_refused, refused_as, refused_at, report_refusal, rule_word, schedule_refusal, text_refusal, trace_refusal, two_holders};
+ghost use Rattle.gp_predict.specs.Refused.{reply_of};
 
-use crate::reply::{Reply, line_of, one_line};
+use crate::reply::{Reply, limit_refused, line_of, one_line};
 use gp_property::PropertyFault;
 use gp_replay::ScheduleFault;
 use gp_report::{ReportFault, ReportRule};
@@ -12,8 +13,40 @@ use std::alloc::{AllocError, Global};
 
 const REFUSED: u8 = 3;
 
+/// Why an input file, the recording as a whole, or what is asked of them is refused.
+#[derive(Clone, Copy, Debug)]
+pub enum Refusal {
+    /// The bytes of an input file are not told.
+    Content(ContentFault),
+    /// The files are no recording.
+    Recording(RecordingFault),
+    /// The text is no schedule.
+    Schedule(ScheduleFault),
+    /// The text is no file of properties.
+    Properties(PropertyFault),
+    /// The text is no report.
+    Report(ReportFault),
+    /// So many instances with this budget each are too much work.
+    Limit { total: u64, budget: u64 },
+}
+
+/// The status and the text of a refusal.
+pub fn reply_of(alloc: Global, why: Refusal) -> Result<Reply, AllocError>
+    ensures text { IfOk result (λ reply. reply ≡ reply_of why) }
+    ensures status { IfOk result (λ reply. (reply.status ≡ 3) ⊎ (reply.status ≡ 7)) }
+{
+    match why {
+        Refusal::Content(fault) => content_refusal(alloc, fault),
+        Refusal::Recording(fault) => recording_refusal(alloc, fault),
+        Refusal::Schedule(fault) => schedule_refusal(alloc, fault),
+        Refusal::Properties(fault) => properties_refusal(alloc, fault),
+        Refusal::Report(fault) => report_refusal(alloc, fault),
+        Refusal::Limit { total, budget } => limit_refused(alloc, total, budget),
+    }
+}
+
 /// The refusal of a file whose bytes are not told. Want of memory, and a folder that failed, have none.
-pub fn content_refusal(alloc: Global, fault: ContentFault) -> Result<Reply, AllocError>
+fn content_refusal(alloc: Global, fault: ContentFault) -> Result<Reply, AllocError>
     ensures text { IfOk result (λ answer. answer ≡ content_refusal fault) }
     ensures status { IfOk result (λ answer. answer.status ≡ 3) }
 {
@@ -25,7 +58,7 @@ pub fn content_refusal(alloc: Global, fault: ContentFault) -> Result<Reply, Allo
 }
 
 /// The refusal of files that are no recording. Want of memory, and a folder that failed, have none.
-pub fn recording_refusal(alloc: Global, fault: RecordingFault) -> Result<Reply, AllocError>
+fn recording_refusal(alloc: Global, fault: RecordingFault) -> Result<Reply, AllocError>
     ensures text { IfOk result (λ answer. answer ≡ recording_refusal fault) }
     ensures status { IfOk result (λ answer. answer.status ≡ 3) }
 {
@@ -49,7 +82,7 @@ pub fn recording_refusal(alloc: Global, fault: RecordingFault) -> Result<Reply, 
 }
 
 /// The refusal of a text that is no schedule. Want of memory has none.
-pub fn schedule_refusal(alloc: Global, fault: ScheduleFault) -> Result<Reply, AllocError>
+fn schedule_refusal(alloc: Global, fault: ScheduleFault) -> Result<Reply, AllocError>
     ensures text { IfOk result (λ answer. answer ≡ schedule_refusal fault) }
     ensures status { IfOk result (λ answer. answer.status ≡ 3) }
 {
@@ -61,7 +94,7 @@ pub fn schedule_refusal(alloc: Global, fault: ScheduleFault) -> Result<Reply, Al
 }
 
 /// The refusal of a text that is no file of properties. Want of memory has none.
-pub fn properties_refusal(alloc: Global, fault: PropertyFault) -> Result<Reply, AllocError>
+fn properties_refusal(alloc: Global, fault: PropertyFault) -> Result<Reply, AllocError>
     ensures text { IfOk result (λ answer. answer ≡ properties_refusal fault) }
     ensures status { IfOk result (λ answer. answer.status ≡ 3) }
 {
@@ -98,7 +131,7 @@ pub fn properties_refusal(alloc: Global, fault: PropertyFault) -> Result<Reply, 
 }
 
 /// The refusal of a text that is no report. Want of memory has none.
-pub fn report_refusal(alloc: Global, fault: ReportFault) -> Result<Reply, AllocError>
+fn report_refusal(alloc: Global, fault: ReportFault) -> Result<Reply, AllocError>
     ensures text { IfOk result (λ answer. answer ≡ report_refusal fault) }
     ensures status { IfOk result (λ answer. answer.status ≡ 3) }
 {

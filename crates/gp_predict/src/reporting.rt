@@ -1,129 +1,58 @@
-ghost use Rattle.std.specs.Prelude.{◌≡◌, ◌≤◌, ◌<◌, ◌++◌, Err, IfOk, OnOk, OnErr, length};
+ghost use Rattle.std.specs.Prelude.{◌≡◌, ◌≤◌, ◌<◌, ◌++◌, Err, OnOk, OnErr, length};
 ghost use Rattle.std.specs.List.{list_any};
 ghost use Rattle.gp_outside.specs.Faults.{Rose};
 ghost use Rattle.gp_outside.specs.Sinks.{Appends, AppendsFront};
 ghost use Rattle.gp_report.specs.Entries.{entries_among, entries_of, is_found};
 ghost use Rattle.gp_report.specs.declared.record.Entry.{Entry};
-ghost use Rattle.gp_predict.specs.Analysing.{CanBeAnalysed, analysis_form, report_status};
-ghost use Rattle.gp_predict.specs.Due.{IsPut};
-ghost use Rattle.gp_predict.specs.Expected.{AnalysisForm, Analysis, Compacted};
-ghost use Rattle.gp_predict.specs.Run.{Answers, IsCompactText, report_text};
+ghost use Rattle.gp_predict.specs.Analysing.{report_status};
+ghost use Rattle.gp_predict.specs.Telling.{report_text};
 
-use crate::due::Asked;
-use crate::listing::Listing;
 use crate::outcome::Outcome;
-use crate::submission::Submission;
-use crate::writing::status_of_fault;
-use gp_analysis::analyse;
-use gp_base::Row;
-use gp_compact::compact;
-use gp_outside::{Gate, PutFault, Sink};
+use crate::results::{CompactForm, Tells};
+use gp_outside::{PutFault, Sink};
 use gp_report::{Answer, Entry, PropertyRecord, Report, WindowRecord, print_report};
-use std::alloc::{AllocError, Global};
-use std::sync::Wait;
-use std::thread::Threads;
+use std::alloc::Global;
 
-/// The format that tells the steps which the certificates of a window share by themselves.
-const COMPACT: u32 = 2;
+impl Tells for Report {
+    ghost use Rattle.gp_predict.specs.Telling.{of_report};
 
-/// Answers each instance of what would be listed, and writes the report in the format that is asked for.
-pub fn put_analysis<R: AllocGlobal + Threads + Wait + Sync, S: Sink, G: Gate + Sync>(
-    rt: &R,
-    sink: &mut S,
-    listing: &Listing,
-    asked: Asked,
-    gate: &G,
-) -> Outcome
-    requires { CanBeAnalysed listing.now asked }
-    ensures { IsPut (Analysis (analysis_form listing.now asked)) result (S.written sink.old) (S.written sink.new) (S.faults sink.old) (S.faults sink.new) }
-{
-    match analysis_report(rt, listing, asked, gate) {
-        Ok(report) => put_report(rt.alloc(), sink, report),
-        Err(_) => Outcome::of(6),
+    ghost told = { of_report };
+
+    fn put<S: Sink>(&self, alloc: Global, sink: &mut S) -> Result<(), PutFault> {
+        put_report(alloc, sink, self)
+    }
+
+    fn end(self) -> Outcome {
+        Outcome {
+            status: status_of(&self),
+            report: Some(self),
+        }
     }
 }
 
-/// The report of an analysis, in the format that is asked for.
-fn analysis_report<R: AllocGlobal + Threads + Wait + Sync, G: Gate + Sync>(
-    rt: &R,
-    listing: &Listing,
-    asked: Asked,
-    gate: &G,
-) -> Result<Report, AllocError>
-    requires { CanBeAnalysed listing.now asked }
-    ensures { IfOk result (Answers (analysis_form listing.now asked)) }
-{
-    let recording = &listing.recording;
-    let properties = listing.properties.as_slice();
-    let report = analyse(
-        rt,
-        rt.alloc(),
-        recording,
-        properties,
-        asked.workers,
-        asked.budget,
-        gate,
-    )?;
-    if asked.format == COMPACT {
-        return compact(rt.alloc(), recording, &report);
-    }
-    Ok(report)
-}
+impl Tells for CompactForm {
+    ghost use Rattle.gp_predict.specs.Telling.{of_compact_form};
 
-/// Writes the compact form of a report. It is not kept, since no analysis was made.
-pub fn put_compacted<S: Sink>(alloc: Global, sink: &mut S, submission: &Submission) -> Outcome
-    ensures { IsPut (Compacted submission.now) result (S.written sink.old) (S.written sink.new) (S.faults sink.old) (S.faults sink.new) }
-{
-    match compacted_text(alloc, submission) {
-        Ok(text) => put_compacted_text(sink, submission, text.as_slice()),
-        Err(_) => Outcome::of(6),
+    ghost told = { of_compact_form };
+
+    fn put<S: Sink>(&self, alloc: Global, sink: &mut S) -> Result<(), PutFault> {
+        put_report(alloc, sink, &self.report)
+    }
+
+    fn end(self) -> Outcome {
+        Outcome::of(0)
     }
 }
 
-fn compacted_text(alloc: Global, submission: &Submission) -> Result<Row<u8>, AllocError>
-    ensures { IfOk result (λ text. IsCompactText submission.now text) }
+/// Writes the text of a report.
+fn put_report<S: Sink>(alloc: Global, sink: &mut S, report: &Report) -> Result<(), PutFault>
+    ensures later { S.faults sink.old ≤ S.faults sink.new }
+    ensures ok { OnOk result (Appends (S.written sink.old) (S.written sink.new) (report_text report.now)) }
+    ensures err { OnErr result (AppendsFront (S.written sink.old) (S.written sink.new) (report_text report.now)) }
+    ensures failed { result ≡ Err PutFault.Failed → Rose (S.faults sink.old) (S.faults sink.new) }
 {
-    let report = compact(alloc, &submission.listing.recording, &submission.report)?;
-    print_report(alloc, &report)
-}
-
-fn put_compacted_text<S: Sink>(sink: &mut S, submission: &Submission, text: &[u8]) -> Outcome
-    requires { IsCompactText submission.now text.now }
-    ensures { IsPut (Compacted submission.now) result (S.written sink.old) (S.written sink.new) (S.faults sink.old) (S.faults sink.new) }
-{
-    match put_each_line(sink, text) {
-        Ok(()) => Outcome::of(0),
-        Err(fault) => Outcome::of(status_of_fault(fault)),
-    }
-}
-
-/// Writes a report, which is kept where there was memory for its text.
-fn put_report<S: Sink>(alloc: Global, sink: &mut S, report: Report) -> Outcome
-    ensures { (analysis : AnalysisForm) → Answers analysis report
-        → IsPut (Analysis analysis) result (S.written sink.old) (S.written sink.new) (S.faults sink.old) (S.faults sink.new) }
-{
-    match print_report(alloc, &report) {
-        Ok(text) => put_printed(sink, report, text.as_slice()),
-        Err(_) => Outcome::of(6),
-    }
-}
-
-/// Writes the text of a report, which is kept.
-fn put_printed<S: Sink>(sink: &mut S, report: Report, text: &[u8]) -> Outcome
-    requires { text.now ≡ report_text report }
-    ensures { (analysis : AnalysisForm) → Answers analysis report
-        → IsPut (Analysis analysis) result (S.written sink.old) (S.written sink.new) (S.faults sink.old) (S.faults sink.new) }
-{
-    match put_each_line(sink, text) {
-        Ok(()) => Outcome {
-            status: status_of(&report),
-            report: Some(report),
-        },
-        Err(fault) => Outcome {
-            status: status_of_fault(fault),
-            report: Some(report),
-        },
-    }
+    let text = print_report(alloc, report)?;
+    put_each_line(sink, text.as_slice())
 }
 
 /// Writes a text, each of its lines by one call.

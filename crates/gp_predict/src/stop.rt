@@ -1,13 +1,13 @@
-use crate::reply::Reply;
+use crate::refusal::Refusal;
 use std::alloc::AllocError;
 
-/// Why the files were not read and replayed to a verdict.
-#[derive(Debug, Drop)]
+/// Why a stage gave nothing.
+#[derive(Clone, Copy, Debug)]
 pub enum Stop {
-    /// An input file, or the recording as a whole, is refused, with this answer.
-    Refused(Reply),
+    /// An input file, the recording as a whole, or what is asked of them is refused.
+    Refused(Refusal),
     /// The folder failed.
-    ReadFault,
+    FolderFailed,
     /// Want of memory.
     Memory,
 }

@@ -1,8 +1,7 @@
-ghost use Rattle.std.specs.Prelude.{ℕ, ◌≡◌, ◌≢◌, ◌≤◌, ◌<◌, ◌-◌, ◌^◌, List, Some, Err, IfOk, IfErr, length};
-ghost use Rattle.gp_outside.specs.Faults.{Rose};
-ghost use Rattle.gp_outside.specs.Folders.{File};
+ghost use Rattle.std.specs.Prelude.{◌≡◌, ◌≢◌, ◌≤◌, ◌<◌, ◌-◌, ◌^◌, Err, IfOk, false, length};
 ghost use Rattle.gp_predict.specs.Refusal.{report_refusal};
-ghost use Rattle.gp_predict.specs.Stage.{IsRefusal, refusal_of};
+ghost use Rattle.gp_predict.specs.Refused.{stops_absent};
+ghost use Rattle.gp_predict.specs.Stage.{IsStage, refusal_of};
 ghost use Rattle.gp_predict.specs.Submission.{CanBeChecked, report_at, submission_at};
 ghost use Rattle.gp_report.specs.Reading.{report_of};
 ghost use Rattle.gp_base.specs.Results.{or_refused};
@@ -10,7 +9,7 @@ ghost use Rattle.gp_window.specs.Gives.{Gives};
 
 use crate::content::content_at;
 use crate::listing::{Listing, listing_at};
-use crate::refusal::report_refusal;
+use crate::refusal::Refusal;
 use crate::stop::Stop;
 use gp_outside::Folder;
 use gp_report::{Report, ReportFault, read_report};
@@ -31,13 +30,8 @@ pub fn submission_at<R: AllocGlobal + Threads + Sync, F: Folder>(
     folder: &mut F,
     directory: &str,
 ) -> Result<Submission, Stop>
-    ensures later { F.faults folder.old ≤ F.faults folder.new }
-    ensures kept { F.files folder.new ≡ F.files folder.old }
-    ensures told { (files : List File) → F.files folder.old ≡ Some files
-        → Gives refusal_of result (submission_at files directory.now) }
+    ensures stage { IsStage result (λ files. Gives refusal_of result (submission_at files directory.now)) (F.files folder.old) (F.files folder.new) (F.faults folder.old) (F.faults folder.new) }
     ensures within { IfOk result CanBeChecked }
-    ensures refused { IfErr result IsRefusal }
-    ensures fault { result ≡ Err Stop.ReadFault → Rose (F.faults folder.old) (F.faults folder.new) }
 {
     let listing = listing_at(rt, folder, directory)?;
     let report = report_at(rt.alloc(), folder, directory)?;
@@ -45,12 +39,7 @@ pub fn submission_at<R: AllocGlobal + Threads + Sync, F: Folder>(
 }
 
 fn report_at<F: Folder>(alloc: Global, folder: &mut F, directory: &str) -> Result<Report, Stop>
-    ensures later { F.faults folder.old ≤ F.faults folder.new }
-    ensures kept { F.files folder.new ≡ F.files folder.old }
-    ensures told { (files : List File) → F.files folder.old ≡ Some files
-        → Gives refusal_of result (report_at files directory.now) }
-    ensures refused { IfErr result IsRefusal }
-    ensures fault { result ≡ Err Stop.ReadFault → Rose (F.faults folder.old) (F.faults folder.new) }
+    ensures stage { IsStage result (λ files. Gives refusal_of result (report_at files directory.now)) (F.files folder.old) (F.files folder.new) (F.faults folder.old) (F.faults folder.new) }
 {
     let bytes = content_at(alloc, folder, directory, FileName::Report)?;
     report_from(alloc, bytes.as_slice())
@@ -59,12 +48,12 @@ fn report_at<F: Folder>(alloc: Global, folder: &mut F, directory: &str) -> Resul
 fn report_from(alloc: Global, bytes: &[u8]) -> Result<Report, Stop>
     requires { length bytes.now < 2 ^ 32 - 1 }
     ensures due { Gives refusal_of result (or_refused report_refusal (report_of bytes.now)) }
-    ensures refused { IfErr result IsRefusal }
-    ensures no_fault { result ≢ Err Stop.ReadFault }
+    ensures no_fault { result ≢ Err Stop.FolderFailed }
+    ensures present { stops_absent result ≡ false }
 {
     match read_report(alloc, bytes) {
         Ok(read) => Ok(read.report),
         Err(ReportFault::Memory) => Err(Stop::Memory),
-        Err(fault) => Err(Stop::Refused(report_refusal(alloc, fault)?)),
+        Err(fault) => Err(Stop::Refused(Refusal::Report(fault))),
     }
 }

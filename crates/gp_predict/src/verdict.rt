@@ -1,33 +1,49 @@
 ghost use Rattle.std.specs.Prelude.{◌≡◌, ◌≤◌, ◌+◌, IfOk, OnOk, length};
-ghost use Rattle.gp_predict.specs.Due.{IsPut};
 ghost use Rattle.gp_predict.specs.Expected.{Verdict};
-ghost use Rattle.gp_predict.specs.Submission.{CanBeChecked};
+ghost use Rattle.gp_predict.specs.Finished.{CameTo, told_by};
+ghost use Rattle.gp_predict.specs.Means.{Means};
+ghost use Rattle.gp_predict.specs.Reply.{as_verdict, either_expected};
+ghost use Rattle.gp_predict.specs.Stage.{IsStage};
+ghost use Rattle.gp_predict.specs.Submission.{CanBeChecked, submission_at};
+ghost use Rattle.gp_predict.specs.Telling.{of_answer};
 ghost use Rattle.gp_predict.specs.Verdict.{IsVerdict, accepted, rejected, then_number, verdict_on};
 ghost use Rattle.gp_report.specs.Entries.{entries_among, entries_of};
 
-use crate::outcome::Outcome;
 use crate::reply::{Reply, line_of, one_line};
-use crate::submission::Submission;
-use crate::writing::put_answer;
+use crate::results::Answer;
+use crate::stop::Stop;
+use crate::submission::{Submission, submission_at};
 use gp_checker::{Checked, Failure, accepted_is_true, check_report};
-use gp_outside::Sink;
+use gp_outside::Folder;
 use gp_report::{PropertyRecord, Report, WindowRecord};
 use gp_text::print_u64;
 use std::alloc::{AllocError, Global};
+use std::thread::Threads;
 
-/// Checks a report, and writes whether it is accepted.
-pub fn put_verdict<S: Sink>(alloc: Global, sink: &mut S, submission: &Submission) -> Outcome
-    requires { CanBeChecked submission.now }
-    ensures { IsPut (Verdict submission.now) result (S.written sink.old) (S.written sink.new) (S.faults sink.old) (S.faults sink.new) }
+/// Task check: whether a report is accepted.
+pub fn checked<R: AllocGlobal + Threads + Sync, F: Folder>(
+    rt: &R,
+    folder: &mut F,
+    directory: &str,
+) -> Result<Answer, Stop>
+    ensures { IsStage result (λ files. CameTo (told_by of_answer result) (either_expected (as_verdict (submission_at files directory.now)))) (F.files folder.old) (F.files folder.new) (F.faults folder.old) (F.faults folder.new) }
 {
-    match verdict_of(alloc, submission) {
-        Ok(checked) => put_checked(alloc, sink, submission, checked),
-        Err(_) => Outcome::of(6),
-    }
+    let submission = submission_at(rt, folder, directory)?;
+    Ok(verdict_of(rt.alloc(), &submission)?)
+}
+
+/// The verdict on a report.
+fn verdict_of(alloc: Global, submission: &Submission) -> Result<Answer, AllocError>
+    requires { CanBeChecked submission.now }
+    ensures { IfOk result (λ answer. Means (Verdict submission.now) (of_answer answer)) }
+{
+    let checked = checked_report(alloc, submission)?;
+    let reply = verdict_on(alloc, &submission.report, checked)?;
+    Ok(Answer { reply })
 }
 
 /// Checks a report.
-fn verdict_of(alloc: Global, submission: &Submission) -> Result<Checked, AllocError>
+fn checked_report(alloc: Global, submission: &Submission) -> Result<Checked, AllocError>
     requires { CanBeChecked submission.now }
     ensures { IfOk result (IsVerdict submission.now) }
 {
@@ -40,22 +56,6 @@ fn verdict_of(alloc: Global, submission: &Submission) -> Result<Checked, AllocEr
         listing.properties.as_slice(),
         &submission.report,
     )
-}
-
-/// Writes what checking said of a report.
-fn put_checked<S: Sink>(
-    alloc: Global,
-    sink: &mut S,
-    submission: &Submission,
-    checked: Checked,
-) -> Outcome
-    requires { IsVerdict submission.now checked }
-    ensures { IsPut (Verdict submission.now) result (S.written sink.old) (S.written sink.new) (S.faults sink.old) (S.faults sink.new) }
-{
-    match verdict_on(alloc, &submission.report, checked) {
-        Ok(answer) => put_answer(sink, &answer),
-        Err(_) => Outcome::of(6),
-    }
 }
 
 fn verdict_on(alloc: Global, report: &Report, checked: Checked) -> Result<Reply, AllocError>

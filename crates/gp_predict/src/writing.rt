@@ -1,82 +1,20 @@
-ghost use Rattle.std.specs.Prelude.{◌≡◌, ◌≤◌, ◌⊎◌, ◌↔◌, IfOk, OnOk, OnErr, Err, flat_map, length};
+ghost use Rattle.std.specs.Prelude.{◌≡◌, ◌≤◌, IfOk, OnOk, OnErr, Err, flat_map, length};
 ghost use Rattle.gp_outside.specs.Faults.{Rose};
 ghost use Rattle.gp_outside.specs.Sinks.{Appends, AppendsFront};
-ghost use Rattle.gp_predict.specs.Due.{EndsIn, IsPut, IsWithinLimits, expected_of};
-ghost use Rattle.gp_predict.specs.Expected.{Text, text_of};
+ghost use Rattle.gp_predict.specs.Expected.{text_of};
 ghost use Rattle.gp_predict.specs.Lines.{total_line};
 ghost use Rattle.gp_predict.specs.Listing.{all_lines, answer_of_listing, total_count, window_count, window_lines};
-ghost use Rattle.gp_predict.specs.Run.{IsDone};
 
-use crate::due::Due;
 use crate::lines::total_line;
-use crate::listing::{Listing, Told, told_of};
-use crate::outcome::Outcome;
-use crate::reply::Reply;
-use crate::reporting::{put_analysis, put_compacted};
-use crate::verdict::put_verdict;
+use crate::listing::{Listing, WindowLines, window_lines_of};
 use gp_base::Row;
-use gp_outside::{Gate, PutFault, Sink};
+use gp_outside::{PutFault, Sink};
 use gp_property::Property;
 use gp_window::{Recording, Window, Windows};
 use std::alloc::Global;
-use std::sync::Wait;
-use std::thread::Threads;
-
-/// Puts what is due to a sink, each line of its text by one call.
-pub fn put_due<R: AllocGlobal + Threads + Wait + Sync, S: Sink, G: Gate + Sync>(
-    rt: &R,
-    sink: &mut S,
-    due: &Due,
-    gate: &G,
-) -> Outcome
-    requires range { EndsIn IsDone (expected_of due.now) }
-    requires limits { IsWithinLimits due.now }
-    ensures { IsPut (expected_of due.now) result (S.written sink.old) (S.written sink.new) (S.faults sink.old) (S.faults sink.new) }
-{
-    let alloc = rt.alloc();
-    match due {
-        Due::Whole(answer) => put_answer(sink, answer),
-        Due::InPieces(listing) => put_list(alloc, sink, listing),
-        Due::Analysis { listing, asked } => put_analysis(rt, sink, listing, *asked, gate),
-        Due::Verdict(submission) => put_verdict(alloc, sink, submission),
-        Due::Compacted(submission) => put_compacted(alloc, sink, submission),
-    }
-}
-
-/// Writes an answer of a few lines.
-pub fn put_answer<S: Sink>(sink: &mut S, answer: &Reply) -> Outcome
-    requires { EndsIn IsDone (Text answer.now) }
-    ensures { IsPut (Text answer.now) result (S.written sink.old) (S.written sink.new) (S.faults sink.old) (S.faults sink.new) }
-{
-    match put_lines(sink, answer.lines.as_slice()) {
-        Ok(()) => Outcome::of(answer.status),
-        Err(fault) => Outcome::of(status_of_fault(fault)),
-    }
-}
-
-fn put_list<S: Sink>(alloc: Global, sink: &mut S, listing: &Listing) -> Outcome
-    requires { length listing.now.properties ≤ 64 }
-    ensures { IsPut (Text (answer_of_listing listing.now)) result (S.written sink.old) (S.written sink.new) (S.faults sink.old) (S.faults sink.new) }
-{
-    match put_listing(alloc, sink, listing) {
-        Ok(()) => Outcome::of(0),
-        Err(fault) => Outcome::of(status_of_fault(fault)),
-    }
-}
-
-/// The status where a sink did not take the whole text.
-pub fn status_of_fault(fault: PutFault) -> u8
-    ensures failed { (result ≡ 5) ↔ (fault ≡ PutFault.Failed) }
-    ensures range { (result ≡ 5) ⊎ (result ≡ 6) }
-{
-    match fault {
-        PutFault::Failed => 5,
-        PutFault::Memory => 6,
-    }
-}
 
 /// Writes a listing. The lines of one window at a time are in memory.
-fn put_listing<S: Sink>(alloc: Global, sink: &mut S, listing: &Listing) -> Result<(), PutFault>
+pub fn put_listing<S: Sink>(alloc: Global, sink: &mut S, listing: &Listing) -> Result<(), PutFault>
     requires few { length listing.now.properties ≤ 64 }
     ensures later { S.faults sink.old ≤ S.faults sink.new }
     ensures ok { OnOk result (Appends (S.written sink.old) (S.written sink.new) (text_of (answer_of_listing listing.now))) }
@@ -132,12 +70,13 @@ fn put_window<S: Sink>(
     ensures err { OnErr result (AppendsFront (S.written sink.old) (S.written sink.new) (flat_map (λ line. line) (window_lines properties.now window.now))) }
     ensures failed { result ≡ Err PutFault.Failed → Rose (S.faults sink.old) (S.faults sink.new) }
 {
-    let Told { lines, count } = told_of(alloc, window, properties)?;
+    let WindowLines { lines, count } = window_lines_of(alloc, window, properties)?;
     put_lines(sink, lines.as_slice())?;
     Ok(count)
 }
 
-fn put_lines<S: Sink>(sink: &mut S, lines: &[Row<u8>]) -> Result<(), PutFault>
+/// Writes these lines.
+pub fn put_lines<S: Sink>(sink: &mut S, lines: &[Row<u8>]) -> Result<(), PutFault>
     ensures later { S.faults sink.old ≤ S.faults sink.new }
     ensures ok { OnOk result (Appends (S.written sink.old) (S.written sink.new) (flat_map (λ line. line) lines.now)) }
     ensures err { OnErr result (AppendsFront (S.written sink.old) (S.written sink.new) (flat_map (λ line. line) lines.now)) }

@@ -1,28 +1,28 @@
--- What is left, by how the writes ended.
-use Rattle.std.proofs.Common.{Err, ap, subst}
+-- What making came to was told, and what it left.
+use Rattle.std.proofs.Common.{subst}
 use Rattle.gp_make.specs.declared.recipe.Recipe.{Recipe}
+use Rattle.gp_predict.specs.Asking.{recipe_of}
+use Rattle.gp_predict.specs.Expected.{Text}
+use Rattle.gp_predict.specs.Finished.{CameTo, told_by}
+use Rattle.gp_predict.specs.Telling.{of_answer}
+use Rattle.gp_words.specs.Command.{form_of}
 use Rattle.gp_make.specs.Writing.{made_at}
-use Rattle.gp_predict.specs.Making.{LeavesMade}
-use Rattle.gp_predict.proofs.Left.{all_left, part_left, some_left}
+use Rattle.gp_predict.specs.Making.{LeavesMade, made_answer}
+use Rattle.gp_predict.proofs.Left.{left_made, never_absent}
+use Rattle.gp_predict.proofs.Ran.{ran, where_due}
 use Rattle.gp_predict.proofs.making.make_at.Goals as goal
 
-pub returns-in-Ok-clause-left : goal.returns-in-Ok-clause-left
-returns-in-Ok-clause-left g c =
-    subst (λ (recipe : Recipe). LeavesMade (made_at c.args.command.now.folder.now recipe) c.put_made.result.status (g.F.Folder.files c.args.folder.now) (g.F.Folder.files c.write_recording.new.folder))
-    c.recipe_of-recipe.ensures.numbers
-    (all_left (made_at c.args.command.now.folder.now c.recipe_of-recipe.result) c.put_made.result.status (g.F.Folder.files c.args.folder.now) (g.F.Folder.files c.write_recording.new.folder)
-    c.put_made.ensures.range c.in-Ok.ensures.made)
+pub returns-clause-run : goal.returns-clause-run
+returns-clause-run g c =
+    let came = told_by of_answer c.made-made.result in
+    ran _ _ _ _ _ _ _ _ _ of_answer c.made-made.result
+    (where_due (Text (made_answer (recipe_of (form_of c.args.command.now)))) (CameTo came)
+    (subst (λ (recipe : Recipe). CameTo came (Text (made_answer recipe))) c.recipe_of-recipe.ensures.numbers c.made-made.ensures.due))
+    c.made-made.ensures.fault (λ is none. never_absent c.made-made.result _ _ _ c.made-made.ensures.stopped is) c.finish.ensures.finished
 
-pub returns-in-Err-Failed-clause-left : goal.returns-in-Err-Failed-clause-left
-returns-in-Err-Failed-clause-left g c =
-    subst (λ (recipe : Recipe). LeavesMade (made_at c.args.command.now.folder.now recipe) c.of.result.status (g.F.Folder.files c.args.folder.now) (g.F.Folder.files c.write_recording.new.folder))
+pub returns-clause-left : goal.returns-clause-left
+returns-clause-left g c =
+    subst (λ (recipe : Recipe). LeavesMade (made_at c.args.command.now.folder.now recipe) c.finish.result.status (g.F.Folder.files c.args.folder.now) (g.F.Folder.files c.made-made.new.folder))
     c.recipe_of-recipe.ensures.numbers
-    (some_left (made_at c.args.command.now.folder.now c.recipe_of-recipe.result) c.of.result.status (g.F.Folder.files c.args.folder.now) (g.F.Folder.files c.write_recording.new.folder)
-    (ap (λ o. o.status) c.of.ensures) (c.in-Err-Failed.ensures.spared (ap Err c.in-Err-Failed.field-0-is)))
-
-pub returns-in-Err-Memory-clause-left : goal.returns-in-Err-Memory-clause-left
-returns-in-Err-Memory-clause-left g c =
-    subst (λ (recipe : Recipe). LeavesMade (made_at c.args.command.now.folder.now recipe) c.of-in-Err-Memory.result.status (g.F.Folder.files c.args.folder.now) (g.F.Folder.files c.write_recording.new.folder))
-    c.recipe_of-recipe.ensures.numbers
-    (part_left (made_at c.args.command.now.folder.now c.recipe_of-recipe.result) c.of-in-Err-Memory.result.status (g.F.Folder.files c.args.folder.now) (g.F.Folder.files c.write_recording.new.folder)
-    (ap (λ o. o.status) c.of-in-Err-Memory.ensures) (c.in-Err-Memory.ensures.memory (ap Err c.in-Err-Memory.field-0-is)))
+    (left_made of_answer c.made-made.result (made_at c.args.command.now.folder.now c.recipe_of-recipe.result) c.finish.result _ _ _ _ (g.F.Folder.files c.args.folder.now)
+    (g.F.Folder.files c.made-made.new.folder) c.made-made.ensures.all c.made-made.ensures.stopped c.finish.ensures.finished)

@@ -1,23 +1,34 @@
--- What the stages gave is what is due, and was put.
-use Rattle.gp_predict.specs.Reply.{due_by}
-use Rattle.gp_predict.specs.Due.{expected_of}
-use Rattle.gp_predict.proofs.Commands.{due_is}
-use Rattle.gp_predict.proofs.Runs.{run_of_put}
-use Rattle.gp_predict.proofs.Statuses.{done_of, not_words}
+-- What each task came to was told.
+use Rattle.std.proofs.Common.{refl, subst}
 use Rattle.gp_words.specs.Command.{form_of}
-use Rattle.std.proofs.Common.{true}
+use Rattle.gp_words.specs.declared.task.Task.TheVariants as task
+use Rattle.gp_predict.specs.declared.analysing.Asked.{Asked}
+use Rattle.gp_predict.specs.Analysing.{analysing_at}
+use Rattle.gp_predict.specs.Finished.{CameTo, told_by}
+use Rattle.gp_predict.specs.Reply.{either_expected}
+use Rattle.gp_predict.specs.Stage.{IsStage}
+use Rattle.gp_predict.specs.Telling.{of_answer, of_compact_form, of_listed, of_report}
+use Rattle.gp_predict.proofs.Ran.{ran_stage}
 use Rattle.gp_predict.proofs.top.answer.Goals as goal
 
-pub put_due-requires-clause-range : goal.put_due-requires-clause-range
-put_due-requires-clause-range g c κs within = λ status has. done_of status (c.in-Ok.ensures.done status has)
+pub returns-in-Replay-clause-run : goal.returns-in-Replay-clause-run
+returns-in-Replay-clause-run g c =
+    ran_stage of_answer c.replayed-made.result (form_of c.args.command.now) task.Replay _ _ _ _ _ _ _ _ _ c.in-Replay.is refl c.replayed-made.ensures c.finish.ensures.finished
 
-pub returns-in-Ok-clause-run : goal.returns-in-Ok-clause-run
-returns-in-Ok-clause-run g c =
-    run_of_put (due_by true (form_of c.args.command.now) (g.F.Folder.files c.args.folder.now)) (expected_of c.in-Ok.due) c.put_due.result
-    (g.S.Sink.written c.args.sink.now) (g.S.Sink.written c.put_due.new.sink) (g.S.Sink.faults c.args.sink.now) (g.S.Sink.faults c.put_due.new.sink)
-    (g.F.Folder.faults c.args.folder.now) (g.F.Folder.faults c.task_at.new.folder)
-    (due_is (form_of c.args.command.now) (g.F.Folder.files c.args.folder.now) (expected_of c.in-Ok.due) c.in-Ok.ensures.told)
-    (λ status has. done_of status (c.in-Ok.ensures.done status has)) c.put_due.ensures
+pub returns-in-List-clause-run : goal.returns-in-List-clause-run
+returns-in-List-clause-run g c =
+    ran_stage of_listed c.listed-made.result (form_of c.args.command.now) task.List _ _ _ _ _ _ _ _ _ c.in-List.is refl c.listed-made.ensures c.finish-in-List.ensures.finished
 
-pub returns-in-Ok-clause-words : goal.returns-in-Ok-clause-words
-returns-in-Ok-clause-words g c = not_words (expected_of c.in-Ok.due) c.put_due.result.status c.in-Ok.ensures.done c.put_due.ensures.range
+pub returns-in-Analyse-clause-run : goal.returns-in-Analyse-clause-run
+returns-in-Analyse-clause-run g c =
+    ran_stage of_report c.analysed-made.result (form_of c.args.command.now) task.Analyse _ _ _ _ _ _ _ _ _ c.in-Analyse.is refl
+    (subst (λ (asked : Asked). IsStage c.analysed-made.result (λ files. CameTo (told_by of_report c.analysed-made.result) (either_expected (analysing_at files c.args.command.now.folder.now asked))) (g.F.Folder.files c.args.folder.now) (g.F.Folder.files c.analysed-made.new.folder) (g.F.Folder.faults c.args.folder.now) (g.F.Folder.faults c.analysed-made.new.folder))
+    c.asked_of.ensures.numbers c.analysed-made.ensures) c.finish-in-Analyse.ensures.finished
+
+pub returns-in-Check-clause-run : goal.returns-in-Check-clause-run
+returns-in-Check-clause-run g c =
+    ran_stage of_answer c.checked-made.result (form_of c.args.command.now) task.Check _ _ _ _ _ _ _ _ _ c.in-Check.is refl c.checked-made.ensures c.finish-in-Check.ensures.finished
+
+pub returns-in-Compact-clause-run : goal.returns-in-Compact-clause-run
+returns-in-Compact-clause-run g c =
+    ran_stage of_compact_form c.compacted-made.result (form_of c.args.command.now) task.Compact _ _ _ _ _ _ _ _ _ c.in-Compact.is refl c.compacted-made.ensures c.finish-in-Compact.ensures.finished

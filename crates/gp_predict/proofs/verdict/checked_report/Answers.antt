@@ -4,7 +4,7 @@ use Rattle.std.specs.Prelude.{IfOk}
 use Rattle.gp_checker.specs.Checked.{IsChecked}
 use Rattle.gp_property.specs.PropertyForm.{PropertyForm}
 use Rattle.gp_predict.proofs.Judged.{is_verdict}
-use Rattle.gp_predict.proofs.verdict.verdict_of.Goals as goal
+use Rattle.gp_predict.proofs.verdict.checked_report.Goals as goal
 
 pub returns : goal.returns
 returns c =

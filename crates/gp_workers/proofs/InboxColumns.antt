@@ -16,7 +16,7 @@ use Rattle.gp_tickets.specs.declared.tickets.Tickets.{Tickets}
 use Rattle.gp_workers.specs.Crew.{IsJob}
 use Rattle.gp_workers.specs.Desk.{PassesAre}
 use Rattle.gp_workers.specs.Inboxes.{AreColumns, IsDealt}
-use Rattle.gp_workers.specs.SharedCrew.{AreNew, IsNew, IsRow, IsSharingJob}
+use Rattle.gp_workers.specs.SharedCrew.{AreNew, AreSharingJobs, IsNew, IsRow, IsSharingJob}
 use Rattle.gp_workers.proofs.InboxPlaces.{done_above, got_last, got_left, popped}
 use Rattle.gp_workers.proofs.CrewJobs.{each_pushed}
 use Rattle.gp_workers.proofs.DeskPasses.{got_at}
@@ -91,14 +91,14 @@ next_column all left rest count x is same = (
 )
 
 -- the jobs are those of the first workers
-abbrev pub AreHired : Tickets → ℕ → List (Vec (Pass SharedClause View)) → List SharingJob → Type 0
-AreHired tickets workers columns jobs = (problem : Problem) (inboxes : List Inbox) → AreColumns problem workers inboxes columns → length inboxes ≡ workers
-    → (place : ℕ) (d : SharingJob) → place < length jobs → IsSharingJob tickets problem inboxes place (get_or jobs place d)
+abbrev pub AreOfFirst : Tickets → ℕ → List (Vec (Pass SharedClause View)) → List SharingJob → Type 0
+AreOfFirst tickets workers columns jobs = (problem : Problem) (inboxes : List Inbox) → AreColumns problem workers inboxes columns → length inboxes ≡ workers
+    → AreSharingJobs tickets problem inboxes jobs
 
-pub hired_more : (tickets : Tickets) (workers : ℕ) (columns : List (Vec (Pass SharedClause View))) (jobs new : List SharingJob) (sharing : SharingJob) → AreHired tickets workers columns jobs → new ≡ jobs ++ sharing ∷ []
-    → IsJob tickets (length jobs + 1) sharing.job → slice_get columns (length jobs) ≡ Some sharing.passes → AreHired tickets workers columns new
+pub hired_more : (tickets : Tickets) (workers : ℕ) (columns : List (Vec (Pass SharedClause View))) (jobs new : List SharingJob) (sharing : SharingJob) → AreOfFirst tickets workers columns jobs → new ≡ jobs ++ sharing ∷ []
+    → IsJob tickets (length jobs + 1) sharing.job → slice_get columns (length jobs) ≡ Some sharing.passes → AreOfFirst tickets workers columns new
 hired_more tickets workers columns jobs new sharing hired is job got = λ problem inboxes are counted.
     let its : AreNew problem inboxes (length jobs) sharing.passes.items =
     subst (λ (n : ℕ). PassesAre inboxes (IsNew problem n (length jobs)) sharing.passes.items) (sym counted) (are.each (length jobs) sharing.passes got) in
-    subst (λ (js : List SharingJob). (place : ℕ) (d : SharingJob) → place < length js → IsSharingJob tickets problem inboxes place (get_or js place d)) (sym is)
+    subst (AreSharingJobs tickets problem inboxes) (sym is)
     (each_pushed (λ place one. IsSharingJob tickets problem inboxes place one) jobs sharing (hired problem inboxes are counted) (job, its))

@@ -3,6 +3,7 @@ use Rattle.std.proofs.Common.{◌≡◌, refl, sym, ◌∙◌, ap, ℕ, ◌+◌,
 use Rattle.std.specs.List.{slice_get}
 use Rattle.std.proofs.lemmas.List.{map-append}
 use Rattle.std.proofs.lemmas.List.Elements.{filter-append}
+use Rattle.std.proofs.lemmas.Option.{slice_get_within}
 use Rattle.crossbeam_queue.specs.Passes.{view}
 use Rattle.gp_clause.specs.declared.lit.Lit.{Lit}
 use Rattle.gp_clause.specs.declared.problem.Problem.{Problem}
@@ -70,6 +71,11 @@ prefix_of problem count records place other own one seen out within apart got_ow
         ∙ out.pushed other one got_one apart
 
 pub takes_prefixes : TakesPrefixes
-takes_prefixes problem count work all place other own one own_within one_within apart got_own got_one =
-    let pass = some_at work.passes place (omega (arith, own_within, all.passes)) in
-    prefix_of problem count work.records place other own one (view pass.0) (all.each place pass.0 pass.1) one_within apart got_own got_one
+takes_prefixes problem count work all = record {
+  offers = all.offers;
+  prefixes = λ place other own one apart got_own got_one.
+      let own_within = slice_get_within work.records place own got_own in
+      let one_within = slice_get_within work.records other one got_one in
+      let pass = some_at work.passes place (omega (arith, own_within, all.workers, all.passes)) in
+      prefix_of problem count work.records place other own one (view pass.0) (all.each place pass.0 pass.1) (omega (arith, one_within, all.workers)) apart got_own got_one;
+}

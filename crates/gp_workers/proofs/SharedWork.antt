@@ -1,7 +1,8 @@
 -- What the workers handed back is what passed between them, once all passes are joined and what is left is taken.
-use Rattle.std.proofs.Common.{◌≡◌, refl, sym, ◌∙◌, ap, subst, ℕ, zero, suc, ◌+◌, ◌<◌, Option, None, Some, Result, Ok, Err, IfOk, true, List, [], ◌∷◌, ◌++◌, length, map, All, arith, count_by, ◌==◌}
+use Rattle.std.proofs.Common.{◌≡◌, refl, sym, ◌∙◌, ap, subst, ℕ, zero, suc, ◌+◌, ◌<◌, Option, None, Some, true, List, [], ◌∷◌, ◌++◌, length, map, All, arith, count_by, ◌==◌}
 use Rattle.std.specs.List.{slice_get}
 use Rattle.std.specs.Global.{Vec}
+use Rattle.std.proofs.lemmas.List.{length-map}
 use Rattle.std.proofs.lemmas.List.Elements.{All-cons, All-nil}
 use Rattle.std.proofs.lemmas.Option.{slice_get_within}
 use Rattle.crossbeam_queue.specs.Passes.{Pass, view}
@@ -147,6 +148,7 @@ module _ (tickets : Tickets) (problem : Problem) (queries : List Query) (budget 
   pub all_shared : (passes : List (Pass SharedClause View)) (work : WindowWork) → IsOfEach inboxes passes → ((place : ℕ) (pass : Pass SharedClause View) → slice_get passes place ≡ Some pass → DrainsAt joined place pass)
       → work.records ≡ map (λ (worked : Worked). worked.record) (map (λ (shared : Shared). shared.worked) crew) → work.passes ≡ passes → AllShared problem (length inboxes) work
   all_shared passes work own each records_are passes_are = record {
+    workers = ap (λ (rs : List WorkerRecord). length rs) (records_are ∙ records_of crew) ∙ length-map crew (λ (shared : Shared). shared.worked.record) ∙ counted;
     offers = subst (All (OffersAll problem (length inboxes))) (sym records_are) (all_offer tickets problem queries budget inboxes 0 crew back);
     passes = ap (λ (ps : List (Pass SharedClause View)). length ps) passes_are ∙ own.len;
     each = λ place pass got.
@@ -156,8 +158,3 @@ module _ (tickets : Tickets) (problem : Problem) (queries : List Query) (budget 
         (is_handed_out problem (length inboxes) place crew (view drains.before) (view pass) (sym counted) (are_seen tickets problem queries budget inboxes place 0 crew back (within place drains.before before))
         (together place drains.before before) drains.drains);
   }
-
--- what two facts of a result's value say together
-pub both_ok : {T E : Type 0} (result : Result T E) (P Q R : T → Type 0) → IfOk result P → IfOk result Q → ((value : T) → P value → Q value → R value) → IfOk result R
-both_ok (Ok value) P Q R one other so = so value one other
-both_ok (Err error) P Q R one other so = tt

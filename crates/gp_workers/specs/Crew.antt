@@ -13,7 +13,6 @@ use Rattle.gp_tickets.specs.Tickets.{hand_of, IsUnused}
 use Rattle.gp_workers.specs.declared.work.WorkAnswer.{WorkAnswer}
 use Rattle.gp_workers.specs.Worker.{AnswersOwn}
 use Rattle.gp_workers.specs.Record.{IsWorkerRecord, tickets_of}
-use Rattle.gp_workers.specs.Mail.{taken_entries}
 use Rattle.gp_workers.specs.Work.{IsAnswerTo}
 
 -- the job of the worker with this number: a drawer of its own, before its first draw
@@ -47,7 +46,3 @@ pub record IsGathered (tickets : Tickets) (problem : Problem) (queries : List Qu
   pub answered : All (Answers problem queries budget gathered.records.items) gathered.drawn.made.items
   pub turns : flat_map tickets_of gathered.records.items ≡ (hand_of gathered.drawn.drawer).drawn
   pub records : All (IsWorkerRecord problem) gathered.records.items
-
--- a worker offered nothing and took nothing
-abbrev pub SharesNone : Worked → Type 0
-SharesNone worked = (worked.record.offered ≡ []) × (taken_entries worked.record.log ≡ [])

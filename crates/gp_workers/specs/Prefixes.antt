@@ -1,5 +1,5 @@
--- What one worker took of what another pushed.
-use Rattle.std.specs.Prelude.{ℕ, ◌≡◌, ◌+◌, ◌<◌, ◌==◌, Bool, false, Some, List, ◌++◌, map, filter, slice_get}
+-- What the records of workers tell of what one pushed and another took.
+use Rattle.std.specs.Prelude.{ℕ, ◌≡◌, ◌+◌, ◌==◌, Bool, false, Some, List, ◌++◌, map, filter, slice_get, All}
 use Rattle.gp_clause.specs.declared.lit.Lit.{Lit}
 use Rattle.gp_clause.specs.declared.problem.Problem.{Problem}
 use Rattle.gp_derivation.specs.declared.log.LogEntry.{LogEntry}
@@ -7,7 +7,7 @@ use Rattle.gp_derivation.specs.declared.log.Origin.{Origin}
 use Rattle.gp_derivation.specs.declared.log.Origin.TheVariants.{Learned, Taken}
 use Rattle.gp_derivation.specs.declared.record.WorkerRecord.{WorkerRecord}
 use Rattle.gp_workers.specs.declared.work.WindowWork.{WindowWork}
-use Rattle.gp_workers.specs.Sharing.{AllShared, pushed_to}
+use Rattle.gp_workers.specs.Sharing.{AllShared, OffersAll, pushed_to}
 
 -- whether an origin is that of an entry that was taken from the worker of a number
 abbrev pub was_taken_from : ℕ → Origin → Bool
@@ -22,8 +22,13 @@ taken_from number log = map (λ (entry : LogEntry). entry.step.clause) (filter (
 abbrev pub BeginsWith : List (List Lit) → List (List Lit) → Type 0
 BeginsWith clauses front = (more : List (List Lit)) × (front ++ more ≡ clauses)
 
--- among workers that shared all, what one of them took from another is a prefix of what the other's record marks as pushed to it
+-- the records of so many workers tell what passed between them: each offers all that is fit to share, and what one of them
+-- took from another is a prefix of what the other's record marks as pushed to it
+pub record AreSharing (problem : Problem) (count : ℕ) (records : List WorkerRecord) : Type 0 where
+  pub offers : All (OffersAll problem count) records
+  pub prefixes : (place other : ℕ) (own one : WorkerRecord) → (other ≡ place → ⊥) → slice_get records place ≡ Some own → slice_get records other ≡ Some one
+      → BeginsWith (pushed_to one other place) (taken_from (other + 1) own.log)
+
+-- the records of workers that shared all tell so
 abbrev pub TakesPrefixes : Type 0
-TakesPrefixes = (problem : Problem) (count : ℕ) (work : WindowWork) → AllShared problem count work
-    → (place other : ℕ) (own one : WorkerRecord) → place < count → other < count → (other ≡ place → ⊥) → slice_get work.records place ≡ Some own → slice_get work.records other ≡ Some one
-    → BeginsWith (pushed_to one other place) (taken_from (other + 1) own.log)
+TakesPrefixes = (problem : Problem) (count : ℕ) (work : WindowWork) → AllShared problem count work → AreSharing problem count work.records

@@ -1,5 +1,5 @@
 -- What the workers that share hand back, and what is made of it.
-use Rattle.std.specs.Prelude.{ℕ, ◌≡◌, ◌+◌, List, [], ◌++◌, Some, length, map, slice_get, ◌∷◌}
+use Rattle.std.specs.Prelude.{ℕ, ◌≡◌, ◌+◌, ◌<◌, List, [], ◌++◌, Some, length, map, slice_get, slice_index_or, ◌∷◌}
 use Rattle.crossbeam_queue.specs.Passes.{Pass, view}
 use Rattle.gp_clause.specs.declared.problem.Problem.{Problem}
 use Rattle.gp_derivation.specs.declared.exchange.SharedClause.{SharedClause}
@@ -9,6 +9,7 @@ use Rattle.gp_inbox.specs.declared.rule.View.{View}
 use Rattle.gp_inbox.specs.Passes.{IsOf}
 use Rattle.gp_inbox.specs.Views.{IsDrained, joined}
 use Rattle.gp_search.specs.Mail.{taken_entry}
+use Rattle.gp_workers.specs.declared.crew.Hired.{Hired}
 use Rattle.gp_workers.specs.declared.crew.Worked.{Worked}
 use Rattle.gp_workers.specs.declared.crew.SharingJob.{SharingJob}
 use Rattle.gp_tickets.specs.declared.tickets.Tickets.{Tickets}
@@ -30,6 +31,18 @@ AreNew problem inboxes place passes = PassesAre inboxes (IsNew problem (length i
 -- the job of the worker at a place, among others
 abbrev pub IsSharingJob : Tickets → Problem → List Inbox → ℕ → SharingJob → Type 0
 IsSharingJob tickets problem inboxes place sharing = IsJob tickets (place + 1) sharing.job × AreNew problem inboxes place sharing.passes.items
+
+-- the jobs of the workers, by place
+abbrev pub AreSharingJobs : Tickets → Problem → List Inbox → List SharingJob → Type 0
+AreSharingJobs tickets problem inboxes jobs = (place : ℕ) (d : SharingJob) → place < length jobs → IsSharingJob tickets problem inboxes place (slice_index_or jobs place d)
+
+-- so many workers share so many tickets, and each has an inbox and a job
+pub record AreHired (problem : Problem) (count workers : ℕ) (hired : Hired) : Type 0 where
+  pub all_tickets : hired.tickets.count ≡ count
+  pub crew : hired.tickets.crew ≡ workers
+  pub own_inboxes : length hired.inboxes.items ≡ workers
+  pub own_jobs : length hired.jobs.items ≡ workers
+  pub each : AreSharingJobs hired.tickets problem hired.inboxes.items hired.jobs.items
 
 -- what the worker at a place hands back: its passes know what its record marks as pushed, and what its log took
 pub record IsShared (problem : Problem) (inboxes : List Inbox) (place : ℕ) (record_of : WorkerRecord) (passes : List (Pass SharedClause View)) : Type 0 where

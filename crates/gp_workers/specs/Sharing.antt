@@ -64,6 +64,7 @@ pub record IsHandedOut (problem : Problem) (count : ℕ) (records : List WorkerR
 
 -- so many workers, two or more, offered all that is fit to share, and the pass of each inbox is handed out
 pub record AllShared (problem : Problem) (count : ℕ) (work : WindowWork) : Type 0 where
+  pub workers : length work.records ≡ count
   pub offers : All (OffersAll problem count) work.records
   pub passes : length work.passes ≡ count
   pub each : (place : ℕ) (pass : Pass SharedClause View) → slice_get work.passes place ≡ Some pass → IsHandedOut problem count work.records place (view pass)

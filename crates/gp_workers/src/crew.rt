@@ -1,7 +1,7 @@
-ghost use Rattle.std.specs.Prelude.{◌≡◌, ◌≤◌, ◌<◌, ◌+◌, ℕ, List, All, IfOk, length, map, slice_index_or, ◌++◌, ◌∷◌, [], OnOk};
+ghost use Rattle.std.specs.Prelude.{◌≡◌, ◌≤◌, ◌+◌, ℕ, List, All, IfOk, length, map, ◌++◌, ◌∷◌, [], OnOk};
 ghost use Rattle.gp_clause.specs.declared.problem.Problem.{Problem};
 ghost use Rattle.gp_clause.specs.declared.problem.Query.{Query};
-ghost use Rattle.gp_workers.specs.Crew.{AreDone, IsGathered, IsJob, IsDone};
+ghost use Rattle.gp_workers.specs.Crew.{AreDone, IsGathered, IsDone};
 ghost use Rattle.gp_tickets.specs.Drawn.{HasDrawn};
 ghost use Rattle.gp_tickets.specs.declared.tickets.Tickets.{Tickets};
 ghost use Rattle.gp_workers.specs.Work.{IsWork};
@@ -10,7 +10,7 @@ use crate::work::{WindowWork, WorkAnswer};
 use gp_base::Row;
 use gp_clause::{Problem, Query};
 use gp_derivation::WorkerRecord;
-use gp_inbox::Pass;
+use gp_inbox::{Inbox, Pass};
 use gp_tickets::{Drawer, Drawn, Tickets};
 use std::alloc::{AllocError, Global};
 use std::collections::VecDeque;
@@ -47,6 +47,14 @@ pub(crate) struct SharingJob {
     pub(crate) passes: Vec<Pass>,
 }
 
+// Workers that share, before they begin: the inboxes, the tickets, and the job of each.
+#[derive(Drop)]
+pub(crate) struct Hired {
+    pub(crate) inboxes: Vec<Inbox>,
+    pub(crate) tickets: Tickets,
+    pub(crate) jobs: Vec<SharingJob>,
+}
+
 // What a worker hands back that shared, with its passes.
 #[derive(Drop)]
 pub(crate) struct Shared {
@@ -59,28 +67,6 @@ pub(crate) struct Shared {
 pub(crate) struct Gathered {
     pub(crate) drawn: Drawn<WorkAnswer>,
     pub(crate) records: Vec<WorkerRecord>,
-}
-
-// So many tickets, and a job for each worker.
-pub(crate) fn hire(
-    alloc: Global,
-    count: u64,
-    workers: u32,
-) -> Result<(Tickets, Vec<Job>), AllocError>
-    requires count { count ≤ 1000000 }
-    requires workers { (1 ≤ workers) × (workers ≤ 16) }
-    ensures count { IfOk result (λ hired. hired.0.count ≡ count) }
-    ensures crew { IfOk result (λ hired. hired.0.crew ≡ workers) }
-    ensures len { IfOk result (λ hired. length hired.1.items ≡ workers) }
-    ensures jobs { IfOk result (λ hired. (i : ℕ) (d : _) → i < length hired.1.items → IsJob hired.0 (i + 1) (slice_index_or hired.1.items i d)) }
-{
-    let (tickets, mut drawers) = Tickets::new(alloc, count, workers)?;
-    let mut jobs = Vec::new(alloc);
-    while let Some(drawer) = drawers.pop() {
-        let number = jobs.len() as u32 + 1;
-        jobs.push(Job { number, drawer })?;
-    }
-    Ok((tickets, jobs))
 }
 
 // All that the workers handed back. One drawer takes in those of the others.

@@ -1,11 +1,11 @@
-ghost use Rattle.std.specs.Prelude.{◌≡◌, ◌+◌, ◌-◌, ◌<◌, ◌≤◌, ◌++◌, ◌∷◌, [], ℕ, Some, IfOk, OnOk, length, slice_get, slice_index_or, true};
+ghost use Rattle.std.specs.Prelude.{◌≡◌, ◌+◌, ◌-◌, ◌<◌, ◌≤◌, ◌++◌, ◌∷◌, [], ℕ, Some, IfOk, OnOk, length, slice_get, true};
 ghost use Rattle.gp_workers.specs.Sharing.{others};
-ghost use Rattle.gp_workers.specs.SharedCrew.{IsRow, IsSharingJob, Drains, JoinsAt};
+ghost use Rattle.gp_workers.specs.SharedCrew.{AreHired, AreSharingJobs, IsRow, Drains, JoinsAt};
 ghost use Rattle.gp_workers.specs.Inboxes.{AreColumns, IsDealt, AreJoined, AreRows, DrainsAt, IsOfEach};
 ghost use Rattle.crossbeam_queue.specs.Passes.{view};
 ghost use Rattle.gp_inbox.specs.Passes.{IsOf};
 
-use crate::crew::{Job, SharingJob};
+use crate::crew::{Hired, Job, SharingJob};
 use gp_clause::Problem;
 use gp_inbox::{Inbox, Pass};
 use gp_tickets::Tickets;
@@ -13,8 +13,28 @@ use std::alloc::{AllocError, Global};
 use std::collections::VecDeque;
 use std::sync::Wait;
 
+// So many workers that share, with an inbox of each and so many tickets.
+pub(crate) fn hire(
+    alloc: Global,
+    problem: &Problem,
+    count: u64,
+    workers: u32,
+) -> Result<Hired, AllocError>
+    requires count { count ≤ 1000000 }
+    requires workers { (2 ≤ workers) × (workers ≤ 16) }
+    ensures { IfOk result (AreHired problem.now count workers) }
+{
+    let (inboxes, columns) = open_inboxes(alloc, problem, workers)?;
+    let (tickets, jobs) = hire_sharing(alloc, count, workers, columns)?;
+    Ok(Hired {
+        inboxes,
+        tickets,
+        jobs,
+    })
+}
+
 // An inbox for each of so many workers, and the passes of each worker.
-pub(crate) fn open_inboxes(
+fn open_inboxes(
     alloc: Global,
     problem: &Problem,
     workers: u32,
@@ -90,7 +110,7 @@ fn deal(columns: &mut VecDeque<Vec<Pass>>, mut row: Vec<Pass>) -> Result<(), All
 }
 
 // So many tickets, and a job for each worker with its passes.
-pub(crate) fn hire_sharing(
+fn hire_sharing(
     alloc: Global,
     count: u64,
     workers: u32,
@@ -102,8 +122,7 @@ pub(crate) fn hire_sharing(
     ensures count { IfOk result (λ hired. hired.0.count ≡ count) }
     ensures crew { IfOk result (λ hired. hired.0.crew ≡ workers) }
     ensures len { IfOk result (λ hired. length hired.1.items ≡ workers) }
-    ensures jobs { (problem : _) (inboxes : _) → AreColumns problem workers inboxes columns.items → length inboxes ≡ workers → IfOk result (λ hired.
-        (place : ℕ) (d : _) → place < length hired.1.items → IsSharingJob hired.0 problem inboxes place (slice_index_or hired.1.items place d)) }
+    ensures jobs { (problem : _) (inboxes : _) → AreColumns problem workers inboxes columns.items → length inboxes ≡ workers → IfOk result (λ hired. AreSharingJobs hired.0 problem inboxes hired.1.items) }
 {
     let (tickets, mut drawers) = Tickets::new(alloc, count, workers)?;
     let mut jobs = Vec::new(alloc);

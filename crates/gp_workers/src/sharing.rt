@@ -1,11 +1,9 @@
-ghost use Rattle.std.specs.Prelude.{◌≡◌, ◌-◌, ◌<◌, ◌≤◌, Some, IfOk, length, map, ℕ, List};
+ghost use Rattle.std.specs.Prelude.{◌≡◌, ◌-◌, ◌<◌, ◌≤◌, Some, IfOk, length, map};
 ghost use Rattle.gp_workers.specs.Crew.{IsDone};
 ghost use Rattle.gp_workers.specs.Desk.{IsDesk, offers_of, told_by};
 ghost use Rattle.gp_workers.specs.Mail.{SharesSoFar};
 ghost use Rattle.gp_workers.specs.SharedCrew.{IsShared, IsSharingJob, SameButOffers, AreHandedBack};
 ghost use Rattle.gp_workers.specs.Work.{CanBeAsked, IsWork};
-ghost use Rattle.gp_clause.specs.declared.problem.Problem.{Problem};
-ghost use Rattle.gp_clause.specs.declared.problem.Query.{Query};
 ghost use Rattle.gp_workers.specs.Sharing.{AllShared};
 
 use crate::crew::{Shared, SharingJob, Worked, Workload, gather};
@@ -18,7 +16,6 @@ use gp_base::Row;
 use gp_derivation::{Offered, WorkerRecord};
 use gp_inbox::{Inbox, Pass};
 use gp_outside::Gate;
-use gp_tickets::Tickets;
 use std::alloc::{AllocError, Global};
 use std::collections::VecDeque;
 use std::marker::Brand;
@@ -108,23 +105,24 @@ fn offers_of(alloc: Global, outgoing: Vec<Outgoing>) -> Result<Vec<Offered>, All
 }
 
 // What the workers handed back, put together: the passes of each inbox are joined, and what is left is taken.
-pub(crate) fn finish<R: Wait>(
+pub(crate) fn finish<R: Wait, G: Gate>(
     rt: &R,
     alloc: Global,
-    tickets: &Tickets,
+    load: &Workload<'_, G>,
     inboxes: &[Inbox],
     crew: VecDeque<Shared>,
 ) -> Result<WindowWork, AllocError>
     requires some { (1 ≤ length crew.items) × (length crew.items ≡ length inboxes.now) }
-    requires crew { tickets.now.crew ≡ length crew.items }
-    requires back { (problem : Problem) × (queries : List Query) × (budget : ℕ) × AreHandedBack tickets.now problem queries budget inboxes.now 0 crew.items }
-    ensures work { (problem : Problem) (queries : List Query) (budget : ℕ) → AreHandedBack tickets.now problem queries budget inboxes.now 0 crew.items → tickets.now.count ≡ length queries → IfOk result (IsWork problem queries tickets.now.crew budget) }
-    ensures shared { (problem : Problem) (queries : List Query) (budget : ℕ) → AreHandedBack tickets.now problem queries budget inboxes.now 0 crew.items → IfOk result (AllShared problem (length inboxes.now)) }
+    requires crew { load.now.tickets.now.crew ≡ length inboxes.now }
+    requires count { load.now.tickets.now.count ≡ length load.now.queries.now }
+    requires back { AreHandedBack load.now.tickets.now load.now.problem.now load.now.queries.now load.now.budget inboxes.now 0 crew.items }
+    ensures work { IfOk result (IsWork load.now.problem.now load.now.queries.now (length inboxes.now) load.now.budget) }
+    ensures shared { IfOk result (AllShared load.now.problem.now (length inboxes.now)) }
 {
     let (crew, rows) = parted(alloc, crew)?;
     let mut passes = join_all(inboxes, rows);
     drain_all(rt, inboxes, &mut passes);
-    gather(alloc, tickets, crew)?.into_work(alloc, passes)
+    gather(alloc, load.tickets, crew)?.into_work(alloc, passes)
 }
 
 // The work of each worker, and its passes.

@@ -1,11 +1,10 @@
-ghost use Rattle.std.specs.Prelude.{◌≡◌, ◌≤◌, ◌<◌, ◌+◌, ◌-◌, ℕ, IfOk, Ok, length, map, slice_index_or, All};
-ghost use Rattle.gp_workers.specs.SharedCrew.{IsHandedBack, IsSharingJob};
+ghost use Rattle.std.specs.Prelude.{◌≡◌, ◌≤◌, ◌<◌, ◌-◌, ℕ, IfOk, Ok, length, map, slice_index_or};
+ghost use Rattle.gp_workers.specs.SharedCrew.{AreHandedBack, AreSharingJobs, IsHandedBack, IsSharingJob};
 ghost use Rattle.gp_workers.specs.Sharing.{AllShared, WorksAlone};
 ghost use Rattle.gp_workers.specs.Work.{CanBeAsked, IsWork};
-ghost use Rattle.gp_workers.specs.Crew.{AreDone, IsJob, SharesNone};
 
-use crate::crew::{Gathered, Job, Shared, SharingJob, Worked, Workload, gather, hire};
-use crate::inboxes::{hire_sharing, open_inboxes};
+use crate::crew::{Gathered, Hired, Job, Shared, SharingJob, Workload};
+use crate::inboxes::hire;
 use crate::sharing::{finish, work_beside};
 use crate::work::WindowWork;
 use crate::worker::work;
@@ -44,7 +43,7 @@ pub fn work_all<R: Threads + Wait + Sync, G: Gate + Sync>(
     work_together(rt, alloc, problem, queries, workers, budget, gate)
 }
 
-// Two workers or more.
+// Two workers or more, side by side.
 fn work_together<R: Threads + Wait + Sync, G: Gate + Sync>(
     rt: &R,
     alloc: Global,
@@ -59,9 +58,12 @@ fn work_together<R: Threads + Wait + Sync, G: Gate + Sync>(
     ensures work { IfOk result (IsWork problem.now queries.now workers budget) }
     ensures shared { IfOk result (AllShared problem.now workers) }
 {
-    let (inboxes, columns) = open_inboxes(alloc, problem, workers)?;
+    let Hired {
+        inboxes,
+        tickets,
+        jobs,
+    } = hire(alloc, problem, queries.len() as u64, workers)?;
     let inboxes = inboxes.as_slice();
-    let (tickets, jobs) = hire_sharing(alloc, queries.len() as u64, workers, columns)?;
     let load = Workload {
         tickets: &tickets,
         problem,
@@ -69,11 +71,30 @@ fn work_together<R: Threads + Wait + Sync, G: Gate + Sync>(
         budget,
         gate,
     };
-    let handed = run_all(rt, alloc, &load, inboxes, jobs)?;
-    let crew = in_order(alloc, handed)?;
-    finish(rt, alloc, &tickets, inboxes, crew)
+    let crew = run_side_by_side(rt, alloc, &load, inboxes, jobs)?;
+    finish(rt, alloc, &load, inboxes, crew)
 }
 
+// What each worker hands back, by number, where they work side by side.
+fn run_side_by_side<R: Threads + Wait + Sync, G: Gate + Sync>(
+    rt: &R,
+    alloc: Global,
+    load: &Workload<'_, G>,
+    inboxes: &[Inbox],
+    jobs: Vec<SharingJob>,
+) -> Result<VecDeque<Shared>, AllocError>
+    requires asked { CanBeAsked load.now.problem.now load.now.queries.now load.now.budget }
+    requires count { load.now.tickets.now.count ≡ length load.now.queries.now }
+    requires few { (length inboxes.now ≤ 16) × (length jobs.items ≡ length inboxes.now) }
+    requires jobs { AreSharingJobs load.now.tickets.now load.now.problem.now inboxes.now jobs.items }
+    ensures len { IfOk result (λ crew. length crew.items ≡ length inboxes.now) }
+    ensures back { IfOk result (λ crew. AreHandedBack load.now.tickets.now load.now.problem.now load.now.queries.now load.now.budget inboxes.now 0 crew.items) }
+{
+    let handed = run_all(rt, alloc, load, inboxes, jobs)?;
+    in_order(alloc, handed)
+}
+
+// What each job gives, by its place.
 fn run_all<R: Threads + Wait + Sync, G: Gate + Sync>(
     rt: &R,
     alloc: Global,
@@ -84,7 +105,7 @@ fn run_all<R: Threads + Wait + Sync, G: Gate + Sync>(
     requires asked { CanBeAsked load.now.problem.now load.now.queries.now load.now.budget }
     requires count { load.now.tickets.now.count ≡ length load.now.queries.now }
     requires few { (length inboxes.now ≤ 16) × (length jobs.items ≡ length inboxes.now) }
-    requires jobs { (place : ℕ) (d : _) → place < length jobs.items → IsSharingJob load.now.tickets.now load.now.problem.now inboxes.now place (slice_index_or jobs.items place d) }
+    requires jobs { AreSharingJobs load.now.tickets.now load.now.problem.now inboxes.now jobs.items }
     ensures len { IfOk result (λ handed. length handed.items ≡ length jobs.items) }
     ensures done { IfOk result (λ handed. (place : ℕ) (d : _) → place < length handed.items → IfOk (slice_index_or handed.items place d) (IsHandedBack load.now.tickets.now load.now.problem.now load.now.queries.now load.now.budget inboxes.now place)) }
 {
@@ -113,9 +134,10 @@ fn in_order(
 }
 
 /// Answers the queries by so many workers, numbered from 1, one after another in the calling thread, for windows of few
-/// queries that are worked on side by side. Each draws tickets until none is left, and passes the gate after each. So the
-/// first answers all queries, and the others make no search.
-pub fn work_in_turn<G: Gate>(
+/// queries that are worked on side by side. Each draws tickets until none is left, passes the gate after each, and passes to
+/// the others what it learns and is fit to share. So the first answers all queries, and the others make no search.
+pub fn work_in_turn<R: Wait, G: Gate>(
+    rt: &R,
     alloc: Global,
     problem: &Problem,
     queries: &[Query],
@@ -126,9 +148,36 @@ pub fn work_in_turn<G: Gate>(
     requires workers { (1 ≤ workers) × (workers ≤ 16) }
     requires asked { CanBeAsked problem.now queries.now budget }
     ensures work { IfOk result (IsWork problem.now queries.now workers budget) }
-    ensures alone { IfOk result WorksAlone }
+    ensures alone { workers ≡ 1 → IfOk result WorksAlone }
+    ensures shared { 2 ≤ workers → IfOk result (AllShared problem.now workers) }
 {
-    let (tickets, jobs) = hire(alloc, queries.len() as u64, workers)?;
+    if workers == 1 {
+        return work_one(alloc, problem, queries, budget, gate);
+    }
+    work_one_by_one(rt, alloc, problem, queries, workers, budget, gate)
+}
+
+// Two workers or more, one after another.
+fn work_one_by_one<R: Wait, G: Gate>(
+    rt: &R,
+    alloc: Global,
+    problem: &Problem,
+    queries: &[Query],
+    workers: u32,
+    budget: u64,
+    gate: &G,
+) -> Result<WindowWork, AllocError>
+    requires workers { (2 ≤ workers) × (workers ≤ 16) }
+    requires asked { CanBeAsked problem.now queries.now budget }
+    ensures work { IfOk result (IsWork problem.now queries.now workers budget) }
+    ensures shared { IfOk result (AllShared problem.now workers) }
+{
+    let Hired {
+        inboxes,
+        tickets,
+        jobs,
+    } = hire(alloc, problem, queries.len() as u64, workers)?;
+    let inboxes = inboxes.as_slice();
     let load = Workload {
         tickets: &tickets,
         problem,
@@ -136,28 +185,29 @@ pub fn work_in_turn<G: Gate>(
         budget,
         gate,
     };
-    let crew = run_in_turn(alloc, &load, jobs)?;
-    gather(alloc, &tickets, crew)?.into_work(alloc, Vec::new(alloc))
+    let crew = run_in_turn(rt, alloc, &load, inboxes, jobs)?;
+    finish(rt, alloc, &load, inboxes, crew)
 }
 
 // What each worker hands back, by number, where one works after another.
-fn run_in_turn<G: Gate>(
+fn run_in_turn<R: Wait, G: Gate>(
+    rt: &R,
     alloc: Global,
     load: &Workload<'_, G>,
-    jobs: Vec<Job>,
-) -> Result<VecDeque<Worked>, AllocError>
+    inboxes: &[Inbox],
+    jobs: Vec<SharingJob>,
+) -> Result<VecDeque<Shared>, AllocError>
     requires asked { CanBeAsked load.now.problem.now load.now.queries.now load.now.budget }
     requires count { load.now.tickets.now.count ≡ length load.now.queries.now }
-    requires jobs { (i : ℕ) (d : _) → i < length jobs.items → IsJob load.now.tickets.now (i + 1) (slice_index_or jobs.items i d) }
-    ensures len { IfOk result (λ crew. length crew.items ≡ length jobs.items) }
-    ensures alone { IfOk result (λ crew. All SharesNone crew.items) }
-    ensures done { IfOk result (λ crew. AreDone load.now.tickets.now load.now.problem.now load.now.queries.now load.now.budget 1 crew.items) }
+    requires few { (length inboxes.now ≤ 16) × (length jobs.items ≡ length inboxes.now) }
+    requires jobs { AreSharingJobs load.now.tickets.now load.now.problem.now inboxes.now jobs.items }
+    ensures len { IfOk result (λ crew. length crew.items ≡ length inboxes.now) }
+    ensures back { IfOk result (λ crew. AreHandedBack load.now.tickets.now load.now.problem.now load.now.queries.now load.now.budget inboxes.now 0 crew.items) }
 {
     let mut crew = VecDeque::new(alloc);
-    for job in jobs {
-        let mut mail = NoMail::new(load.problem);
-        let worked = work(alloc, load, job, &mut mail)?;
-        crew.push_back(worked)?;
+    for sharing in jobs {
+        let shared = work_beside(rt, alloc, load, inboxes, sharing)?;
+        crew.push_back(shared)?;
     }
     Ok(crew)
 }

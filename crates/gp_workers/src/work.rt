@@ -26,8 +26,8 @@ pub struct WindowWork {
     pub passes: Row<Pass>,
 }
 
-/// A law: among workers that shared all, what one of them took from another is a prefix of what the other's record marks
-/// as pushed to it.
+/// A law: the records of workers that shared all offer all that is fit to share, and what one of them took from another is a
+/// prefix of what the other's record marks as pushed to it.
 pub fn takes_prefixes()
     ensures { TakesPrefixes }
 {}

@@ -1,5 +1,6 @@
 -- The parts of what the workers handed back are put together again.
-use Rattle.std.proofs.Common.{◌≡◌, ◌∙◌, sym, ap, subst, List, length, map, All}
+use Rattle.std.proofs.Common.{◌≡◌, ◌∙◌, sym, ap, subst, ℕ, List, length, map, All}
+use Rattle.std.specs.Prelude.{IfOk}
 use Rattle.std.specs.Global.{Vec}
 use Rattle.std.proofs.lemmas.List.{length-map}
 use Rattle.crossbeam_queue.specs.Passes.{Pass}
@@ -12,44 +13,51 @@ use Rattle.gp_workers.specs.Crew.{AreDone}
 use Rattle.gp_tickets.specs.Drawn.{HasDrawn}
 use Rattle.gp_workers.specs.Inboxes.{AreJoined, AreRows}
 use Rattle.gp_workers.specs.Sharing.{AllShared}
-use Rattle.gp_workers.proofs.SharedWork.{all_shared, all_take, are_done, are_rows, both_ok}
+use Rattle.gp_workers.specs.Work.{IsWork}
+use Rattle.gp_workers.proofs.SharedWork.{all_shared, all_take, are_done, are_rows}
+use Rattle.gp_workers.proofs.CrewAlone.{both_if_ok}
 use Rattle.gp_workers.proofs.CrewJobs.{all_drawn}
 use Rattle.gp_workers.proofs.sharing.finish.Goals as goal
 
 pub join_all-passes-requires-clause-rows : goal.join_all-passes-requires-clause-rows
 join_all-passes-requires-clause-rows g c =
-    let back = c.requires.back in
-    subst (AreRows c.args.inboxes.now) (sym c.in_ok-crew.ensures.passes) (are_rows c.args.tickets.now back.0 back.1 back.2 c.args.inboxes.now 0 c.args.crew.items back.3)
+    let load = c.args.load.now in
+    subst (AreRows c.args.inboxes.now) (sym c.in_ok-crew.ensures.passes) (are_rows load.tickets.now load.problem.now load.queries.now load.budget c.args.inboxes.now 0 c.args.crew.items c.requires.back)
 
 pub drain_all-requires-clause-takers : goal.drain_all-requires-clause-takers
 drain_all-requires-clause-takers g c =
-    let back = c.requires.back in
-    all_take c.args.tickets.now back.0 back.1 back.2 c.args.inboxes.now c.args.crew.items back.3 c.requires.some.1 c.join_all-passes.result.items
+    let load = c.args.load.now in
+    all_take load.tickets.now load.problem.now load.queries.now load.budget c.args.inboxes.now c.args.crew.items c.requires.back c.requires.some.1 c.join_all-passes.result.items
     (subst (λ (rows : List (Vec (Pass SharedClause View))). AreJoined c.args.inboxes.now rows c.join_all-passes.result.items) c.in_ok-crew.ensures.passes c.join_all-passes.ensures)
 
 pub gather-requires-clause-drawn : goal.gather-requires-clause-drawn
 gather-requires-clause-drawn g c =
-    let back = c.requires.back in
-    subst (All (λ (worked : Worked). HasDrawn c.args.tickets.now worked.drawn)) (sym c.in_ok-crew.ensures.worked)
-    (all_drawn c.args.tickets.now back.0 back.1 back.2 1 (map (λ (shared : Shared). shared.worked) c.args.crew.items) (are_done c.args.tickets.now back.0 back.1 back.2 c.args.inboxes.now 0 c.args.crew.items back.3))
+    let load = c.args.load.now in
+    subst (All (λ (worked : Worked). HasDrawn load.tickets.now worked.drawn)) (sym c.in_ok-crew.ensures.worked)
+    (all_drawn load.tickets.now load.problem.now load.queries.now load.budget 1 (map (λ (shared : Shared). shared.worked) c.args.crew.items)
+    (are_done load.tickets.now load.problem.now load.queries.now load.budget c.args.inboxes.now 0 c.args.crew.items c.requires.back))
 
 pub returns-clause-work : goal.returns-clause-work
-returns-clause-work g c problem queries budget back count =
-    let done : AreDone c.args.tickets.now problem queries budget 1 c.in_ok-crew.crew.items =
-    subst (AreDone c.args.tickets.now problem queries budget 1) (sym c.in_ok-crew.ensures.worked) (are_done c.args.tickets.now problem queries budget c.args.inboxes.now 0 c.args.crew.items back) in
-    let all : length c.in_ok-gather.field-0.records.items ≡ c.args.tickets.now.crew =
+returns-clause-work g c =
+    let load = c.args.load.now in
+    let done : AreDone load.tickets.now load.problem.now load.queries.now load.budget 1 c.in_ok-crew.crew.items =
+    subst (AreDone load.tickets.now load.problem.now load.queries.now load.budget 1) (sym c.in_ok-crew.ensures.worked) (are_done load.tickets.now load.problem.now load.queries.now load.budget c.args.inboxes.now 0 c.args.crew.items c.requires.back) in
+    let all : length c.in_ok-gather.field-0.records.items ≡ load.tickets.now.crew =
     c.in_ok-gather.ensures.len
     ∙ ap (λ (ws : List Worked). length ws) c.in_ok-crew.ensures.worked
     ∙ length-map c.args.crew.items (λ (shared : Shared). shared.worked)
+    ∙ c.requires.some.1
     ∙ sym c.requires.crew in
-    c.into_work.ensures.work c.args.tickets.now problem queries budget (c.in_ok-gather.ensures.gathered problem queries budget done) all count
+    subst (λ (n : ℕ). IfOk c.into_work.result (IsWork load.problem.now load.queries.now n load.budget)) c.requires.crew
+    (c.into_work.ensures.work load.tickets.now load.problem.now load.queries.now load.budget (c.in_ok-gather.ensures.gathered load.problem.now load.queries.now load.budget done) all c.requires.count)
 
 pub returns-clause-shared : goal.returns-clause-shared
-returns-clause-shared g c problem queries budget back =
+returns-clause-shared g c =
+    let load = c.args.load.now in
     let joined = subst (λ (rows : List (Vec (Pass SharedClause View))). AreJoined c.args.inboxes.now rows c.join_all-passes.result.items) c.in_ok-crew.ensures.passes c.join_all-passes.ensures in
     let records = c.in_ok-gather.ensures.records ∙ ap (λ (ws : List Worked). map (λ (worked : Worked). worked.record) ws) c.in_ok-crew.ensures.worked in
-    both_ok c.into_work.result (λ (work : WindowWork). work.records ≡ c.in_ok-gather.field-0.records.items) (λ (work : WindowWork). work.passes ≡ c.drain_all.new.passes.items) (AllShared problem (length c.args.inboxes.now))
-    c.into_work.ensures.records c.into_work.ensures.passes
+    both_if_ok (λ (work : WindowWork). work.records ≡ c.in_ok-gather.field-0.records.items) (λ (work : WindowWork). work.passes ≡ c.drain_all.new.passes.items) (AllShared load.problem.now (length c.args.inboxes.now)) c.into_work.result
     (λ work records_are passes_are.
-    all_shared c.args.tickets.now problem queries budget c.args.inboxes.now c.args.crew.items back c.requires.some.1 c.join_all-passes.result.items joined
+    all_shared load.tickets.now load.problem.now load.queries.now load.budget c.args.inboxes.now c.args.crew.items c.requires.back c.requires.some.1 c.join_all-passes.result.items joined
     c.drain_all.new.passes.items work c.drain_all.ensures.own c.drain_all.ensures.each (records_are ∙ records) passes_are)
+    c.into_work.ensures.records c.into_work.ensures.passes

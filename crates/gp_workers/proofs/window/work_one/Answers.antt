@@ -1,9 +1,7 @@
 -- What the one worker handed back is the work.
 use Rattle.std.proofs.Common.{◌≡◌, ◌∙◌, sym, subst, [], ◌∷◌}
 use Rattle.std.specs.Prelude.{IfOk}
-use Rattle.std.proofs.lemmas.List.Elements.{All-cons, All-nil}
 use Rattle.gp_workers.specs.declared.work.WindowWork.{WindowWork}
-use Rattle.gp_workers.specs.Crew.{SharesNone}
 use Rattle.gp_workers.specs.Work.{IsWork}
 use Rattle.gp_workers.proofs.CrewAlone.{nothing_shared, same_if_ok}
 use Rattle.gp_workers.proofs.window.work_one.Goals as goal
@@ -19,7 +17,7 @@ returns-clause-work g c =
 
 pub returns-clause-alone : goal.returns-clause-alone
 returns-clause-alone g c =
-    let worked = c.in_ok-worked.worked in
-    nothing_shared (worked ∷ []) c.into_work.result (All-cons SharesNone worked [] (c.in_ok-worked.ensures.none_offered, c.in_ok-worked.ensures.shares) (All-nil SharesNone))
-    (same_if_ok (λ (work : WindowWork). work.records ≡ c.in_ok-of.field-0.records.items) (λ work. work.records ≡ worked.record ∷ []) c.into_work.result (λ work is. is ∙ c.in_ok-of.ensures.records) c.into_work.ensures.records)
+    let own = c.in_ok-worked.worked.record in
+    nothing_shared own c.into_work.result c.in_ok-worked.ensures.none_offered c.in_ok-worked.ensures.shares
+    (same_if_ok (λ (work : WindowWork). work.records ≡ c.in_ok-of.field-0.records.items) (λ work. work.records ≡ own ∷ []) c.into_work.result (λ work is. is ∙ c.in_ok-of.ensures.records) c.into_work.ensures.records)
     (same_if_ok (λ (work : WindowWork). work.passes ≡ c.new-2.result.items) (λ work. work.passes ≡ []) c.into_work.result (λ work is. is ∙ c.new-2.ensures.items) c.into_work.ensures.passes)

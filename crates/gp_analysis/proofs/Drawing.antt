@@ -5,7 +5,7 @@ use Rattle.std.proofs.lemmas.List.{map-append}
 use Rattle.std.proofs.lemmas.List.Elements.{All-append, All-head, All-push, All-tail, All-weaker}
 use Rattle.std.proofs.lemmas.List.Sorted.{All-permutation}
 use Rattle.gp_property.specs.PropertyForm.{PropertyForm}
-use Rattle.gp_report.specs.declared.record.WindowRecord.{WindowRecord}
+use Rattle.gp_report.specs.Records.{WindowRecord}
 use Rattle.gp_tickets.specs.declared.drawn.Drawn.{Drawn}
 use Rattle.gp_tickets.specs.declared.drawn.Made.{Made}
 use Rattle.gp_tickets.specs.declared.tickets.Tickets.{Tickets}

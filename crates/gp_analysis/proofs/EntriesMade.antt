@@ -2,7 +2,7 @@
 use Rattle.std.proofs.Common.{refl, subst, List, [], ◌++◌, append-nil}
 use Rattle.gp_instance.specs.declared.instance.Instance.{Instance}
 use Rattle.gp_property.specs.PropertyForm.{PropertyForm}
-use Rattle.gp_report.specs.declared.record.Entry.{Entry}
+use Rattle.gp_report.specs.Records.{Entry}
 use Rattle.gp_window.specs.WindowForm.{WindowForm}
 use Rattle.gp_workers.specs.declared.work.WorkAnswer.{WorkAnswer}
 use Rattle.gp_analysis.specs.EntryRecords.{CanRecordEach, RecordsEach}

@@ -15,11 +15,9 @@ use Rattle.gp_instance.specs.declared.instance.InstancesFault.{InstancesFault}
 use Rattle.gp_instance.specs.declared.instance.InstancesFault.TheVariants.{Memory, TooMany}
 use Rattle.gp_instance.specs.ListedLaws.{AreListed, IsListed}
 use Rattle.gp_property.specs.PropertyForm.{PropertyForm}
-use Rattle.gp_report.specs.declared.record.Answer.{Answer}
-use Rattle.gp_report.specs.declared.record.Answer.TheVariants.{Found, Impossible, Undecided}
-use Rattle.gp_report.specs.declared.record.Entry.{Entry}
-use Rattle.gp_report.specs.declared.record.PropertyBody.{PropertyBody}
-use Rattle.gp_report.specs.declared.record.PropertyBody.TheVariants as body
+use Rattle.gp_report.specs.Records.{Answer, Entry, PropertyBody}
+use Rattle.gp_report.specs.declared.record.AnswerOf.TheVariants.{Found, Impossible, Undecided}
+use Rattle.gp_report.specs.declared.record.PropertyBodyOf.TheVariants as body
 use Rattle.gp_window.specs.declared.schedule.EventId.{EventId}
 use Rattle.gp_window.specs.WindowForm.{IsWindow, WindowForm}
 use Rattle.gp_workers.specs.declared.work.WorkAnswer.{WorkAnswer}

@@ -11,9 +11,8 @@ use Rattle.gp_instance.specs.Instances.{due_instances}
 use Rattle.gp_instance.specs.ListedLaws.{are_listed}
 use Rattle.gp_property.specs.Property.{IsProperty}
 use Rattle.gp_property.specs.PropertyForm.{PropertyForm}
-use Rattle.gp_report.specs.declared.record.PropertyRecord.{PropertyRecord}
-use Rattle.gp_report.specs.declared.record.WindowBody.TheVariants as told
-use Rattle.gp_report.specs.declared.record.WindowRecord.{WindowRecord}
+use Rattle.gp_report.specs.Records.{PropertyRecord, WindowRecord}
+use Rattle.gp_report.specs.declared.record.WindowBodyOf.TheVariants as told
 use Rattle.gp_report.specs.Report.{IsPrintableStep, IsWindowRecord}
 use Rattle.gp_window.specs.WindowForm.{WindowForm}
 use Rattle.gp_workers.specs.declared.work.WindowWork.{WindowWork}

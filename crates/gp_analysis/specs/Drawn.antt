@@ -1,7 +1,7 @@
 -- What is recorded of windows that are drawn by ticket.
 use Rattle.std.specs.Prelude.{ℕ, ◌≡◌, ◌+◌, List, All}
 use Rattle.gp_property.specs.PropertyForm.{PropertyForm}
-use Rattle.gp_report.specs.declared.record.WindowRecord.{WindowRecord}
+use Rattle.gp_report.specs.Records.{WindowRecord}
 use Rattle.gp_tickets.specs.declared.drawn.Drawn.{Drawn}
 use Rattle.gp_tickets.specs.declared.drawn.Made.{Made}
 use Rattle.gp_tickets.specs.declared.tickets.Tickets.{Tickets}

@@ -9,12 +9,9 @@ use Rattle.gp_instance.specs.declared.instance.Instance.{Instance}
 use Rattle.gp_instance.specs.declared.instance.InstancesFault.{InstancesFault}
 use Rattle.gp_instance.specs.Instances.{due_instances}
 use Rattle.gp_property.specs.PropertyForm.{PropertyForm}
-use Rattle.gp_report.specs.declared.record.PropertyBody.{PropertyBody}
-use Rattle.gp_report.specs.declared.record.PropertyBody.TheVariants as body
-use Rattle.gp_report.specs.declared.record.PropertyRecord.{PropertyRecord}
-use Rattle.gp_report.specs.declared.record.WindowBody.{WindowBody}
-use Rattle.gp_report.specs.declared.record.WindowBody.TheVariants as told
-use Rattle.gp_report.specs.declared.record.WindowRecord.{WindowRecord}
+use Rattle.gp_report.specs.Records.{PropertyBody, PropertyRecord, WindowBody, WindowRecord}
+use Rattle.gp_report.specs.declared.record.PropertyBodyOf.TheVariants as body
+use Rattle.gp_report.specs.declared.record.WindowBodyOf.TheVariants as told
 use Rattle.gp_window.specs.WindowForm.{WindowForm}
 use Rattle.gp_checker.specs.declared.failure.Failure.{Failure}
 use Rattle.gp_checker.specs.declared.failure.Reason.{Reason}

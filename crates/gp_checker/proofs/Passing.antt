@@ -4,7 +4,7 @@ use Rattle.std.specs.List.{AllZip, enumerate_from, slice_get}
 use Rattle.std.proofs.lemmas.List.FromFn.{length-enumerate_from}
 use Rattle.gp_certificate.specs.declared.step.Step.{Step}
 use Rattle.gp_property.specs.PropertyForm.{PropertyForm}
-use Rattle.gp_report.specs.declared.record.PropertyRecord.{PropertyRecord}
+use Rattle.gp_report.specs.Records.{PropertyRecord}
 use Rattle.gp_window.specs.WindowForm.{WindowForm}
 use Rattle.gp_checker.specs.declared.failure.Failure.{Failure}
 use Rattle.gp_checker.specs.declared.failure.Reason.TheVariants.{WrongProperty}

@@ -5,11 +5,8 @@ use Rattle.gp_instance.specs.Matches.{matches_events}
 use Rattle.gp_property.specs.Property.{IsProperty}
 use Rattle.gp_property.specs.PropertyForm.{PropertyForm}
 use Rattle.gp_replay.specs.Feasible.{IsFeasible}
-use Rattle.gp_report.specs.declared.record.Answer.{Answer}
-use Rattle.gp_report.specs.declared.record.Answer.TheVariants.{Found, Impossible, Undecided}
-use Rattle.gp_report.specs.declared.record.Entry.{Entry}
-use Rattle.gp_report.specs.declared.record.PropertyRecord.{PropertyRecord}
-use Rattle.gp_report.specs.declared.record.WindowRecord.{WindowRecord}
+use Rattle.gp_report.specs.Records.{Answer, Entry, PropertyRecord, WindowRecord}
+use Rattle.gp_report.specs.declared.record.AnswerOf.TheVariants.{Found, Impossible, Undecided}
 use Rattle.gp_report.specs.Entries.{entries_in, properties_in}
 use Rattle.gp_report.specs.ReportForm.{ReportForm}
 use Rattle.gp_window.specs.declared.schedule.EventId.{EventId}

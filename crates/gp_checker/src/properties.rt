@@ -3,6 +3,7 @@ ghost use Rattle.std.specs.List.{AllZip, enumerate_from};
 ghost use Rattle.gp_constraint.specs.Base.{base_of};
 ghost use Rattle.gp_instance.specs.Instances.{due_instances};
 ghost use Rattle.gp_instance.specs.ListedLaws.{AreInstances};
+ghost use Rattle.gp_report.specs.declared.record.PropertyBodyOf.TheVariants.{Entries, TooMany};
 ghost use Rattle.gp_checker.specs.Accepted.{AcceptsListed, AcceptsProperty};
 ghost use Rattle.gp_certificate.specs.Shared.{SharedPasses};
 ghost use Rattle.gp_checker.specs.First.{FailsFirst};
@@ -111,7 +112,7 @@ fn check_body(
 
 // How what is told fails where there are too many instances.
 fn check_too_many(body: &PropertyBody) -> Option<Failure>
-    ensures { MatchOption result (body.now ≡ PropertyBody.TooMany) (λ failure. IsOfProperty Reason.WrongProperty failure × (body.now ≢ PropertyBody.TooMany)) }
+    ensures { MatchOption result (body.now ≡ TooMany) (λ failure. IsOfProperty Reason.WrongProperty failure × (body.now ≢ TooMany)) }
 {
     match body {
         PropertyBody::TooMany => None,
@@ -156,7 +157,7 @@ fn check_counted(
     requires judge { judge.old ≡ base_of basis.now.encoded.now }
     requires instances { AreInstances basis.now.encoded.now property.now instances.now }
     requires few { length instances.now ≤ 10000 }
-    ensures found { IfOk result (λ found. MatchOption found (AcceptsListed basis.now.encoded.now basis.now.budget basis.now.shared.now property.now (Ok instances.now) (PropertyBody.Entries entries.now)) (λ failure. FailsListed basis.now.encoded.now basis.now.budget basis.now.shared.now property.now failure (Ok instances.now) (PropertyBody.Entries entries.now))) }
+    ensures found { IfOk result (λ found. MatchOption found (AcceptsListed basis.now.encoded.now basis.now.budget basis.now.shared.now property.now (Ok instances.now) (Entries entries.now)) (λ failure. FailsListed basis.now.encoded.now basis.now.budget basis.now.shared.now property.now failure (Ok instances.now) (Entries entries.now))) }
     ensures same { judge.new ≡ judge.old }
 {
     if entries.len() != instances.len() {

@@ -1,5 +1,6 @@
 ghost use Rattle.std.specs.Prelude.{◌≡◌, ◌≤◌, ◌↔◌, IsTrue, IfOk, MatchOption, length, Ok};
 ghost use Rattle.gp_constraint.specs.Base.{base_of};
+ghost use Rattle.gp_report.specs.declared.record.WindowBodyOf.TheVariants.{Answers};
 ghost use Rattle.gp_checker.specs.Accepted.{AcceptsBody, AcceptsWindow, HasSize};
 ghost use Rattle.gp_checker.specs.Reasons.{IsOfWindow};
 ghost use Rattle.gp_checker.specs.Rejected.{FailsBody, FailsWindow};
@@ -89,7 +90,7 @@ fn check_records(
     records: &[PropertyRecord],
 ) -> Result<Option<Failure>, AllocError>
     requires { length properties.now ≤ 64 }
-    ensures { IfOk result (λ found. MatchOption found (AcceptsBody basis.now.encoded.now basis.now.budget properties.now basis.now.shared.now (Ok basis.now.encoded.now) (WindowBody.Answers records.now)) (λ failure. FailsBody basis.now.encoded.now basis.now.budget properties.now basis.now.shared.now failure (Ok basis.now.encoded.now) (WindowBody.Answers records.now))) }
+    ensures { IfOk result (λ found. MatchOption found (AcceptsBody basis.now.encoded.now basis.now.budget properties.now basis.now.shared.now (Ok basis.now.encoded.now) (Answers records.now)) (λ failure. FailsBody basis.now.encoded.now basis.now.budget properties.now basis.now.shared.now failure (Ok basis.now.encoded.now) (Answers records.now))) }
 {
     laws();
     let mut judge = Judge::new(alloc, basis.encoded.problem())?;
@@ -106,7 +107,7 @@ fn judge_records(
 ) -> Result<Option<Failure>, AllocError>
     requires few { length properties.now ≤ 64 }
     requires judge { judge.old ≡ base_of basis.now.encoded.now }
-    ensures { IfOk result (λ found. MatchOption found (AcceptsBody basis.now.encoded.now basis.now.budget properties.now basis.now.shared.now (Ok basis.now.encoded.now) (WindowBody.Answers records.now)) (λ failure. FailsBody basis.now.encoded.now basis.now.budget properties.now basis.now.shared.now failure (Ok basis.now.encoded.now) (WindowBody.Answers records.now))) }
+    ensures { IfOk result (λ found. MatchOption found (AcceptsBody basis.now.encoded.now basis.now.budget properties.now basis.now.shared.now (Ok basis.now.encoded.now) (Answers records.now)) (λ failure. FailsBody basis.now.encoded.now basis.now.budget properties.now basis.now.shared.now failure (Ok basis.now.encoded.now) (Answers records.now))) }
 {
     let problem = basis.encoded.problem();
     if let Some(place) = judge.first_shared_to_fail(problem, basis.shared)? {

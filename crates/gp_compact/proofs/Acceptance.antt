@@ -10,10 +10,8 @@ use Rattle.gp_constraint.specs.Laws.{ProblemsAreValid}
 use Rattle.gp_certificate.specs.declared.step.Step.{Step}
 use Rattle.gp_certificate.specs.Shared.{SharedPasses}
 use Rattle.gp_property.specs.PropertyForm.{PropertyForm}
-use Rattle.gp_report.specs.declared.record.PropertyRecord.{PropertyRecord}
-use Rattle.gp_report.specs.declared.record.WindowBody.{WindowBody}
-use Rattle.gp_report.specs.declared.record.WindowBody.TheVariants.{TooLarge, Answers}
-use Rattle.gp_report.specs.declared.record.WindowRecord.{WindowRecord}
+use Rattle.gp_report.specs.Records.{PropertyRecord, WindowBody, WindowRecord}
+use Rattle.gp_report.specs.declared.record.WindowBodyOf.TheVariants.{TooLarge, Answers}
 use Rattle.gp_report.specs.Entries.{entries_among}
 use Rattle.gp_window.specs.WindowForm.{WindowForm}
 use Rattle.gp_window.specs.Windows.{all_windows}

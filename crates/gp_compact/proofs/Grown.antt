@@ -6,7 +6,7 @@ use Rattle.std.proofs.lemmas.List.{length-append, length-take}
 use Rattle.std.proofs.lemmas.List.Elements.{All-cons, All-nil, All-weaker}
 use Rattle.std.proofs.lemmas.List.Sums.{sum_by-cons}
 use Rattle.gp_certificate.specs.declared.step.Step.{Step}
-use Rattle.gp_report.specs.declared.record.Entry.{Entry}
+use Rattle.gp_report.specs.Records.{Entry}
 use Rattle.gp_compact.specs.declared.moving.Sizes.{Sizes}
 use Rattle.gp_compact.specs.Compact.{own_steps, steps_in, with_entries}
 use Rattle.gp_compact.specs.Moving.{are_movable, first_own, front_of, moved_step, moves, place_of, step_eq, with_certificate, with_moved, with_step, with_steps}

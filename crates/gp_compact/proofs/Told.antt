@@ -8,15 +8,10 @@ use Rattle.gp_constraint.specs.declared.fault.BaseFault.{BaseFault}
 use Rattle.gp_constraint.specs.Encoded.{base_due}
 use Rattle.gp_certificate.specs.declared.step.Step.{Step}
 use Rattle.gp_derivation.specs.Numbering.{with_hints}
-use Rattle.gp_report.specs.declared.record.Answer.{Answer}
-use Rattle.gp_report.specs.declared.record.Answer.TheVariants.{Found, Impossible, Undecided}
-use Rattle.gp_report.specs.declared.record.Entry.{Entry}
-use Rattle.gp_report.specs.declared.record.PropertyBody.{PropertyBody}
-use Rattle.gp_report.specs.declared.record.PropertyBody.TheVariants.{TooMany, Entries}
-use Rattle.gp_report.specs.declared.record.PropertyRecord.{PropertyRecord}
-use Rattle.gp_report.specs.declared.record.WindowBody.{WindowBody}
-use Rattle.gp_report.specs.declared.record.WindowBody.TheVariants.{TooLarge, Answers}
-use Rattle.gp_report.specs.declared.record.WindowRecord.{WindowRecord}
+use Rattle.gp_report.specs.Records.{Answer, Entry, PropertyBody, PropertyRecord, WindowBody, WindowRecord}
+use Rattle.gp_report.specs.declared.record.AnswerOf.TheVariants.{Found, Impossible, Undecided}
+use Rattle.gp_report.specs.declared.record.PropertyBodyOf.TheVariants.{TooMany, Entries}
+use Rattle.gp_report.specs.declared.record.WindowBodyOf.TheVariants.{TooLarge, Answers}
 use Rattle.gp_report.specs.Entries.{entries_among, entries_in}
 use Rattle.gp_report.specs.Report.{IsEntry, IsPropertyBody, IsPropertyRecord, IsReport, IsPrintableAnswer, IsPrintableStep, IsWindowBody, IsWindowRecord}
 use Rattle.gp_report.specs.ReportForm.{ReportForm}

@@ -1,6 +1,6 @@
 ghost use Rattle.std.specs.Prelude.{◌≡◌, ◌+◌, if◌then◌else◌, true, IfOk, None, Some, drop, length, min};
 ghost use Rattle.std.specs.List.{AllZip};
-ghost use Rattle.gp_report.specs.declared.record.WindowRecord.{WindowRecord};
+ghost use Rattle.gp_report.specs.Records.{WindowRecord};
 ghost use Rattle.gp_window.specs.Windows.{all_windows};
 ghost use Rattle.gp_compact.specs.Compact.{CompactKeepsAcceptance, IsCompacted, IsSameWindow, are_few, compacted_by, compacted_next, compacted_windows, compacted_window, entries_in_body, own_steps, sizes_of, steps_in};
 

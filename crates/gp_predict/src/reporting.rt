@@ -3,7 +3,7 @@ ghost use Rattle.std.specs.List.{list_any};
 ghost use Rattle.gp_outside.specs.Faults.{Rose};
 ghost use Rattle.gp_outside.specs.Sinks.{Appends, AppendsFront};
 ghost use Rattle.gp_report.specs.Entries.{entries_among, entries_of, is_found};
-ghost use Rattle.gp_report.specs.declared.record.Entry.{Entry};
+ghost use Rattle.gp_report.specs.Records.{Entry};
 ghost use Rattle.gp_predict.specs.Analysing.{report_status};
 ghost use Rattle.gp_predict.specs.Telling.{report_text};
 

@@ -10,9 +10,8 @@ use Rattle.gp_window.specs.declared.schedule.EventId.{EventId}
 use Rattle.gp_window.specs.EventIds.{EventIdsReadExactly, event_id_of, event_id_text}
 use Rattle.gp_report.specs.declared.fault.ReportFault.{ReportFault}
 use Rattle.gp_report.specs.declared.fault.ReportRule.TheVariants.{Form, Order}
-use Rattle.gp_report.specs.declared.record.Answer.{Answer}
-use Rattle.gp_report.specs.declared.record.Answer.TheVariants.{Found, Impossible, Undecided}
-use Rattle.gp_report.specs.declared.record.Entry.{Entry}
+use Rattle.gp_report.specs.Records.{Answer, Entry}
+use Rattle.gp_report.specs.declared.record.AnswerOf.TheVariants.{Found, Impossible, Undecided}
 use Rattle.gp_report.specs.Printed.{answer_lines, entries_lines, instance_words}
 use Rattle.gp_report.specs.Reading.{Reads, ◌>>=◌, answer_at, begins_with, is_undecided_with, kept_if, next_line, number_and_words, one_number, read_answer, read_entries, read_entry, read_found, read_impossible, read_instance, read_list, read_steps, read_undecided, read_words, three_numbers, told_by, with_front}
 use Rattle.gp_report.specs.Typed.{IsTypedId}

@@ -10,15 +10,10 @@ use Rattle.gp_text.specs.declared.line.Line.{Line}
 use Rattle.gp_text.specs.Numbers.{OneSpelling}
 use Rattle.gp_window.specs.EventIds.{EventIdsReadExactly}
 use Rattle.gp_window.specs.WindowForm.{numbers_from}
-use Rattle.gp_report.specs.declared.record.Answer.{Answer}
-use Rattle.gp_report.specs.declared.record.Answer.TheVariants.{Found, Impossible, Undecided}
-use Rattle.gp_report.specs.declared.record.Entry.{Entry}
-use Rattle.gp_report.specs.declared.record.PropertyBody.{PropertyBody}
-use Rattle.gp_report.specs.declared.record.PropertyBody.TheVariants.{TooMany, Entries}
-use Rattle.gp_report.specs.declared.record.PropertyRecord.{PropertyRecord}
-use Rattle.gp_report.specs.declared.record.WindowBody.{WindowBody}
-use Rattle.gp_report.specs.declared.record.WindowBody.TheVariants.{TooLarge, Answers}
-use Rattle.gp_report.specs.declared.record.WindowRecord.{WindowRecord}
+use Rattle.gp_report.specs.Records.{Answer, Entry, PropertyBody, PropertyRecord, WindowBody, WindowRecord}
+use Rattle.gp_report.specs.declared.record.AnswerOf.TheVariants.{Found, Impossible, Undecided}
+use Rattle.gp_report.specs.declared.record.PropertyBodyOf.TheVariants.{TooMany, Entries}
+use Rattle.gp_report.specs.declared.record.WindowBodyOf.TheVariants.{TooLarge, Answers}
 use Rattle.gp_report.specs.Entries.{entries_among, entries_in, entries_of, properties_in}
 use Rattle.gp_report.specs.Reading.{report_from}
 use Rattle.gp_report.specs.Report.{IsEntry, IsPropertyBody, IsPropertyRecord, IsReport, IsPrintableAnswer, IsPrintableStep, IsWindowBody, IsWindowRecord}

@@ -3,8 +3,7 @@ use Rattle.std.proofs.Common.{◌≡◌, refl, sym, ap, ◌∙◌, ℕ, zero, su
 use Rattle.gp_text.specs.declared.line.Line.{Line}
 use Rattle.gp_text.specs.Numbers.{OneSpelling}
 use Rattle.gp_window.specs.EventIds.{EventIdsReadExactly}
-use Rattle.gp_report.specs.declared.record.PropertyRecord.{PropertyRecord}
-use Rattle.gp_report.specs.declared.record.WindowRecord.{WindowRecord}
+use Rattle.gp_report.specs.Records.{PropertyRecord, WindowRecord}
 use Rattle.gp_report.specs.Entries.{entries_in}
 use Rattle.gp_report.specs.Printed.{count_word, entries_lines, window_body_lines}
 use Rattle.gp_report.specs.Reading.{Reads, ◌>>=◌, is_at, read_properties, read_property, read_window, read_windows, with_front}

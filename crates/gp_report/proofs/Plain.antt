@@ -7,15 +7,10 @@ use Rattle.gp_clause.specs.declared.lit.Lit.{Lit}
 use Rattle.gp_certificate.specs.declared.step.Step.{Step}
 use Rattle.gp_text.specs.Spelling.{IsPlainLine, PlainWords, ReadsAgain}
 use Rattle.gp_window.specs.EventIds.{event_id_text}
-use Rattle.gp_report.specs.declared.record.Answer.{Answer}
-use Rattle.gp_report.specs.declared.record.Answer.TheVariants.{Found, Impossible, Undecided}
-use Rattle.gp_report.specs.declared.record.Entry.{Entry}
-use Rattle.gp_report.specs.declared.record.PropertyBody.{PropertyBody}
-use Rattle.gp_report.specs.declared.record.PropertyBody.TheVariants.{TooMany, Entries}
-use Rattle.gp_report.specs.declared.record.PropertyRecord.{PropertyRecord}
-use Rattle.gp_report.specs.declared.record.WindowBody.{WindowBody}
-use Rattle.gp_report.specs.declared.record.WindowBody.TheVariants.{TooLarge, Answers}
-use Rattle.gp_report.specs.declared.record.WindowRecord.{WindowRecord}
+use Rattle.gp_report.specs.Records.{Answer, Entry, PropertyBody, PropertyRecord, WindowBody, WindowRecord}
+use Rattle.gp_report.specs.declared.record.AnswerOf.TheVariants.{Found, Impossible, Undecided}
+use Rattle.gp_report.specs.declared.record.PropertyBodyOf.TheVariants.{TooMany, Entries}
+use Rattle.gp_report.specs.declared.record.WindowBodyOf.TheVariants.{TooLarge, Answers}
 use Rattle.gp_report.specs.Entries.{count_of, entries_in, entries_of, is_found, is_impossible, is_undecided}
 use Rattle.gp_report.specs.Laws.{ReportsArePlain}
 use Rattle.gp_report.specs.Printed.{answer_lines, count_word, entries_lines, in_lines, instance_words, lit_word, property_lines, report_lines, shared_lines, step_lines, summary_words, window_body_lines, window_lines}

@@ -8,9 +8,8 @@ use Rattle.gp_text.specs.declared.line.Line.{Line}
 use Rattle.gp_text.specs.Name.{is_name, name_of}
 use Rattle.gp_text.specs.Numbers.{OneSpelling, number_of}
 use Rattle.gp_window.specs.EventIds.{EventIdsReadExactly}
-use Rattle.gp_report.specs.declared.record.PropertyBody.{PropertyBody}
-use Rattle.gp_report.specs.declared.record.PropertyBody.TheVariants.{TooMany, Entries}
-use Rattle.gp_report.specs.declared.record.PropertyRecord.{PropertyRecord}
+use Rattle.gp_report.specs.Records.{PropertyBody, PropertyRecord}
+use Rattle.gp_report.specs.declared.record.PropertyBodyOf.TheVariants.{TooMany, Entries}
 use Rattle.gp_report.specs.Entries.{entries_in}
 use Rattle.gp_report.specs.Printed.{count_word, entries_lines, property_lines}
 use Rattle.gp_report.specs.Reading.{◌>>=◌, begins_with, entry_count, is_at, name_and_count, next_line, read_body, read_entries, read_properties, read_property, some_entries, told_by, with_front}

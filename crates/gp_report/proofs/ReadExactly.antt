@@ -7,7 +7,7 @@ use Rattle.gp_text.specs.Lines.{end_line_of, lines_of}
 use Rattle.gp_text.specs.Numbers.{OneSpelling}
 use Rattle.gp_text.specs.Spelling.{numbered, spelling}
 use Rattle.gp_window.specs.EventIds.{EventIdsReadExactly}
-use Rattle.gp_report.specs.declared.record.WindowRecord.{WindowRecord}
+use Rattle.gp_report.specs.Records.{WindowRecord}
 use Rattle.gp_report.specs.Laws.{ReportsArePlain}
 use Rattle.gp_report.specs.Printed.{report_lines, window_lines}
 use Rattle.gp_report.specs.Reading.{report_in, report_of}

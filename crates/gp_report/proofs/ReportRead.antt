@@ -7,7 +7,7 @@ use Rattle.gp_text.specs.declared.line.Line.{Line}
 use Rattle.gp_text.specs.Numbers.{OneSpelling}
 use Rattle.gp_window.specs.EventIds.{EventIdsReadExactly}
 use Rattle.gp_report.specs.declared.fault.ReportRule.TheVariants.{End, Form}
-use Rattle.gp_report.specs.declared.record.WindowRecord.{WindowRecord}
+use Rattle.gp_report.specs.Records.{WindowRecord}
 use Rattle.gp_report.specs.Entries.{count_of, entries_of, is_found, is_impossible, is_undecided}
 use Rattle.gp_report.specs.Printed.{report_lines, summary_words, window_lines}
 use Rattle.gp_report.specs.Reading.{◌>>=◌, are_counts, at_end, kept_if, next_line, one_number, read_between, read_summary, read_windows, report_from, three_numbers, told_by}

@@ -2,8 +2,7 @@
 use Rattle.std.proofs.Common.{◌≡◌, refl, ℕ, ◌+◌, ◌<◌, Bool, cond, get_or, length, drop, List, ◌++◌, ap, ◌∙◌, sym, arith}
 use Rattle.std.specs.List.{flat_map}
 use Rattle.std.proofs.lemmas.List.Sums.{sum_by-append}
-use Rattle.gp_report.specs.declared.record.Answer.{Answer}
-use Rattle.gp_report.specs.declared.record.Entry.{Entry}
+use Rattle.gp_report.specs.Records.{Answer, Entry}
 use Rattle.gp_report.specs.declared.tally.Tally.{Tally}
 use Rattle.gp_report.specs.Entries.{count_of, is_found, is_impossible, is_undecided}
 use Rattle.gp_report.specs.Tally.{with_entries}

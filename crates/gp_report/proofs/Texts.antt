@@ -3,7 +3,7 @@ use Rattle.std.proofs.Common.{◌≡◌, refl, ℕ, ◌+◌, ◌<◌, get_or, le
 use Rattle.std.specs.List.{flat_map}
 use Rattle.gp_text.specs.Spelling.{after_words, joined, spelling}
 use Rattle.gp_text.specs.SpellingLaws.{joined_after, spelling_append}
-use Rattle.gp_report.specs.declared.record.Entry.{Entry}
+use Rattle.gp_report.specs.Records.{Entry}
 use Rattle.gp_report.specs.Printed.{answer_lines, entries_lines, instance_words}
 
 -- lines, and then more lines

@@ -1,3 +1,4 @@
+pub mod Records
 pub mod ReportForm
 pub mod Report
 pub mod Entries

@@ -3,49 +3,50 @@ use Rattle.std.specs.Prelude.{ℕ, ◌≡◌, ◌⊎◌, ◌≤◌, ◌-◌, ◌
 use Rattle.gp_clause.specs.Clause.{NamesBelow}
 use Rattle.gp_certificate.specs.declared.step.Step.{Step}
 use Rattle.gp_window.specs.WindowForm.{numbers_from}
-use Rattle.gp_report.specs.declared.record.Answer.{Answer}
-use Rattle.gp_report.specs.declared.record.Answer.TheVariants.{Found, Impossible, Undecided}
-use Rattle.gp_report.specs.declared.record.Entry.{Entry}
-use Rattle.gp_report.specs.declared.record.PropertyBody.{PropertyBody}
-use Rattle.gp_report.specs.declared.record.PropertyBody.TheVariants.{TooMany, Entries}
-use Rattle.gp_report.specs.declared.record.PropertyRecord.{PropertyRecord}
-use Rattle.gp_report.specs.declared.record.WindowBody.{WindowBody}
-use Rattle.gp_report.specs.declared.record.WindowBody.TheVariants.{TooLarge, Answers}
-use Rattle.gp_report.specs.declared.record.WindowRecord.{WindowRecord}
+use Rattle.gp_report.specs.declared.record.AnswerOf.{AnswerOf}
+use Rattle.gp_report.specs.declared.record.EntryOf.{EntryOf}
+use Rattle.gp_report.specs.declared.record.PropertyBodyOf.{PropertyBodyOf}
+use Rattle.gp_report.specs.declared.record.PropertyRecordOf.{PropertyRecordOf}
+use Rattle.gp_report.specs.declared.record.WindowBodyOf.{WindowBodyOf}
+use Rattle.gp_report.specs.declared.record.WindowRecordOf.{WindowRecordOf}
+use Rattle.gp_report.specs.Records.{WindowRecord}
+use Rattle.gp_report.specs.declared.record.AnswerOf.TheVariants.{Found, Impossible, Undecided}
+use Rattle.gp_report.specs.declared.record.PropertyBodyOf.TheVariants.{TooMany, Entries}
+use Rattle.gp_report.specs.declared.record.WindowBodyOf.TheVariants.{TooLarge, Answers}
 use Rattle.gp_report.specs.ReportForm.{ReportForm}
 
 -- a step whose literals can be printed: variable n is printed as n + 1, up to 2^31 - 1
 abbrev pub IsPrintableStep : Step → Type 0
 IsPrintableStep step = NamesBelow (2 ^ 31 - 1) step.clause
 
--- steps that can be printed; an undecided answer names one of the workers
-abbrev pub IsPrintableAnswer : Answer → Type 0
+-- steps that can be printed; an undecided answer names one of the workers; of what is shown nothing is wanted
+abbrev pub IsPrintableAnswer : {Shown : Type 0} → AnswerOf Shown → Type 0
 IsPrintableAnswer (Found schedule) = Unit {0}
 IsPrintableAnswer (Impossible certificate) = All IsPrintableStep certificate.steps
 IsPrintableAnswer (Undecided worker from to) = (1 ≤ worker) × (worker ≤ 16)
 
 -- an entry has 1 to 6 events, and an answer that can be printed
-pub record IsEntry (entry : Entry) : Type 0 where
+pub record IsEntry {Shown : Type 0} (entry : EntryOf Shown) : Type 0 where
   pub some : 1 ≤ length entry.events
   pub few : length entry.events ≤ 6
   pub answer : IsPrintableAnswer entry.answer
 
 -- at most 10,000 entries
-abbrev pub IsPropertyBody : PropertyBody → Type 0
+abbrev pub IsPropertyBody : {Shown : Type 0} → PropertyBodyOf Shown → Type 0
 IsPropertyBody TooMany = Unit {0}
 IsPropertyBody (Entries entries) = (length entries ≤ 10000) × All IsEntry entries
 
 -- what is told of a property
-abbrev pub IsPropertyRecord : PropertyRecord → Type 0
+abbrev pub IsPropertyRecord : {Shown : Type 0} → PropertyRecordOf Shown → Type 0
 IsPropertyRecord property = IsPropertyBody property.body
 
 -- what is told of a window with these shared steps: a window that is too large has none
-abbrev pub IsWindowBody : List Step → WindowBody → Type 0
+abbrev pub IsWindowBody : {Shown : Type 0} → List Step → WindowBodyOf Shown → Type 0
 IsWindowBody shared (TooLarge events clauses) = shared ≡ []
 IsWindowBody shared (Answers properties) = All IsPropertyRecord properties
 
 -- what is told of a window in a report of this format: format 1 has no shared steps
-pub record IsWindowRecord (format : ℕ) (window : WindowRecord) : Type 0 where
+pub record IsWindowRecord {Shown : Type 0} (format : ℕ) (window : WindowRecordOf Shown) : Type 0 where
   pub shared : All IsPrintableStep window.shared
   pub first_format : format ≡ 1 → window.shared ≡ []
   pub body : IsWindowBody window.shared window.body

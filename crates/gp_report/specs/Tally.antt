@@ -1,6 +1,6 @@
 -- How many entries are found, impossible and undecided.
 use Rattle.std.specs.Prelude.{◌+◌, List}
-use Rattle.gp_report.specs.declared.record.Entry.{Entry}
+use Rattle.gp_report.specs.Records.{Entry}
 use Rattle.gp_report.specs.declared.tally.Tally.{Tally}
 use Rattle.gp_report.specs.Entries.{count_of, is_found, is_impossible, is_undecided}
 

@@ -5,9 +5,8 @@ use Rattle.gp_certificate.specs.declared.step.Step.{Step}
 use Rattle.gp_text.specs.declared.line.Line.{Line}
 use Rattle.gp_text.specs.Lines.{lines_of}
 use Rattle.gp_text.specs.Spelling.{spelling}
-use Rattle.gp_report.specs.declared.record.Answer.{Answer}
-use Rattle.gp_report.specs.declared.record.Answer.TheVariants.{Impossible}
-use Rattle.gp_report.specs.declared.record.WindowRecord.{WindowRecord}
+use Rattle.gp_report.specs.Records.{Answer, WindowRecord}
+use Rattle.gp_report.specs.declared.record.AnswerOf.TheVariants.{Impossible}
 use Rattle.gp_report.specs.Entries.{entries_of}
 use Rattle.gp_report.specs.Printed.{report_lines}
 use Rattle.gp_report.specs.Reading.{report_of}

@@ -1,5 +1,5 @@
 ghost use Rattle.std.specs.Prelude.{◌<◌, ◌^◌, All, length};
-ghost use Rattle.gp_report.specs.declared.record.Entry.{Entry};
+ghost use Rattle.gp_report.specs.Records.{Entry};
 ghost use Rattle.gp_report.specs.Entries.{entries_among, entries_in, properties_in};
 ghost use Rattle.gp_report.specs.Telling.{AreClauses, HasClause, HasClauses};
 ghost use Rattle.gp_report.specs.Typed.{IsTypedAnswer, IsTypedBody, IsTypedEntry, IsTypedId, IsTypedProperty, IsTypedStep, IsTypedWindow};

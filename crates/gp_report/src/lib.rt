@@ -22,7 +22,8 @@ pub use laws::{reads_exactly, reports_are_plain, reports_read_again};
 pub use printing::print_report;
 pub use reading::{ReadReport, read_report};
 pub use record::{
-    Answer, Entry, MOST_BUDGET, MOST_ENTRIES, MOST_EVENTS, MOST_WORKERS, PropertyBody,
-    PropertyRecord, WindowBody, WindowRecord,
+    Answer, AnswerOf, Entry, EntryOf, MOST_BUDGET, MOST_ENTRIES, MOST_EVENTS, MOST_WORKERS,
+    PropertyBody, PropertyBodyOf, PropertyRecord, PropertyRecordOf, WindowBody, WindowBodyOf,
+    WindowRecord, WindowRecordOf,
 };
 pub use report::Report;

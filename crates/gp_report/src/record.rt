@@ -19,78 +19,91 @@ pub const MOST_ENTRIES: usize = 10_000;
 /// The most events of an instance.
 pub const MOST_EVENTS: usize = 6;
 
-/// What is answered for an instance.
+/// What is answered to an ask of a window. The records say of what is shown no more than its type.
 #[derive(Debug, Drop)]
-pub enum Answer {
-    /// A feasible schedule that matches the instance.
-    Found(Schedule),
-    /// Steps whose last one refutes the query of the instance.
+pub enum AnswerOf<S> {
+    /// What shows it.
+    Found(S),
+    /// Steps whose last one refutes the query of the ask.
     Impossible(Certificate),
     /// The budget was spent: the worker, from 1, learned the entries `from..to` of its log.
     Undecided { worker: u32, from: u32, to: u32 },
 }
 
-/// An instance and its answer.
+/// The events of an ask and its answer.
 #[derive(Debug, Drop)]
-pub struct Entry {
+pub struct EntryOf<S> {
     pub events: Row<EventId>,
-    pub answer: Answer,
+    pub answer: AnswerOf<S>,
 }
 
 /// What is answered for a property in a window.
 #[derive(Debug, Drop)]
-pub enum PropertyBody {
+pub enum PropertyBodyOf<S> {
     /// There are more than 10,000 instances.
     TooMany,
     /// An entry for each instance, in their order.
-    Entries(Row<Entry>),
+    Entries(Row<EntryOf<S>>),
 }
 
-impl PropertyBody {
+impl PropertyBodyOf<Schedule> {
     /// The entries, none where there are too many.
     pub fn entries(&self) -> &[Entry]
         ensures { result.now ≡ entries_in self.now }
     {
         match self {
-            PropertyBody::TooMany => &[],
-            PropertyBody::Entries(entries) => entries.as_slice(),
+            PropertyBodyOf::TooMany => &[],
+            PropertyBodyOf::Entries(entries) => entries.as_slice(),
         }
     }
 }
 
 /// A property in a window.
 #[derive(Debug, Drop)]
-pub struct PropertyRecord {
+pub struct PropertyRecordOf<S> {
     pub name: Name,
-    pub body: PropertyBody,
+    pub body: PropertyBodyOf<S>,
 }
 
 /// What is answered for a window.
 #[derive(Debug, Drop)]
-pub enum WindowBody {
+pub enum WindowBodyOf<S> {
     /// The window has so many events, of which more than 2,048 are too many, and so many clauses were counted.
     TooLarge { events: u64, clauses: u64 },
     /// A record for each property, in their order.
-    Answers(Row<PropertyRecord>),
+    Answers(Row<PropertyRecordOf<S>>),
 }
 
-impl WindowBody {
+impl WindowBodyOf<Schedule> {
     /// The records of the properties, none where the window is too large.
     pub fn properties(&self) -> &[PropertyRecord]
         ensures { result.now ≡ properties_in self.now }
     {
         match self {
-            WindowBody::TooLarge { .. } => &[],
-            WindowBody::Answers(properties) => properties.as_slice(),
+            WindowBodyOf::TooLarge { .. } => &[],
+            WindowBodyOf::Answers(properties) => properties.as_slice(),
         }
     }
 }
 
 /// A window, the steps that its certificates share, and what each of its workers did.
 #[derive(Debug, Drop)]
-pub struct WindowRecord {
+pub struct WindowRecordOf<S> {
     pub number: u32,
     pub shared: Row<Step>,
-    pub body: WindowBody,
+    pub body: WindowBodyOf<S>,
     pub records: Row<WorkerRecord>,
 }
+
+/// The answer to an instance, which a schedule shows to be possible.
+pub type Answer = AnswerOf<Schedule>;
+
+pub type Entry = EntryOf<Schedule>;
+
+pub type PropertyBody = PropertyBodyOf<Schedule>;
+
+pub type PropertyRecord = PropertyRecordOf<Schedule>;
+
+pub type WindowBody = WindowBodyOf<Schedule>;
+
+pub type WindowRecord = WindowRecordOf<Schedule>;

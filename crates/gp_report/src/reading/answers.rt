@@ -1,4 +1,5 @@
 ghost use Rattle.std.specs.Prelude.{◌≡◌, ◌≢◌, codes, if◌then◌else◌};
+ghost use Rattle.gp_report.specs.declared.record.AnswerOf.TheVariants.{Undecided};
 ghost use Rattle.gp_report.specs.Reading.{Gives, answer_at, is_undecided_with, number_and_words, read_answer, read_entries, read_entry, read_found, read_impossible, read_instance, read_undecided, told_by};
 
 use crate::fault::{ReportFault, ReportRule};
@@ -145,7 +146,7 @@ fn read_undecided(line: ReportLine) -> Result<Answer, ReportFault>
 }
 
 fn undecided_with(worker: u64, from: u64, to: u64) -> Option<Answer>
-    ensures { result ≡ (if is_undecided_with worker from to then Some (Answer.Undecided worker from to) else None) }
+    ensures { result ≡ (if is_undecided_with worker from to then Some (Undecided worker from to) else None) }
 {
     if worker < 1 || worker > u64::from(MOST_WORKERS) {
         return None;

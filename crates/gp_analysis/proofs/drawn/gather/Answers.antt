@@ -2,7 +2,7 @@
 use Rattle.std.proofs.Common.{◌≡◌, ◌∙◌, sym, ap, subst, ℕ, ◌+◌, Some, Result, IfOk, length, arith}
 use Rattle.std.specs.declared.alloc.AllocError.{AllocError}
 use Rattle.std.proofs.lemmas.List.Elements.{All-pop}
-use Rattle.gp_report.specs.declared.record.WindowRecord.{WindowRecord}
+use Rattle.gp_report.specs.Records.{WindowRecord}
 use Rattle.gp_tickets.specs.declared.drawn.Drawn.{Drawn}
 use Rattle.gp_tickets.specs.Drawn.{HasDrawn, drawers_of}
 use Rattle.gp_analysis.specs.Drawn.{RecordsDrawn}

@@ -4,7 +4,7 @@ use Rattle.std.proofs.lemmas.Result.{IfOk-weaker}
 use Rattle.gp_constraint.specs.declared.fault.BaseFault.{BaseFault}
 use Rattle.gp_constraint.specs.Encoded.{base_due}
 use Rattle.gp_constraint.specs.EncodedLaws.{IsEncoded, is_due, is_encoded}
-use Rattle.gp_report.specs.declared.record.WindowRecord.{WindowRecord}
+use Rattle.gp_report.specs.Records.{WindowRecord}
 use Rattle.gp_window.specs.WindowForm.{WindowForm}
 use Rattle.gp_analysis.specs.Answered.{AnswersWindow}
 use Rattle.gp_analysis.specs.Tickets.{asked_of, properties_count}

@@ -2,7 +2,7 @@
 use Rattle.std.proofs.Common.{sym, subst, ◌-◌, Option, Some}
 use Rattle.std.specs.Option.{IsSomeAnd}
 use Rattle.std.proofs.lemmas.Option.{MatchOption-at_none, MatchOption-at_some}
-use Rattle.gp_report.specs.declared.record.WindowRecord.{WindowRecord}
+use Rattle.gp_report.specs.Records.{WindowRecord}
 use Rattle.gp_checker.specs.declared.failure.Failure.{Failure}
 use Rattle.gp_checker.specs.declared.failure.Reason.TheVariants.{WindowCount}
 use Rattle.gp_checker.specs.Accepted.{AcceptsWindow}

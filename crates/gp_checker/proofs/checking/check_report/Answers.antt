@@ -1,6 +1,6 @@
 -- One window more is accepted, until all are.
 use Rattle.std.proofs.Common.{◌≡◌, ◌∙◌, subst, ap, List, ◌∷◌, length}
-use Rattle.gp_report.specs.declared.record.WindowRecord.{WindowRecord}
+use Rattle.gp_report.specs.Records.{WindowRecord}
 use Rattle.gp_window.specs.Windows.{TakesFirst}
 use Rattle.gp_checker.proofs.Walking.{FindsAt, all_checked, none_checked, window_accepted, window_rejected}
 use Rattle.gp_checker.proofs.checking.check_report.Goals as goal

@@ -2,7 +2,7 @@ use Rattle.std.proofs.Common.{◌≡◌, length, Option, Ok, arith}
 use Rattle.std.specs.List.{AllZip}
 use Rattle.std.specs.Option.{MatchOption}
 use Rattle.std.proofs.lemmas.Result.{IfOk-weaker}
-use Rattle.gp_report.specs.declared.record.PropertyBody.TheVariants.{Entries}
+use Rattle.gp_report.specs.declared.record.PropertyBodyOf.TheVariants.{Entries}
 use Rattle.gp_checker.specs.declared.failure.Failure.{Failure}
 use Rattle.gp_checker.specs.Accepted.{AcceptsEntry}
 use Rattle.gp_checker.specs.First.{FailsFirst}

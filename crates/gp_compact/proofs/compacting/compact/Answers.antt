@@ -1,6 +1,6 @@
 use Rattle.std.proofs.Common.{ap, sym, subst, ◌∙◌, ℕ, List}
 use Rattle.std.specs.List.{AllZip}
-use Rattle.gp_report.specs.declared.record.WindowRecord.{WindowRecord}
+use Rattle.gp_report.specs.Records.{WindowRecord}
 use Rattle.gp_report.specs.Report.{IsReport}
 use Rattle.gp_report.specs.ReportForm.{ReportForm}
 use Rattle.gp_compact.specs.Compact.{IsSameWindow, compacted_windows}

@@ -1,7 +1,7 @@
 use Rattle.std.proofs.Common.{refl, ◌∙◌, List}
 use Rattle.std.proofs.lemmas.Result.{IfOk-weaker}
 use Rattle.gp_certificate.specs.declared.step.Step.{Step}
-use Rattle.gp_report.specs.declared.record.WindowRecord.{WindowRecord}
+use Rattle.gp_report.specs.Records.{WindowRecord}
 use Rattle.gp_compact.specs.Compact.{IsSameWindow}
 use Rattle.gp_compact.proofs.Windows.{body_stays, same_parts}
 use Rattle.gp_compact.proofs.compacting.copy_window.Goals as goal

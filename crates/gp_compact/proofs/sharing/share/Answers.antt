@@ -1,5 +1,5 @@
 use Rattle.std.proofs.Common.{◌≡◌, ◌∙◌, ap, List}
-use Rattle.gp_report.specs.declared.record.Entry.{Entry}
+use Rattle.gp_report.specs.Records.{Entry}
 use Rattle.gp_report.specs.Entries.{entries_among, entries_in}
 use Rattle.gp_compact.specs.Compact.{with_entries}
 use Rattle.gp_compact.proofs.Walks.{property_left, property_more}

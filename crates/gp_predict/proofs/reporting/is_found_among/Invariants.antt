@@ -1,6 +1,6 @@
 use Rattle.std.proofs.Common.{◌≡◌, drop}
 use Rattle.std.specs.List.{list_any}
-use Rattle.gp_report.specs.declared.record.Entry.{Entry}
+use Rattle.gp_report.specs.Records.{Entry}
 use Rattle.gp_report.specs.Entries.{entries_among, is_found}
 use Rattle.gp_predict.proofs.reporting.is_found_among.Given as goal
 

@@ -1,6 +1,6 @@
 use Rattle.std.proofs.Common.{◌≡◌, ◌+◌, ◌↔◌, drop, length, map}
 use Rattle.gp_window.specs.WindowForm.{numbers_from}
-use Rattle.gp_report.specs.declared.record.WindowRecord.{WindowRecord}
+use Rattle.gp_report.specs.Records.{WindowRecord}
 use Rattle.gp_report.proofs.checks.are_numbered.Given as goal
 
 abbrev pub invariant-loop-place : goal.invariant-loop-place

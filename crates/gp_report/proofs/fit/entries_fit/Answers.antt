@@ -1,4 +1,4 @@
-use Rattle.gp_report.specs.declared.record.Entry.{Entry}
+use Rattle.gp_report.specs.Records.{Entry}
 use Rattle.gp_report.specs.Telling.{HasClauses}
 use Rattle.gp_report.specs.Typed.{IsTypedEntry}
 use Rattle.gp_report.proofs.Seen.{one_seen}

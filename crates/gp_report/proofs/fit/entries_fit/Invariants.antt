@@ -1,5 +1,5 @@
 use Rattle.std.proofs.Common.{drop, All}
-use Rattle.gp_report.specs.declared.record.Entry.{Entry}
+use Rattle.gp_report.specs.Records.{Entry}
 use Rattle.gp_report.specs.Telling.{HasClauses}
 use Rattle.gp_report.specs.Typed.{IsTypedEntry}
 use Rattle.gp_report.proofs.fit.entries_fit.Given as goal

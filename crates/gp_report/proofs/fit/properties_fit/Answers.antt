@@ -1,5 +1,4 @@
-use Rattle.gp_report.specs.declared.record.Entry.{Entry}
-use Rattle.gp_report.specs.declared.record.PropertyRecord.{PropertyRecord}
+use Rattle.gp_report.specs.Records.{Entry, PropertyRecord}
 use Rattle.gp_report.specs.Entries.{entries_in}
 use Rattle.gp_report.specs.Telling.{HasClauses}
 use Rattle.gp_report.specs.Typed.{IsTypedProperty}

@@ -1,6 +1,5 @@
 use Rattle.std.proofs.Common.{All}
-use Rattle.gp_report.specs.declared.record.Entry.{Entry}
-use Rattle.gp_report.specs.declared.record.WindowRecord.{WindowRecord}
+use Rattle.gp_report.specs.Records.{Entry, WindowRecord}
 use Rattle.gp_report.specs.Entries.{entries_among, properties_in}
 use Rattle.gp_report.specs.Telling.{HasClause, HasClauses}
 use Rattle.gp_report.specs.Typed.{IsTypedWindow}

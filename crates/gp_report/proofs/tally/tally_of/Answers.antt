@@ -1,4 +1,4 @@
-use Rattle.gp_report.specs.declared.record.WindowRecord.{WindowRecord}
+use Rattle.gp_report.specs.Records.{WindowRecord}
 use Rattle.gp_report.specs.Entries.{entries_among, properties_in}
 use Rattle.gp_report.proofs.Tallies.{one_part}
 use Rattle.gp_report.proofs.tally.tally_of.Goals as goal

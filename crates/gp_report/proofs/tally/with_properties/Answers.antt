@@ -1,4 +1,4 @@
-use Rattle.gp_report.specs.declared.record.PropertyRecord.{PropertyRecord}
+use Rattle.gp_report.specs.Records.{PropertyRecord}
 use Rattle.gp_report.specs.Entries.{entries_in}
 use Rattle.gp_report.proofs.Tallies.{one_part}
 use Rattle.gp_report.proofs.tally.with_properties.Goals as goal

@@ -28,7 +28,8 @@ use Rattle.gp_window.specs.WindowForm.{WindowForm}
 use Rattle.gp_window.specs.Windows.{all_windows}
 use Rattle.gp_checker.specs.Accepted.{AcceptsAnswer, AcceptsBody, AcceptsEntry, AcceptsListed, AcceptsProperty, AcceptsWindow}
 use Rattle.gp_acceptance.specs.Acceptance.{AnsweredIsAccepted}
-use Rattle.gp_analysis.specs.Answered.{AnswersBody, AnswersEach, AnswersListed, AnswersProperties, AnswersWindow, Evidence, IsAnswer}
+use Rattle.gp_analysis.specs.Answered.{Evidence}
+use Rattle.gp_patterns.specs.Answered.{AnswersBody, AnswersEach, AnswersListed, AnswersProperties, AnswersWindow, IsAnswer}
 
 -- a turn that is spent has as many entries as its budget
 turn_counted : (problem : Problem) (query : Query) (worker : WorkerRecord) (ticket budget from to : ℕ) → HasTurnSpentOn problem query worker ticket budget from to → to ≡ from + budget

@@ -5,7 +5,7 @@ use Rattle.gp_report.specs.Report.{IsReport}
 use Rattle.gp_report.specs.ReportForm.{ReportForm}
 use Rattle.gp_window.specs.RecordingForm.{RecordingForm}
 use Rattle.gp_checker.specs.Accepted.{IsAccepted}
-use Rattle.gp_analysis.specs.Answered.{IsAnswered}
+use Rattle.gp_patterns.specs.Answered.{IsAnswered}
 
 -- a report of format 1 that answers a recording and its properties is accepted, whatever its workers and its budget
 abbrev pub AnsweredIsAccepted : Type 0

@@ -1,21 +1,23 @@
 -- The counts of the runs, collected and added.
-use Rattle.std.proofs.Common.{◌≡◌, refl, sym, ap, ◌∙◌, subst, ℕ, ◌+◌, ◌*◌, ◌≤◌, None, Some, Bool, false, nat_lt, if◌then◌else◌, List, [], ◌∷◌, map, flat_map, sum, sum_by, Result, Ok, Err, IfOk, arith}
+use Rattle.std.proofs.Common.{◌≡◌, refl, sym, ap, ◌∙◌, subst, ℕ, ◌+◌, ◌*◌, ◌≤◌, Option, None, Some, Bool, false, nat_lt, if◌then◌else◌, List, [], ◌∷◌, length, map, flat_map, sum, sum_by, Result, Ok, Err, IfOk, arith}
 use Rattle.std.specs.declared.alloc.AllocError.{AllocError}
 use Rattle.std.specs.List.{AllZip}
 use Rattle.std.specs.Prelude.{MatchResult}
 use Rattle.std.proofs.lemmas.List.Sums.{sum-map, sum_by-append, sum_by-cons}
-use Rattle.gp_property.specs.PropertyForm.{PropertyForm}
+use Rattle.gp_instance.specs.declared.instance.Instance.{Instance}
+use Rattle.gp_instance.specs.declared.instance.InstancesFault.{InstancesFault}
+use Rattle.gp_report.specs.declared.record.AnswerOf.{AnswerOf}
 use Rattle.gp_window.specs.RecordingForm.{RecordingForm}
 use Rattle.gp_window.specs.WindowForm.{WindowForm, numbers_from, window_of}
-use Rattle.gp_constraint.specs.declared.fault.BaseFault.{BaseFault}
-use Rattle.gp_constraint.specs.Encoded.{base_due}
 use Rattle.gp_analysis.specs.declared.counting.Counted.{Counted}
 use Rattle.gp_analysis.specs.declared.counting.Counted.TheVariants.{Listed}
+use Rattle.gp_analysis.specs.declared.question.TooLarge.{TooLarge}
+use Rattle.gp_analysis.specs.Question.{QuestionForm}
 use Rattle.std.proofs.lemmas.Bool.{le-ltb, ltb-false}
 use Rattle.std.proofs.Math.Nat.{mul-le-mul_right}
 use Rattle.gp_analysis.specs.declared.runs.Run.{Run}
 use Rattle.gp_analysis.specs.Runs.{numbers_of, PartAll, run_count, run_windows}
-use Rattle.gp_analysis.specs.Tickets.{asked_in, asked_of, asked_total, properties_count, too_much, total_of, window_count}
+use Rattle.gp_analysis.specs.Tickets.{asked_in, asked_of, asked_total, listed_count, subjects_count, subjects_tickets, tickets_in, tickets_listed, tickets_of, too_much, total_of, window_count}
 
 module _ (count : Run → ℕ) where
   each_counted : (runs : List Run) (counts : List ℕ) → AllZip {B = Result ℕ AllocError} (λ run result. IfOk result (λ n. n ≡ count run)) runs (map Ok counts) → counts ≡ map count runs
@@ -42,15 +44,6 @@ sum_runs r f (run ∷ runs) =
     ∙ ap (λ n. n + sum_by (λ (k : ℕ). f (window_of r k)) (flat_map numbers_of runs)) (sum_map f (window_of r) (numbers_of run))
     ∙ sym (sum_by-append (λ (k : ℕ). f (window_of r k)) (numbers_of run) (flat_map numbers_of runs))
 
--- what the runs have together is what all windows have
-pub all_counted : (how : Counted) (r : RecordingForm) (ps : List PropertyForm) (runs : List Run) (counts : List ℕ) → PartAll r.manifest.epochs runs → counts ≡ map (run_count how r ps) runs → sum counts ≡ total_of how r ps
-all_counted how r ps runs counts parted is =
-    ap sum is ∙ sum-map (run_count how r ps) runs ∙ sum_runs r (window_count how ps) runs ∙ ap (sum_by (λ (k : ℕ). window_count how ps (window_of r k))) parted.all
-
-asked_few : (due : Result WindowForm BaseFault) (count : ℕ) → asked_of due count ≤ count
-asked_few (Ok encoded) count = omega arith
-asked_few (Err fault) count = omega arith
-
 sum_few : (f g : ℕ → ℕ) (ks : List ℕ) → ((k : ℕ) → f k ≤ g k) → sum_by f ks ≤ sum_by g ks
 sum_few f g [] few = omega arith
 sum_few f g (k ∷ ks) few =
@@ -60,16 +53,61 @@ sum_few f g (k ∷ ks) few =
     let other : sum_by g (k ∷ ks) ≡ g k + sum_by g ks = sum_by-cons g k ks in
     omega (arith, one, rest, own, other)
 
--- no more are asked than are listed
-asked_within : (r : RecordingForm) (ps : List PropertyForm) → asked_total r ps ≤ total_of Listed r ps
-asked_within r ps =
-    sum_few (asked_in r ps) (λ (k : ℕ). window_count Listed ps (window_of r k)) (numbers_from 1 r.manifest.epochs)
-    (λ k. asked_few (base_due (window_of r k)) (properties_count (window_of r k) 0 ps))
+-- one window more is counted
+pub one_counted : (f : WindowForm → ℕ) (windows left : List WindowForm) (window : WindowForm) (count own more all : ℕ) → windows ≡ window ∷ left → own ≡ f window → more ≡ count + own → count + sum_by f windows ≡ all
+    → more + sum_by f left ≡ all
+one_counted f windows left window count own more all first is added so_far =
+    let split : sum_by f (window ∷ left) ≡ f window + sum_by f left = sum_by-cons f window left in
+    let whole : count + sum_by f (window ∷ left) ≡ all = subst (λ (ws : List WindowForm). count + sum_by f ws ≡ all) first so_far in
+    omega (arith, split, whole, is, added)
 
--- so where what is listed is not too much, neither is what is asked
-pub not_too_much : (r : RecordingForm) (ps : List PropertyForm) (budget : ℕ) → nat_lt 1000000 (total_of Listed r ps * budget) ≡ false → None ≡ too_much r ps budget
-not_too_much r ps budget is =
-    let few : total_of Listed r ps * budget ≤ 1000000 = ltb-false 1000000 (total_of Listed r ps * budget) is in
-    let within : asked_total r ps * budget ≤ total_of Listed r ps * budget = mul-le-mul_right budget (asked_within r ps) in
-    let not_more : nat_lt 1000000 (asked_total r ps * budget) ≡ false = le-ltb 1000000 (asked_total r ps * budget) (omega (arith, few, within)) in
-    sym (ap (λ (more : Bool). if more then Some (asked_total r ps) else None) not_more)
+one_ticket : {Shown : Type 0} (given : Option (AnswerOf Shown)) → tickets_of given ≤ 1
+one_ticket None = omega arith
+one_ticket (Some given) = omega arith
+
+asked_few : (large : Option TooLarge) (count : ℕ) → asked_of large count ≤ count
+asked_few None count = omega arith
+asked_few (Some large) count = omega arith
+
+module _ {Subject Shown : Type 0} (question : QuestionForm Subject Shown) where
+  -- what the runs have together is what all windows have
+  pub all_counted : (how : Counted) (r : RecordingForm) (runs : List Run) (counts : List ℕ) → PartAll r.manifest.epochs runs → counts ≡ map (run_count question how r) runs → sum counts ≡ total_of question how r
+  all_counted how r runs counts parted is =
+      ap sum is ∙ sum-map (run_count question how r) runs ∙ sum_runs r (window_count question how) runs ∙ ap (sum_by (λ (k : ℕ). window_count question how (window_of r k))) parted.all
+
+  few_in : (window : WindowForm) (subject : Subject) (asks : List Instance) → tickets_in question window subject asks ≤ length asks
+  few_in window subject [] = omega arith
+  few_in window subject (ask ∷ asks) =
+      let one : tickets_of (question.given window subject ask.events) ≤ 1 = one_ticket (question.given window subject ask.events) in
+      let rest : tickets_in question window subject asks ≤ length asks = few_in window subject asks in
+      omega (arith, one, rest)
+
+  few_listed : (window : WindowForm) (subject : Subject) (asks : Result (List Instance) InstancesFault) → tickets_listed question window subject asks ≤ listed_count asks
+  few_listed window subject (Ok asks) = few_in window subject asks
+  few_listed window subject (Err fault) = omega arith
+
+  few_subjects : (window : WindowForm) (number : ℕ) (subjects : List Subject) → subjects_tickets question window number subjects ≤ subjects_count question window number subjects
+  few_subjects window number [] = omega arith
+  few_subjects window number (subject ∷ subjects) =
+      let one : tickets_listed question window subject (question.asks window subject number) ≤ listed_count (question.asks window subject number) = few_listed window subject (question.asks window subject number) in
+      let rest : subjects_tickets question window (number + 1) subjects ≤ subjects_count question window (number + 1) subjects = few_subjects window (number + 1) subjects in
+      omega (arith, one, rest)
+
+  -- no more asks have a ticket than are listed
+  asked_within : (r : RecordingForm) → asked_total question r ≤ total_of question Listed r
+  asked_within r =
+      sum_few (asked_in question r) (λ (k : ℕ). window_count question Listed (window_of r k)) (numbers_from 1 r.manifest.epochs)
+      (λ k.
+      let window = window_of r k in
+      let one : asked_of (question.too_large window) (subjects_tickets question window 0 question.subjects) ≤ subjects_tickets question window 0 question.subjects =
+      asked_few (question.too_large window) (subjects_tickets question window 0 question.subjects) in
+      let all : subjects_tickets question window 0 question.subjects ≤ subjects_count question window 0 question.subjects = few_subjects window 0 question.subjects in
+      omega (arith, one, all))
+
+  -- so where what is listed is not too much, neither is what has a ticket
+  pub not_too_much : (r : RecordingForm) (budget : ℕ) → nat_lt 1000000 (total_of question Listed r * budget) ≡ false → None ≡ too_much question r budget
+  not_too_much r budget is =
+      let few : total_of question Listed r * budget ≤ 1000000 = ltb-false 1000000 (total_of question Listed r * budget) is in
+      let within : asked_total question r * budget ≤ total_of question Listed r * budget = mul-le-mul_right budget (asked_within r) in
+      let not_more : nat_lt 1000000 (asked_total question r * budget) ≡ false = le-ltb 1000000 (asked_total question r * budget) (omega (arith, few, within)) in
+      sym (ap (λ (more : Bool). if more then Some (asked_total question r) else None) not_more)

@@ -1,123 +1,164 @@
--- What is told of an instance by an answer to its query has the evidence of the answer.
-use Rattle.std.proofs.Common.{◌≡◌, sym, ◌∙◌, subst, ℕ, ◌+◌, List, [], ◌∷◌, ◌++◌, length, Some, Result, Ok, Err, add-zero, arith}
+-- What is recorded of an ask by an answer to its query has the evidence of the answer.
+use Rattle.std.proofs.Common.{◌≡◌, sym, ◌∙◌, subst, refl, ℕ, ◌+◌, List, [], ◌∷◌, ◌++◌, map, Option, Some, None, Result, Ok, Err, add-zero, add_assoc, append_assoc}
 use Rattle.std.specs.List.{AllByRecursion}
-use Rattle.gp_clause.specs.declared.problem.Query.{Query}
-use Rattle.gp_clause.specs.Problem.{IsValidQuery}
-use Rattle.gp_constraint.specs.Base.{base_of}
-use Rattle.gp_constraint.specs.Encoded.{IsEncodable}
-use Rattle.gp_constraint.specs.EncodedLaws.{is_valid, query_valid}
-use Rattle.gp_constraint.specs.Query.{query_of}
 use Rattle.gp_certificate.specs.declared.certificate.Certificate.{Certificate}
+use Rattle.gp_certificate.specs.Certificate.{RefutedMeans, Refutes}
+use Rattle.gp_certificate.specs.Shared.{SharesNothing}
+use Rattle.gp_clause.specs.declared.problem.Problem.{Problem}
+use Rattle.gp_clause.specs.declared.problem.Query.{Query}
 use Rattle.gp_derivation.specs.declared.record.WorkerRecord.{WorkerRecord}
-use Rattle.gp_certificate.specs.Certificate.{Refutes}
 use Rattle.gp_instance.specs.declared.instance.Instance.{Instance}
 use Rattle.gp_instance.specs.declared.instance.InstancesFault.{InstancesFault}
 use Rattle.gp_instance.specs.declared.instance.InstancesFault.TheVariants.{Memory, TooMany}
-use Rattle.gp_instance.specs.ListedLaws.{AreListed, IsListed}
-use Rattle.gp_property.specs.PropertyForm.{PropertyForm}
-use Rattle.gp_report.specs.Records.{Answer, Entry, PropertyBody}
+use Rattle.gp_instance.specs.ListedLaws.{ListsEach}
+use Rattle.gp_report.specs.declared.record.AnswerOf.{AnswerOf}
 use Rattle.gp_report.specs.declared.record.AnswerOf.TheVariants.{Found, Impossible, Undecided}
+use Rattle.gp_report.specs.declared.record.EntryOf.{EntryOf}
+use Rattle.gp_report.specs.declared.record.PropertyBodyOf.{PropertyBodyOf}
 use Rattle.gp_report.specs.declared.record.PropertyBodyOf.TheVariants as body
 use Rattle.gp_window.specs.declared.schedule.EventId.{EventId}
 use Rattle.gp_window.specs.WindowForm.{IsWindow, WindowForm}
 use Rattle.gp_workers.specs.declared.work.WorkAnswer.{WorkAnswer}
 use Rattle.gp_workers.specs.declared.work.WorkAnswer.TheVariants.{Model, Refuted, Spent}
-use Rattle.gp_workers.specs.Work.{AnswerEach, IsAnswerTo, IsSpentBy}
-use Rattle.gp_analysis.specs.Answered.{AnswersEach, AnswersListed, Evidence, IsAnswer, IsRefuted}
-use Rattle.gp_analysis.specs.Laws.{Laws}
-use Rattle.gp_analysis.specs.Queries.{listed_of, queries_of}
-use Rattle.gp_analysis.specs.EntryRecords.{CanRecordListed, CanRecordEach, IsSound, RecordsAnswer, RecordsEach, RecordsListed}
-use Rattle.gp_analysis.specs.Tickets.{listed_count}
+use Rattle.gp_workers.specs.Prefixes.{TakesPrefixes}
+use Rattle.gp_workers.specs.Work.{AnswerEach, IsSpentBy}
+use Rattle.gp_workers.specs.Work.{IsAnswerTo as IsWorkAnswer}
+use Rattle.gp_analysis.specs.Answered.{AnswersEach, AnswersListed, Evidence, IsAnswer, IsAnswerTo}
+use Rattle.gp_analysis.specs.Listed.{asked_of, listed_of, queries_each, queries_of, query_for}
+use Rattle.gp_analysis.specs.Question.{Holds, IsLawful, IsRefuted, QuestionForm}
+use Rattle.gp_analysis.specs.Recording.{CanRecord, CanRecordAsk, CanRecordEach, IsSound, RecordsAnswer, RecordsAsk, RecordsEach, RecordsListed, left_after}
+use Rattle.gp_analysis.specs.Tickets.{tickets_in, tickets_listed, tickets_of}
 
 -- what is known of a window whose certificates share no steps
 abbrev pub unshared : ℕ → List WorkerRecord → Evidence
 unshared budget workers = record { budget = budget; shared = []; workers = workers }
 
--- a window of a recording that has constraints, and the laws
-pub record IsAnswerable (window : WindowForm) : Type 0 where
-  pub laws : Laws
+-- a window of a recording that is not too large, the laws of the question, and those of certificates and of workers that share
+pub record CanAnswer {Subject Shown : Type 0} (question : QuestionForm Subject Shown) (lists : WindowForm → Subject → List EventId → Type 0) (window : WindowForm) : Type 0 where
+  pub lawful : IsLawful question lists
   pub formed : IsWindow window
-  pub encodable : IsEncodable window
+  pub fits : question.too_large window ≡ None
+  pub refuted : RefutedMeans
+  pub alone : SharesNothing
+  pub sharing : TakesPrefixes
 
--- a refuted query is that of an instance that is not possible
-refuted_is : (window : WindowForm) → IsAnswerable window → (property : PropertyForm) (ids : List EventId) (certificate : Certificate)
-    → IsValidQuery (base_of window) (query_of window property ids) → Refutes (base_of window) (query_of window property ids) certificate → IsRefuted window property ids [] certificate
-refuted_is window can property ids certificate valid refutes = record {
-  impossible = can.laws.complete.impossible window property ids can.formed
-      (λ truth place valuation holds assumed.
-      can.laws.refuted.no_valuation (base_of window) (query_of window property ids) certificate (is_valid can.laws.valid window can.encodable) valid refutes truth place valuation holds assumed);
-  refutes = (can.laws.alone.refutes (base_of window) (query_of window property ids) certificate).1 refutes;
-}
+is_sound : (problem : Problem) (query : Query) (budget : ℕ) (workers : List WorkerRecord) (ticket : ℕ) (answer : WorkAnswer) → IsWorkAnswer problem query budget workers ticket answer → IsSound problem query answer
+is_sound problem query budget workers ticket (Model valuation) is = is
+is_sound problem query budget workers ticket (Refuted certificate) is = tt
+is_sound problem query budget workers ticket (Spent worker from to) is = tt
 
-spent_is : (window : WindowForm) (query : Query) (budget ticket : ℕ) (workers : List WorkerRecord) (worker from to by begins ends : ℕ) → by ≡ worker → begins ≡ from → ends ≡ to
-    → IsSpentBy (base_of window) query budget workers ticket worker from to → IsSpentBy (base_of window) query budget workers ticket by begins ends
-spent_is window query budget ticket workers worker from to by begins ends same first last spent =
-    let one : IsSpentBy (base_of window) query budget workers ticket by from to = subst (λ n. IsSpentBy (base_of window) query budget workers ticket n from to) (sym same) spent in
-    let two : IsSpentBy (base_of window) query budget workers ticket by begins to = subst (λ n. IsSpentBy (base_of window) query budget workers ticket by n to) (sym first) one in
-    subst (λ n. IsSpentBy (base_of window) query budget workers ticket by begins n) (sym last) two
+spent_is : (problem : Problem) (query : Query) (budget ticket : ℕ) (workers : List WorkerRecord) (worker from to by begins ends : ℕ) → by ≡ worker → begins ≡ from → ends ≡ to
+    → IsSpentBy problem query budget workers ticket worker from to → IsSpentBy problem query budget workers ticket by begins ends
+spent_is problem query budget ticket workers worker from to by begins ends same first last spent =
+    let one : IsSpentBy problem query budget workers ticket by from to = subst (λ n. IsSpentBy problem query budget workers ticket n from to) (sym same) spent in
+    let two : IsSpentBy problem query budget workers ticket by begins to = subst (λ n. IsSpentBy problem query budget workers ticket by n to) (sym first) one in
+    subst (λ n. IsSpentBy problem query budget workers ticket by begins n) (sym last) two
 
--- each kind of answer
-one_answered : (window : WindowForm) → IsAnswerable window → (budget ticket : ℕ) (workers : List WorkerRecord) (property : PropertyForm) (ids : List EventId) (answer : WorkAnswer) (told : Answer)
-    → IsValidQuery (base_of window) (query_of window property ids) → IsAnswerTo (base_of window) (query_of window property ids) budget workers ticket answer
-    → RecordsAnswer window property ids answer told → IsAnswer window (unshared budget workers) property ticket ids told
-one_answered window can budget ticket workers property ids (Model valuation) (Found schedule) valid is tells = tells
-one_answered window can budget ticket workers property ids (Model valuation) _ valid is tells = absurd tells
-one_answered window can budget ticket workers property ids (Refuted certificate) (Impossible told) valid is tells =
-    refuted_is window can property ids told valid (subst (Refutes (base_of window) (query_of window property ids)) (sym tells) is)
-one_answered window can budget ticket workers property ids (Refuted certificate) _ valid is tells = absurd tells
-one_answered window can budget ticket workers property ids (Spent worker from to) (Undecided by begins ends) valid is tells =
-    spent_is window (query_of window property ids) budget ticket workers worker from to by begins ends tells.0 tells.1 tells.2 is
-one_answered window can budget ticket workers property ids (Spent worker from to) _ valid is tells = absurd tells
+module _ {Subject Shown : Type 0} (question : QuestionForm Subject Shown) (lists : WindowForm → Subject → List EventId → Type 0) (window : WindowForm) (can : CanAnswer question lists window) (budget : ℕ) (workers : List WorkerRecord) (subject : Subject) where
+  -- what refutes the query of an ask shows that nothing shows it
+  refuted_is : (ids : List EventId) (certificate : Certificate) → lists window subject ids → Refutes (question.problem window) (question.query window subject ids) certificate
+      → IsRefuted question window subject ids [] certificate
+  refuted_is ids certificate listed refutes =
+      let ask = can.lawful.ask window subject ids listed in
+      record {
+        impossible = ask.complete can.formed
+            (λ truth place valuation holds assumed.
+            can.refuted.no_valuation (question.problem window) (question.query window subject ids) certificate (can.lawful.problem window can.fits).valid (ask.query can.fits) refutes truth place valuation holds assumed);
+        refutes = (can.alone.refutes (question.problem window) (question.query window subject ids) certificate).1 refutes;
+      }
 
--- what is left answers the queries that are left, from a later ticket on
-abbrev LeavesAnswers : WindowForm → ℕ → List WorkerRecord → ℕ → List Query → List WorkAnswer → Type 0
-LeavesAnswers window budget workers ticket queries left = (next : ℕ) → next ≡ ticket → AnswerEach (base_of window) budget workers next queries left
+  -- each kind of answer
+  one_answered : (ticket : ℕ) (ids : List EventId) (answer : WorkAnswer) (own : AnswerOf Shown) → lists window subject ids
+      → IsWorkAnswer (question.problem window) (question.query window subject ids) budget workers ticket answer
+      → RecordsAnswer question window subject ids answer own → IsAnswer question window (unshared budget workers) subject ticket ids own
+  one_answered ticket ids (Model valuation) (Found shown) listed is records = records
+  one_answered ticket ids (Model valuation) (Impossible certificate) listed is records = absurd records
+  one_answered ticket ids (Model valuation) (Undecided by begins ends) listed is records = absurd records
+  one_answered ticket ids (Refuted certificate) (Found shown) listed is records = absurd records
+  one_answered ticket ids (Refuted certificate) (Impossible own) listed is records =
+      refuted_is ids own listed (subst (Refutes (question.problem window) (question.query window subject ids)) (sym records) is)
+  one_answered ticket ids (Refuted certificate) (Undecided by begins ends) listed is records = absurd records
+  one_answered ticket ids (Spent worker from to) (Found shown) listed is records = absurd records
+  one_answered ticket ids (Spent worker from to) (Impossible own) listed is records = absurd records
+  one_answered ticket ids (Spent worker from to) (Undecided by begins ends) listed is records =
+      spent_is (question.problem window) (question.query window subject ids) budget ticket workers worker from to by begins ends records.0 records.1 records.2 is
 
-each_answered : (window : WindowForm) → IsAnswerable window → (budget ticket : ℕ) (workers : List WorkerRecord) (property : PropertyForm) (found : List Instance) (more : List Query)
-    (answers : List WorkAnswer) (entries : List Entry) (left : List WorkAnswer) → AllByRecursion (λ (instance : Instance). IsListed window property instance.events) found
-    → AnswerEach (base_of window) budget workers ticket (queries_of window property (Some found) ++ more) answers → RecordsEach window property found answers entries left
-    → AnswersEach window (unshared budget workers) property ticket found entries × LeavesAnswers window budget workers (ticket + length found) more left
-each_answered window can budget ticket workers property [] more answers [] left listed each tells =
-    (tt, λ next is. subst (λ others. AnswerEach (base_of window) budget workers next more others) tells (subst (λ n. AnswerEach (base_of window) budget workers n more answers) (sym (is ∙ add-zero ticket)) each))
-each_answered window can budget ticket workers property [] more answers (entry ∷ entries) left listed each tells = absurd tells
-each_answered window can budget ticket workers property (instance ∷ found) more [] entries left listed each tells = absurd each
-each_answered window can budget ticket workers property (instance ∷ found) more (answer ∷ answers) [] left listed each tells = absurd tells
-each_answered window can budget ticket workers property (instance ∷ found) more (answer ∷ answers) (entry ∷ entries) left listed each tells =
-    let valid = query_valid can.laws.valid window can.encodable property instance.events listed.0.few listed.0.instance in
-    let rest = each_answered window can budget (ticket + 1) workers property found more answers entries left listed.1 each.1 tells.2 in
-    ((tells.0, one_answered window can budget ticket workers property instance.events answer entry.answer valid each.0 tells.1, rest.0), λ next is. rest.1 next (omega (arith, is)))
+  -- an ask with the answer that it has already, if any
+  ask_answered : (ticket : ℕ) (ask : Instance) (given : Option (AnswerOf Shown)) (more : List Query) (answers : List WorkAnswer) (own : AnswerOf Shown) → lists window subject ask.events
+      → question.given window subject ask.events ≡ given
+      → AnswerEach (question.problem window) budget workers ticket (query_for question window subject ask given ++ more) answers
+      → RecordsAsk question window subject ask.events given answers own
+      → IsAnswerTo question window (unshared budget workers) subject ticket ask.events given own
+      × AnswerEach (question.problem window) budget workers (ticket + tickets_of given) more (left_after given answers)
+  ask_answered ticket ask None more [] own listed is each records = absurd records
+  ask_answered ticket ask None more (answer ∷ answers) own listed is each records = (one_answered ticket ask.events answer own listed each.0 records, each.1)
+  ask_answered ticket ask (Some given) more answers own listed is each records = (
+    (records, subst (Holds question window subject ask.events []) (sym records) ((can.lawful.ask window subject ask.events listed).given given is)),
+    subst (λ n. AnswerEach (question.problem window) budget workers n more answers) (sym (add-zero ticket)) each,
+  )
 
--- what is told of a property answers it
-pub found_answered : (window : WindowForm) → IsAnswerable window → (budget ticket : ℕ) (workers : List WorkerRecord) (property : PropertyForm) (due : Result (List Instance) InstancesFault) (more : List Query)
-    (answers : List WorkAnswer) (told : PropertyBody) (left : List WorkAnswer) → AreListed window property due
-    → AnswerEach (base_of window) budget workers ticket (queries_of window property (listed_of due) ++ more) answers → RecordsListed window property (listed_of due) answers told left
-    → AnswersListed window (unshared budget workers) property ticket due told × LeavesAnswers window budget workers (ticket + listed_count due) more left
-found_answered window can budget ticket workers property (Ok found) more answers (body.Entries entries) left listed each tells =
-    each_answered window can budget ticket workers property found more answers entries left listed.1 each tells
-found_answered window can budget ticket workers property (Ok found) more answers body.TooMany left listed each tells = absurd tells
-found_answered window can budget ticket workers property (Err TooMany) more answers body.TooMany left listed each tells =
-    (tt, λ next is. subst (λ others. AnswerEach (base_of window) budget workers next more others) tells (subst (λ n. AnswerEach (base_of window) budget workers n more answers) (sym (is ∙ add-zero ticket)) each))
-found_answered window can budget ticket workers property (Err TooMany) more answers (body.Entries entries) left listed each tells = absurd tells
-found_answered window can budget ticket workers property (Err Memory) more answers told left listed each tells = absurd listed
+  each_answered : (ticket : ℕ) (asks : List Instance) (more : List Query) (answers : List WorkAnswer) (entries : List (EntryOf Shown)) (left : List WorkAnswer) → AllByRecursion (λ (ask : Instance). lists window subject ask.events) asks
+      → AnswerEach (question.problem window) budget workers ticket (queries_each question window subject asks ++ more) answers
+      → RecordsEach question window subject (map (asked_of question window subject) asks) answers entries left
+      → AnswersEach question window (unshared budget workers) subject ticket asks entries
+      × AnswerEach (question.problem window) budget workers (ticket + tickets_in question window subject asks) more left
+  each_answered ticket [] more answers [] left listed each records = (
+    tt,
+    subst (λ n. AnswerEach (question.problem window) budget workers n more left) (sym (add-zero ticket)) (subst (λ xs. AnswerEach (question.problem window) budget workers ticket more xs) records each),
+  )
+  each_answered ticket [] more answers (entry ∷ entries) left listed each records = absurd records
+  each_answered ticket (ask ∷ asks) more answers [] left listed each records = absurd records
+  each_answered ticket (ask ∷ asks) more answers (entry ∷ entries) left listed each records =
+      let given = question.given window subject ask.events in
+      let one = ask_answered ticket ask given (queries_each question window subject asks ++ more) answers entry.answer listed.0 refl
+      (subst (λ qs. AnswerEach (question.problem window) budget workers ticket qs answers)
+      (append_assoc (query_for question window subject ask given) (queries_each question window subject asks) more) each) records.1 in
+      let rest = each_answered (ticket + tickets_of given) asks more (left_after given answers) entries left listed.1 one.1 records.2 in (
+        (records.0, one.0, rest.0),
+        subst (λ n. AnswerEach (question.problem window) budget workers n more left) (add_assoc ticket (tickets_of given) (tickets_in question window subject asks)) rest.1,
+      )
 
-is_sound : (window : WindowForm) (query : Query) (budget ticket : ℕ) (workers : List WorkerRecord) (answer : WorkAnswer) → IsAnswerTo (base_of window) query budget workers ticket answer → IsSound (base_of window) query answer
-is_sound window query budget ticket workers (Model valuation) is = is
-is_sound window query budget ticket workers (Refuted certificate) is = tt
-is_sound window query budget ticket workers (Spent worker from to) is = tt
+  -- what is recorded of a subject answers it
+  pub listed_answered : (ticket : ℕ) (asks : Result (List Instance) InstancesFault) (more : List Query) (answers : List WorkAnswer) (own : PropertyBodyOf Shown) (left : List WorkAnswer)
+      → ListsEach (lists window subject) asks
+      → AnswerEach (question.problem window) budget workers ticket (queries_of question window subject asks ++ more) answers
+      → RecordsListed question window subject (listed_of question window subject asks) answers own left
+      → AnswersListed question window (unshared budget workers) subject ticket asks own
+      × AnswerEach (question.problem window) budget workers (ticket + tickets_listed question window subject asks) more left
+  listed_answered ticket (Ok asks) more answers (body.Entries entries) left listed each records = each_answered ticket asks more answers entries left listed.1 each records
+  listed_answered ticket (Ok asks) more answers body.TooMany left listed each records = absurd records
+  listed_answered ticket (Err TooMany) more answers body.TooMany left listed each records = (
+    tt,
+    subst (λ n. AnswerEach (question.problem window) budget workers n more left) (sym (add-zero ticket)) (subst (λ xs. AnswerEach (question.problem window) budget workers ticket more xs) records each),
+  )
+  listed_answered ticket (Err TooMany) more answers (body.Entries entries) left listed each records = absurd records
+  listed_answered ticket (Err Memory) more answers own left listed each records = absurd listed
 
-can_tell_each : (window : WindowForm) (budget ticket : ℕ) (workers : List WorkerRecord) (property : PropertyForm) (found : List Instance) (more : List Query) (answers : List WorkAnswer)
-    → AllByRecursion (λ (instance : Instance). IsListed window property instance.events) found
-    → AnswerEach (base_of window) budget workers ticket (queries_of window property (Some found) ++ more) answers → CanRecordEach window property found answers
-can_tell_each window budget ticket workers property [] more answers listed each = tt
-can_tell_each window budget ticket workers property (instance ∷ found) more [] listed each = absurd each
-can_tell_each window budget ticket workers property (instance ∷ found) more (answer ∷ answers) listed each = (
-  listed.0.instance,
-  is_sound window (query_of window property instance.events) budget ticket workers answer each.0,
-  can_tell_each window budget (ticket + 1) workers property found more answers listed.1 each.1,
-)
+  ask_can : (ticket : ℕ) (ask : Instance) (given : Option (AnswerOf Shown)) (more : List Query) (answers : List WorkAnswer)
+      → AnswerEach (question.problem window) budget workers ticket (query_for question window subject ask given ++ more) answers
+      → CanRecordAsk question lists window subject ask.events given answers
+      × AnswerEach (question.problem window) budget workers (ticket + tickets_of given) more (left_after given answers)
+  ask_can ticket ask None more [] each = absurd each
+  ask_can ticket ask None more (answer ∷ answers) each =
+      (is_sound (question.problem window) (question.query window subject ask.events) budget workers ticket answer each.0, each.1)
+  ask_can ticket ask (Some given) more answers each =
+      (tt, subst (λ n. AnswerEach (question.problem window) budget workers n more answers) (sym (add-zero ticket)) each)
 
--- the first of the answers can be told of a property
-pub can_tell : (window : WindowForm) (budget ticket : ℕ) (workers : List WorkerRecord) (property : PropertyForm) (due : Result (List Instance) InstancesFault) (more : List Query) (answers : List WorkAnswer)
-    → AreListed window property due → AnswerEach (base_of window) budget workers ticket (queries_of window property (listed_of due) ++ more) answers → CanRecordListed window property (listed_of due) answers
-can_tell window budget ticket workers property (Ok found) more answers listed each = can_tell_each window budget ticket workers property found more answers listed.1 each
-can_tell window budget ticket workers property (Err fault) more answers listed each = tt
+  each_can : (ticket : ℕ) (asks : List Instance) (more : List Query) (answers : List WorkAnswer) → AllByRecursion (λ (ask : Instance). lists window subject ask.events) asks
+      → AnswerEach (question.problem window) budget workers ticket (queries_each question window subject asks ++ more) answers
+      → CanRecordEach question lists window subject (map (asked_of question window subject) asks) answers
+  each_can ticket [] more answers listed each = tt
+  each_can ticket (ask ∷ asks) more answers listed each =
+      let given = question.given window subject ask.events in
+      let one = ask_can ticket ask given (queries_each question window subject asks ++ more) answers
+      (subst (λ qs. AnswerEach (question.problem window) budget workers ticket qs answers)
+      (append_assoc (query_for question window subject ask given) (queries_each question window subject asks) more) each) in
+      (listed.0, one.0, each_can (ticket + tickets_of given) asks more (left_after given answers) listed.1 one.1)
+
+  -- the first of the answers can be recorded of a subject
+  pub can_record : (ticket : ℕ) (asks : Result (List Instance) InstancesFault) (more : List Query) (answers : List WorkAnswer)
+      → ListsEach (lists window subject) asks
+      → AnswerEach (question.problem window) budget workers ticket (queries_of question window subject asks ++ more) answers
+      → CanRecord question lists window subject (listed_of question window subject asks) answers
+  can_record ticket (Ok asks) more answers listed each = each_can ticket asks more answers listed.1 each
+  can_record ticket (Err fault) more answers listed each = tt

@@ -1,104 +1,170 @@
--- What answers a window can be told by a text: it has few entries, small numbers and no other workers than there are.
-use Rattle.std.proofs.Common.{◌≡◌, refl, ap, ℕ, zero, suc, ◌+◌, ◌-◌, ◌^◌, ◌<◌, ◌≤◌, List, [], ◌∷◌, ◌++◌, length, Result, Ok, Err, All, IsSomeAnd, slice_get, arith}
+-- What answers a window can be written: it has few entries, small numbers and no other workers than there are.
+use Rattle.std.proofs.Common.{◌≡◌, refl, sym, subst, ap, ℕ, zero, suc, ◌+◌, ◌-◌, ◌^◌, ◌<◌, ◌≤◌, List, [], ◌∷◌, ◌++◌, length, Option, Some, None, Result, Ok, Err, All, IsSomeAnd, slice_get, arith}
 use Rattle.std.specs.List.{AllByRecursion}
 use Rattle.std.proofs.lemmas.List.{length-append}
 use Rattle.std.proofs.lemmas.List.Elements.{All-cons, All-nil, All-weaker}
+use Rattle.gp_certificate.specs.declared.certificate.Certificate.{Certificate}
+use Rattle.gp_certificate.specs.declared.step.Step.{Step}
+use Rattle.gp_certificate.specs.Certificate.{StepsCheck}
 use Rattle.gp_clause.specs.declared.edge.Edge.{Edge}
 use Rattle.gp_clause.specs.declared.kind.Kind.{Kind}
 use Rattle.gp_clause.specs.declared.lit.Lit.{Lit}
 use Rattle.gp_clause.specs.declared.problem.Query.{Query}
-use Rattle.gp_clause.specs.Problem.{IsValidProblem, IsValidQuery}
-use Rattle.gp_constraint.specs.Base.{base_of}
-use Rattle.gp_constraint.specs.EncodedLaws.{is_valid, query_valid}
-use Rattle.gp_constraint.specs.Query.{query_of}
+use Rattle.gp_clause.specs.Problem.{IsValidQuery}
 use Rattle.gp_derivation.specs.declared.record.WorkerRecord.{WorkerRecord}
-use Rattle.gp_certificate.specs.declared.step.Step.{Step}
-use Rattle.gp_certificate.specs.Certificate.{StepsCheck}
 use Rattle.gp_instance.specs.declared.instance.Instance.{Instance}
 use Rattle.gp_instance.specs.declared.instance.InstancesFault.{InstancesFault}
 use Rattle.gp_instance.specs.declared.instance.InstancesFault.TheVariants.{Memory, TooMany}
-use Rattle.gp_instance.specs.Instances.{due_instances}
-use Rattle.gp_instance.specs.ListedLaws.{AreListed, IsListed, are_listed}
-use Rattle.gp_property.specs.Property.{IsProperty}
-use Rattle.gp_property.specs.PropertyForm.{PropertyForm}
-use Rattle.gp_report.specs.Records.{Answer, Entry, PropertyBody, PropertyRecord}
+use Rattle.gp_instance.specs.ListedLaws.{ListsEach}
+use Rattle.gp_report.specs.declared.record.AnswerOf.{AnswerOf}
 use Rattle.gp_report.specs.declared.record.AnswerOf.TheVariants.{Found, Impossible, Undecided}
+use Rattle.gp_report.specs.declared.record.EntryOf.{EntryOf}
+use Rattle.gp_report.specs.declared.record.PropertyBodyOf.{PropertyBodyOf}
 use Rattle.gp_report.specs.declared.record.PropertyBodyOf.TheVariants as body
-use Rattle.gp_report.specs.Report.{IsEntry, IsPropertyBody, IsPropertyRecord, IsPrintableAnswer, IsPrintableStep}
+use Rattle.gp_report.specs.declared.record.PropertyRecordOf.{PropertyRecordOf}
+use Rattle.gp_report.specs.declared.record.WindowBodyOf.TheVariants as recorded
+use Rattle.gp_report.specs.declared.record.WindowRecordOf.{WindowRecordOf}
+use Rattle.gp_report.specs.Report.{IsEntry, IsPropertyBody, IsPropertyRecord, IsPrintableAnswer, IsPrintableStep, IsWindowRecord}
 use Rattle.gp_window.specs.declared.schedule.EventId.{EventId}
 use Rattle.gp_window.specs.WindowForm.{WindowForm}
-use Rattle.gp_analysis.specs.Answered.{AnswersEach, AnswersListed, AnswersProperties, IsAnswer}
-use Rattle.gp_analysis.specs.Tickets.{listed_count}
-use Rattle.gp_analysis.proofs.Evidence.{IsAnswerable, unshared}
+use Rattle.gp_workers.specs.declared.work.WindowWork.{WindowWork}
+use Rattle.gp_workers.specs.Record.{EachOnce}
+use Rattle.gp_workers.specs.Sharing.{AllShared}
+use Rattle.gp_workers.specs.Work.{IsWork}
+use Rattle.gp_clause.specs.declared.problem.Problem.{Problem}
+use Rattle.gp_analysis.specs.declared.question.TooLarge.{TooLarge}
+use Rattle.gp_analysis.specs.Answered.{AnswersBody, AnswersEach, AnswersListed, AnswersSubjects, AreWorkers, IsAnswerTo}
+use Rattle.gp_analysis.specs.Listed.{queries_from}
+use Rattle.gp_analysis.specs.Question.{IsRefuted, ListsAsks, QuestionForm}
+use Rattle.gp_analysis.specs.Recorded.{RecordsWindow}
+use Rattle.gp_analysis.specs.Tickets.{subjects_tickets, tickets_listed, tickets_of}
+use Rattle.gp_analysis.proofs.Answering.{queries_count}
+use Rattle.gp_analysis.proofs.Evidence.{CanAnswer, unshared}
 
-told_steps : (edges : List Edge) (kinds : List Kind) (earlier : List (List Lit)) (steps : List Step) → length kinds < 2 ^ 31 - 1 → StepsCheck edges kinds earlier steps → All IsPrintableStep steps
-told_steps edges kinds earlier [] few checks = All-nil IsPrintableStep
-told_steps edges kinds earlier (step ∷ steps) few checks =
+small_steps : (edges : List Edge) (kinds : List Kind) (earlier : List (List Lit)) (steps : List Step) → length kinds < 2 ^ 31 - 1 → StepsCheck edges kinds earlier steps → All IsPrintableStep steps
+small_steps edges kinds earlier [] few checks = All-nil IsPrintableStep
+small_steps edges kinds earlier (step ∷ steps) few checks =
     All-cons IsPrintableStep step steps
     (All-weaker (λ (lit : Lit). lit.variable < length kinds) (λ (lit : Lit). lit.variable < 2 ^ 31 - 1) (λ lit below. omega (arith, below, few)) step.clause checks.0.passes.in_range)
-    (told_steps edges kinds (earlier ++ step.clause ∷ []) steps few checks.1)
-
-few_variables : (window : WindowForm) (query : Query) → IsValidProblem (base_of window) → IsValidQuery (base_of window) query → length ((base_of window).kinds ++ query.locals) < 2 ^ 31 - 1
-few_variables window query problem valid =
-    let both = length-append (base_of window).kinds query.locals in
-    omega (arith, both, problem.few_kinds, valid.few_locals)
+    (small_steps edges kinds (earlier ++ step.clause ∷ []) steps few checks.1)
 
 within : (P : WorkerRecord → Type 0) (workers : List WorkerRecord) (place : ℕ) → IsSomeAnd (slice_get workers place) P → place < length workers
 within P [] place own = absurd own
 within P (worker ∷ workers) zero own = omega arith
 within P (worker ∷ workers) (suc place) own = let rest = within P workers place own in omega (arith, rest)
 
-told_answer : (window : WindowForm) → IsAnswerable window → (budget ticket : ℕ) (workers : List WorkerRecord) → length workers ≤ 16 → (property : PropertyForm) (ids : List EventId) (answer : Answer)
-    → IsValidQuery (base_of window) (query_of window property ids) → IsAnswer window (unshared budget workers) property ticket ids answer → IsPrintableAnswer answer
-told_answer window can budget ticket workers few property ids (Found schedule) valid is = tt
-told_answer window can budget ticket workers few property ids (Impossible certificate) valid is =
-    let refutes = (can.laws.alone.refutes (base_of window) (query_of window property ids) certificate).0 is.refutes in
-    told_steps (base_of window).edges ((base_of window).kinds ++ (query_of window property ids).locals) (base_of window).clauses certificate.steps
-    (few_variables window (query_of window property ids) (is_valid can.laws.valid window can.encodable) valid) refutes.checks
-told_answer window can budget ticket workers few property ids (Undecided worker from to) valid is =
-    let below : worker - 1 < length workers = within _ workers (worker - 1) is.own in
-    (is.counts, omega (arith, below, few))
-
--- the entries of a property can be told, and are as many as its instances
-pub record AreFit (found : List Instance) (entries : List Entry) : Type 0 where
-  pub size : length entries ≡ length found
+-- the entries of a subject can be written, and are as many as its asks
+pub record AreFit {Shown : Type 0} (asks : List Instance) (entries : List (EntryOf Shown)) : Type 0 where
+  pub size : length entries ≡ length asks
   pub each : All IsEntry entries
 
-told_entries : (window : WindowForm) → IsAnswerable window → (budget ticket : ℕ) (workers : List WorkerRecord) → length workers ≤ 16 → (property : PropertyForm) (found : List Instance) (entries : List Entry)
-    → AllByRecursion (λ (instance : Instance). IsListed window property instance.events) found → AnswersEach window (unshared budget workers) property ticket found entries → AreFit found entries
-told_entries window can budget ticket workers few property [] [] listed each = record { size = refl; each = All-nil IsEntry }
-told_entries window can budget ticket workers few property [] (entry ∷ entries) listed each = absurd each
-told_entries window can budget ticket workers few property (instance ∷ found) [] listed each = absurd each
-told_entries window can budget ticket workers few property (instance ∷ found) (entry ∷ entries) listed each =
-    let rest = told_entries window can budget (ticket + 1) workers few property found entries listed.1 each.2 in
-    let size : length entry.events ≡ length instance.events = ap (λ (ids : List EventId). length ids) each.0 in
-    let valid = query_valid can.laws.valid window can.encodable property instance.events listed.0.few listed.0.instance in
-    record {
-      size = ap suc rest.size;
-      each = All-cons IsEntry entry entries (record {
-        some = omega (arith, size, listed.0.some);
-        few = omega (arith, size, listed.0.few);
-        answer = told_answer window can budget ticket workers few property instance.events entry.answer valid each.1;
-      }) rest.each;
+module _ {Subject Shown : Type 0} (question : QuestionForm Subject Shown) (lists : WindowForm → Subject → List EventId → Type 0) (window : WindowForm) (can : CanAnswer question lists window) (budget : ℕ) (workers : List WorkerRecord) (few : length workers ≤ 16) where
+  few_variables : (query : Query) → IsValidQuery (question.problem window) query → length ((question.problem window).kinds ++ query.locals) < 2 ^ 31 - 1
+  few_variables query valid =
+      let both = length-append (question.problem window).kinds query.locals in
+      let problem = (can.lawful.problem window can.fits).valid in
+      omega (arith, both, problem.few_kinds, valid.few_locals)
+
+  fit_refuted : (subject : Subject) (ids : List EventId) (certificate : Certificate) → lists window subject ids → IsRefuted question window subject ids [] certificate → All IsPrintableStep certificate.steps
+  fit_refuted subject ids certificate listed is =
+      let query = question.query window subject ids in
+      let refutes = (can.alone.refutes (question.problem window) query certificate).0 is.refutes in
+      small_steps (question.problem window).edges ((question.problem window).kinds ++ query.locals) (question.problem window).clauses certificate.steps
+      (few_variables query ((can.lawful.ask window subject ids listed).query can.fits)) refutes.checks
+
+  fit_answer : (ticket : ℕ) (subject : Subject) (ids : List EventId) (given : Option (AnswerOf Shown)) (answer : AnswerOf Shown) → lists window subject ids
+      → IsAnswerTo question window (unshared budget workers) subject ticket ids given answer → IsPrintableAnswer answer
+  fit_answer ticket subject ids None (Found shown) listed is = tt
+  fit_answer ticket subject ids None (Impossible certificate) listed is = fit_refuted subject ids certificate listed is
+  fit_answer ticket subject ids None (Undecided worker from to) listed is =
+      let below : worker - 1 < length workers = within _ workers (worker - 1) is.own in
+      (is.counts, omega (arith, below, few))
+  fit_answer ticket subject ids (Some given) (Found shown) listed is = tt
+  fit_answer ticket subject ids (Some given) (Impossible certificate) listed is = fit_refuted subject ids certificate listed is.1
+  fit_answer ticket subject ids (Some given) (Undecided worker from to) listed is = absurd is.1
+
+  fit_entries : (ticket : ℕ) (subject : Subject) (asks : List Instance) (entries : List (EntryOf Shown)) → AllByRecursion (λ (ask : Instance). lists window subject ask.events) asks
+      → AnswersEach question window (unshared budget workers) subject ticket asks entries → AreFit asks entries
+  fit_entries ticket subject [] [] listed each = record { size = refl; each = All-nil IsEntry }
+  fit_entries ticket subject [] (entry ∷ entries) listed each = absurd each
+  fit_entries ticket subject (ask ∷ asks) [] listed each = absurd each
+  fit_entries ticket subject (ask ∷ asks) (entry ∷ entries) listed each =
+      let given = question.given window subject ask.events in
+      let rest = fit_entries (ticket + tickets_of given) subject asks entries listed.1 each.2 in
+      let size : length entry.events ≡ length ask.events = ap (λ (ids : List EventId). length ids) each.0 in
+      let own = can.lawful.ask window subject ask.events listed.0 in
+      record {
+        size = ap suc rest.size;
+        each = All-cons IsEntry entry entries (record {
+          some = omega (arith, size, own.some);
+          few = omega (arith, size, own.few);
+          answer = fit_answer ticket subject ask.events given entry.answer listed.0 each.1;
+        }) rest.each;
+      }
+
+  fit_body : (ticket : ℕ) (subject : Subject) (asks : Result (List Instance) InstancesFault) (own : PropertyBodyOf Shown) → ListsEach (lists window subject) asks
+      → AnswersListed question window (unshared budget workers) subject ticket asks own → IsPropertyBody own
+  fit_body ticket subject (Ok asks) (body.Entries entries) listed answers =
+      let fit = fit_entries ticket subject asks entries listed.1 answers in
+      (omega (arith, fit.size, listed.0), fit.each)
+  fit_body ticket subject (Ok asks) body.TooMany listed answers = tt
+  fit_body ticket subject (Err fault) body.TooMany listed answers = tt
+  fit_body ticket subject (Err TooMany) (body.Entries entries) listed answers = absurd answers
+  fit_body ticket subject (Err Memory) (body.Entries entries) listed answers = absurd listed
+
+  -- the records of the subjects can be written
+  fit_records : (number ticket : ℕ) (subjects : List Subject) (records : List (PropertyRecordOf Shown)) → AllByRecursion (ListsAsks question lists) subjects
+      → AnswersSubjects question window (unshared budget workers) number ticket subjects records → All IsPropertyRecord records
+  fit_records number ticket [] [] each answers = All-nil IsPropertyRecord
+  fit_records number ticket [] (own ∷ records) each answers = absurd answers
+  fit_records number ticket (subject ∷ subjects) [] each answers = absurd answers
+  fit_records number ticket (subject ∷ subjects) (own ∷ records) each answers =
+      All-cons IsPropertyRecord own records
+      (fit_body ticket subject (question.asks window subject number) own.body (each.0 window number) answers.1)
+      (fit_records (number + 1) (ticket + tickets_listed question window subject (question.asks window subject number)) subjects records each.1 answers.2)
+
+-- what is recorded of a window that is not too large, once all its subjects are answered
+pub is_recorded : {Subject Shown : Type 0} (question : QuestionForm Subject Shown) (lists : WindowForm → Subject → List EventId → Type 0) (window : WindowForm) → CanAnswer question lists window
+    → (count budget number : ℕ) → count ≤ 16 → (problem : Problem) (queries : List Query) (work : WindowWork) (shared : List Step) (records : List (PropertyRecordOf Shown))
+    → number ≡ window.number → problem ≡ question.problem window → queries ≡ queries_from question window 0 question.subjects → IsWork problem queries count budget work → (2 ≤ count → AllShared problem count work) → shared ≡ []
+    → AnswersSubjects question window (unshared budget work.records) 0 0 question.subjects records
+    → RecordsWindow question count budget window (record { number = number; shared = shared; body = recorded.Answers records; records = work.records })
+is_recorded {Subject} {Shown} question lists window can count budget number most problem queries work shared records at same are is sharing none answers =
+    subst (λ (steps : List Step). RecordsWindow question count budget window (record { number = number; shared = steps; body = recorded.Answers records; records = work.records })) (sym none) done
+  where
+    asked : IsWork (question.problem window) (queries_from question window 0 question.subjects) count budget work
+    asked = subst (λ qs. IsWork (question.problem window) qs count budget work) are (subst (λ (p : Problem). IsWork p queries count budget work) same is)
+
+    own : AreWorkers (question.problem window) count (subjects_tickets question window 0 question.subjects) work.records
+    own = record {
+      counted = asked.workers;
+      each = asked.records;
+      once = subst (λ n. EachOnce n work.records) (queries_count question window 0 question.subjects) asked.once;
+      shared = λ two. can.sharing (question.problem window) count work (subst (λ (p : Problem). AllShared p count work) same (sharing two));
     }
 
-told_body : (window : WindowForm) → IsAnswerable window → (budget ticket : ℕ) (workers : List WorkerRecord) → length workers ≤ 16 → (property : PropertyForm) (due : Result (List Instance) InstancesFault) (told : PropertyBody)
-    → AreListed window property due → AnswersListed window (unshared budget workers) property ticket due told → IsPropertyBody told
-told_body window can budget ticket workers few property (Ok found) (body.Entries entries) listed answers =
-    let fit = told_entries window can budget ticket workers few property found entries listed.1 answers in
-    (omega (arith, fit.size, listed.0), fit.each)
-told_body window can budget ticket workers few property (Ok found) body.TooMany listed answers = tt
-told_body window can budget ticket workers few property (Err fault) body.TooMany listed answers = tt
-told_body window can budget ticket workers few property (Err TooMany) (body.Entries entries) listed answers = absurd answers
-told_body window can budget ticket workers few property (Err Memory) (body.Entries entries) listed answers = absurd listed
+    done : RecordsWindow question count budget window (record { number = number; shared = []; body = recorded.Answers records; records = work.records })
+    done = record {
+      number = at;
+      answered = subst (λ large. AnswersBody question window count (unshared budget work.records) large (recorded.Answers records)) (sym can.fits) (answers, own);
+      fits = record {
+        shared = All-nil IsPrintableStep;
+        first_format = λ one. refl;
+        body = fit_records question lists window can budget work.records (omega (arith, asked.workers, most)) 0 0 question.subjects records can.lawful.listed answers;
+      };
+    }
 
--- the records of the properties can be told
-pub told_records : (window : WindowForm) → IsAnswerable window → (budget number ticket : ℕ) (workers : List WorkerRecord) → length workers ≤ 16 → (properties : List PropertyForm) (records : List PropertyRecord)
-    → AllByRecursion IsProperty properties → AnswersProperties window (unshared budget workers) number ticket properties records → All IsPropertyRecord records
-told_records window can budget number ticket workers few [] [] each answers = All-nil IsPropertyRecord
-told_records window can budget number ticket workers few [] (told ∷ records) each answers = absurd answers
-told_records window can budget number ticket workers few (property ∷ properties) [] each answers = absurd answers
-told_records window can budget number ticket workers few (property ∷ properties) (told ∷ records) each answers =
-    All-cons IsPropertyRecord told records
-    (told_body window can budget ticket workers few property (due_instances window property number) told.body (are_listed can.laws.atoms window property number each.0) answers.1)
-    (told_records window can budget (number + 1) (ticket + listed_count (due_instances window property number)) workers few properties records each.1 answers.2)
+-- what is recorded of a window that is too large
+pub is_too_large : {Subject Shown : Type 0} (question : QuestionForm Subject Shown) (window : WindowForm) (count budget number : ℕ) (large : TooLarge) (shared : List Step) (workers : List WorkerRecord)
+    → number ≡ window.number → question.too_large window ≡ Some large → shared ≡ [] → workers ≡ []
+    → RecordsWindow question count budget window (record { number = number; shared = shared; body = recorded.TooLarge large.events large.clauses; records = workers })
+is_too_large {Subject} {Shown} question window count budget number large shared workers at is none idle =
+    subst (λ (steps : List Step). RecordsWindow question count budget window (record { number = number; shared = steps; body = recorded.TooLarge large.events large.clauses; records = workers })) (sym none)
+    (subst (λ (others : List WorkerRecord). RecordsWindow question count budget window (record { number = number; shared = []; body = recorded.TooLarge large.events large.clauses; records = others })) (sym idle) done)
+  where
+    done : RecordsWindow question count budget window (record { number = number; shared = []; body = recorded.TooLarge large.events large.clauses; records = [] })
+    done = record {
+      number = at;
+      answered = subst (λ due. AnswersBody question window count (unshared budget []) due (recorded.TooLarge large.events large.clauses)) (sym is) (refl, refl, refl);
+      fits = record { shared = All-nil IsPrintableStep; first_format = λ one. refl; body = refl };
+    }

@@ -1,45 +1,31 @@
--- What a kept report says of a recording and its properties: each instance of each window is answered once, with evidence.
-use Rattle.std.specs.Prelude.{ℕ, ◌≡◌, ◌+◌, true, List, [], ◌∷◌, Result, Ok, Err, length, map, All}
+-- What is recorded of a recording and a question: each ask of each window is answered once, with evidence.
+use Rattle.std.specs.Prelude.{ℕ, ◌≡◌, ◌+◌, ◌≤◌, List, [], ◌∷◌, Option, Some, None, Result, Ok, Err, length, All}
 use Rattle.std.specs.List.{AllZip}
-use Rattle.gp_clause.specs.declared.problem.Problem.{Problem}
-use Rattle.gp_constraint.specs.declared.fault.BaseFault.{BaseFault}
-use Rattle.gp_constraint.specs.declared.fault.BaseFault.TheVariants.{TooLarge}
-use Rattle.gp_constraint.specs.Base.{base_of}
-use Rattle.gp_constraint.specs.Encoded.{base_due}
-use Rattle.gp_constraint.specs.Query.{query_of}
-use Rattle.gp_certificate.specs.declared.certificate.Certificate.{Certificate}
-use Rattle.gp_derivation.specs.declared.record.WorkerRecord.{WorkerRecord}
 use Rattle.gp_certificate.specs.declared.step.Step.{Step}
-use Rattle.gp_certificate.specs.Shared.{RefutesOver}
+use Rattle.gp_clause.specs.declared.problem.Problem.{Problem}
+use Rattle.gp_derivation.specs.declared.record.WorkerRecord.{WorkerRecord}
 use Rattle.gp_instance.specs.declared.instance.Instance.{Instance}
 use Rattle.gp_instance.specs.declared.instance.InstancesFault.{InstancesFault}
 use Rattle.gp_instance.specs.declared.instance.InstancesFault.TheVariants.{TooMany}
-use Rattle.gp_instance.specs.Instances.{due_instances}
-use Rattle.gp_instance.specs.Matches.{matches_events}
-use Rattle.gp_property.specs.PropertyForm.{PropertyForm}
-use Rattle.gp_replay.specs.Feasible.{IsFeasible}
-use Rattle.gp_report.specs.Records.{Answer, Entry, PropertyBody, PropertyRecord, WindowBody, WindowRecord}
+use Rattle.gp_report.specs.declared.record.AnswerOf.{AnswerOf}
 use Rattle.gp_report.specs.declared.record.AnswerOf.TheVariants.{Found, Impossible, Undecided}
+use Rattle.gp_report.specs.declared.record.EntryOf.{EntryOf}
+use Rattle.gp_report.specs.declared.record.PropertyBodyOf.{PropertyBodyOf}
 use Rattle.gp_report.specs.declared.record.PropertyBodyOf.TheVariants as body
-use Rattle.gp_report.specs.declared.record.WindowBodyOf.TheVariants as told
-use Rattle.gp_report.specs.ReportForm.{ReportForm}
+use Rattle.gp_report.specs.declared.record.PropertyRecordOf.{PropertyRecordOf}
+use Rattle.gp_report.specs.declared.record.WindowBodyOf.{WindowBodyOf}
+use Rattle.gp_report.specs.declared.record.WindowBodyOf.TheVariants as recorded
+use Rattle.gp_report.specs.declared.record.WindowRecordOf.{WindowRecordOf}
 use Rattle.gp_window.specs.declared.schedule.EventId.{EventId}
 use Rattle.gp_window.specs.RecordingForm.{RecordingForm}
-use Rattle.gp_window.specs.WindowForm.{WindowForm, numbers_from, window_of}
-use Rattle.gp_witness.specs.Possible.{IsPossible}
+use Rattle.gp_window.specs.WindowForm.{WindowForm}
+use Rattle.gp_window.specs.Windows.{all_windows}
+use Rattle.gp_workers.specs.Prefixes.{AreSharing}
 use Rattle.gp_workers.specs.Record.{EachOnce, IsWorkerRecord}
 use Rattle.gp_workers.specs.Work.{IsSpentBy}
-use Rattle.gp_analysis.specs.Tickets.{listed_count, properties_count}
-
--- found: the schedule is feasible and matches the instance
-pub record IsShown (window : WindowForm) (property : PropertyForm) (ids schedule : List EventId) : Type 0 where
-  pub feasible : IsFeasible window schedule
-  pub matches : matches_events property ids schedule ≡ true
-
--- impossible: no feasible schedule matches the instance, and the certificate refutes its query over the shared steps
-pub record IsRefuted (window : WindowForm) (property : PropertyForm) (ids : List EventId) (shared : List Step) (certificate : Certificate) : Type 0 where
-  pub impossible : IsPossible window property ids → ⊥
-  pub refutes : RefutesOver (base_of window) shared (query_of window property ids) certificate
+use Rattle.gp_analysis.specs.declared.question.TooLarge.{TooLarge}
+use Rattle.gp_analysis.specs.Question.{Holds, IsRefuted, QuestionForm}
+use Rattle.gp_analysis.specs.Tickets.{subjects_tickets, tickets_listed, tickets_of}
 
 -- what is known of the window to which answers belong: the budget, the shared steps, and the workers' records
 pub record Evidence : Type 0 where
@@ -47,58 +33,63 @@ pub record Evidence : Type 0 where
   pub shared : List Step
   pub workers : List WorkerRecord
 
--- what an answer says of the instance with a ticket; undecided: this worker's turn with the ticket is spent on these entries
-abbrev pub IsAnswer : WindowForm → Evidence → PropertyForm → ℕ → List EventId → Answer → Type 0
-IsAnswer window evidence property ticket ids (Found schedule) = IsShown window property ids schedule.events
-IsAnswer window evidence property ticket ids (Impossible certificate) = IsRefuted window property ids evidence.shared certificate
-IsAnswer window evidence property ticket ids (Undecided worker from to) =
-    IsSpentBy (base_of window) (query_of window property ids) evidence.budget evidence.workers ticket worker from to
-
--- an entry for each instance in order, the first of which has this ticket
-abbrev pub AnswersEach : WindowForm → Evidence → PropertyForm → ℕ → List Instance → List Entry → Type 0
-AnswersEach window evidence property ticket [] [] = Unit {0}
-AnswersEach window evidence property ticket (instance ∷ instances) (entry ∷ entries) =
-    (entry.events ≡ instance.events) × IsAnswer window evidence property ticket instance.events entry.answer
-    × AnswersEach window evidence property (ticket + 1) instances entries
-AnswersEach window evidence property ticket _ _ = ⊥
-
--- what is recorded of a property that has these instances, or too many
-abbrev pub AnswersListed : WindowForm → Evidence → PropertyForm → ℕ → Result (List Instance) InstancesFault → PropertyBody → Type 0
-AnswersListed window evidence property ticket (Err TooMany) body.TooMany = Unit {0}
-AnswersListed window evidence property ticket (Ok instances) (body.Entries entries) = AnswersEach window evidence property ticket instances entries
-AnswersListed window evidence property ticket _ _ = ⊥
-
--- a record for each property in order, the first of which has this number and its first instance this ticket
-abbrev pub AnswersProperties : WindowForm → Evidence → ℕ → ℕ → List PropertyForm → List PropertyRecord → Type 0
-AnswersProperties window evidence number ticket [] [] = Unit {0}
-AnswersProperties window evidence number ticket (property ∷ properties) (told ∷ more) =
-    (told.name ≡ property.name) × AnswersListed window evidence property ticket (due_instances window property number) told.body
-    × AnswersProperties window evidence (number + 1) (ticket + listed_count (due_instances window property number)) properties more
-AnswersProperties window evidence number ticket _ _ = ⊥
-
--- what so many workers did in a window: what each took follows from the constraints, its turns cover its log, and each
--- ticket stands in exactly one turn of exactly one of them
+-- what so many workers did in a window: what each took follows from the constraints, its turns cover its log, each
+-- ticket stands in exactly one turn of exactly one of them, and two or more share what they learn
 pub record AreWorkers (problem : Problem) (count tickets : ℕ) (workers : List WorkerRecord) : Type 0 where
   pub counted : length workers ≡ count
   pub each : All (IsWorkerRecord problem) workers
   pub once : EachOnce tickets workers
+  pub shared : 2 ≤ count → AreSharing problem count workers
 
--- what is recorded of a window by the constraints that it has: one that is too large is recorded with its two numbers, and has no
--- workers
-abbrev pub AnswersBody : WindowForm → List PropertyForm → ℕ → Evidence → Result WindowForm BaseFault → WindowBody → Type 0
-AnswersBody window properties count evidence (Err (TooLarge events clauses)) (told.TooLarge more_events more_clauses) =
-    (more_events ≡ events) × (more_clauses ≡ clauses) × (evidence.workers ≡ [])
-AnswersBody window properties count evidence (Ok encoded) (told.Answers records) =
-    AnswersProperties window evidence 0 0 properties records
-    × AreWorkers (base_of window) count (properties_count window 0 properties) evidence.workers
-AnswersBody window properties count evidence _ _ = ⊥
+module _ {Subject Shown : Type 0} (question : QuestionForm Subject Shown) where
+  -- what an answer says of the ask with a ticket; undecided: this worker's turn with the ticket is spent on these entries
+  abbrev pub IsAnswer : WindowForm → Evidence → Subject → ℕ → List EventId → AnswerOf Shown → Type 0
+  IsAnswer window evidence subject ticket ids (Found shown) = question.shows window subject ids shown
+  IsAnswer window evidence subject ticket ids (Impossible certificate) = IsRefuted question window subject ids evidence.shared certificate
+  IsAnswer window evidence subject ticket ids (Undecided worker from to) =
+      IsSpentBy (question.problem window) (question.query window subject ids) evidence.budget evidence.workers ticket worker from to
 
--- a window's record answers it, for so many workers and this budget
-abbrev pub AnswersWindow : List PropertyForm → ℕ → ℕ → WindowForm → WindowRecord → Type 0
-AnswersWindow properties count budget window told =
-    AnswersBody window properties count (record { budget = budget; shared = told.shared; workers = told.records }) (base_due window) told.body
+  -- an ask that has an answer already keeps it, and it holds
+  abbrev pub IsAnswerTo : WindowForm → Evidence → Subject → ℕ → List EventId → Option (AnswerOf Shown) → AnswerOf Shown → Type 0
+  IsAnswerTo window evidence subject ticket ids None answer = IsAnswer window evidence subject ticket ids answer
+  IsAnswerTo window evidence subject ticket ids (Some given) answer = (answer ≡ given) × Holds question window subject ids evidence.shared answer
 
--- a report answers a recording and its properties, for so many workers and this budget
-pub record IsAnswered (recording : RecordingForm) (properties : List PropertyForm) (count budget : ℕ) (report : ReportForm) : Type 0 where
-  pub same_budget : report.budget ≡ budget
-  pub windows : AllZip (AnswersWindow properties count budget) (map (window_of recording) (numbers_from 1 recording.manifest.epochs)) report.windows
+  -- an entry for each ask in order, the first of which has this ticket
+  abbrev pub AnswersEach : WindowForm → Evidence → Subject → ℕ → List Instance → List (EntryOf Shown) → Type 0
+  AnswersEach window evidence subject ticket [] [] = Unit {0}
+  AnswersEach window evidence subject ticket (ask ∷ asks) (entry ∷ entries) =
+      (entry.events ≡ ask.events) × IsAnswerTo window evidence subject ticket ask.events (question.given window subject ask.events) entry.answer
+      × AnswersEach window evidence subject (ticket + tickets_of (question.given window subject ask.events)) asks entries
+  AnswersEach window evidence subject ticket _ _ = ⊥
+
+  -- what is recorded of a subject that has these asks, or too many
+  abbrev pub AnswersListed : WindowForm → Evidence → Subject → ℕ → Result (List Instance) InstancesFault → PropertyBodyOf Shown → Type 0
+  AnswersListed window evidence subject ticket (Err TooMany) body.TooMany = Unit {0}
+  AnswersListed window evidence subject ticket (Ok asks) (body.Entries entries) = AnswersEach window evidence subject ticket asks entries
+  AnswersListed window evidence subject ticket _ _ = ⊥
+
+  -- a record for each subject in order, the first of which has this number and its first ask this ticket
+  abbrev pub AnswersSubjects : WindowForm → Evidence → ℕ → ℕ → List Subject → List (PropertyRecordOf Shown) → Type 0
+  AnswersSubjects window evidence number ticket [] [] = Unit {0}
+  AnswersSubjects window evidence number ticket (subject ∷ subjects) (own ∷ more) =
+      (own.name ≡ question.name subject) × AnswersListed window evidence subject ticket (question.asks window subject number) own.body
+      × AnswersSubjects window evidence (number + 1) (ticket + tickets_listed question window subject (question.asks window subject number)) subjects more
+  AnswersSubjects window evidence number ticket _ _ = ⊥
+
+  -- what is recorded of a window: one that is too large is recorded with its two numbers, and has no workers
+  abbrev pub AnswersBody : WindowForm → ℕ → Evidence → Option TooLarge → WindowBodyOf Shown → Type 0
+  AnswersBody window count evidence (Some large) (recorded.TooLarge events clauses) =
+      (events ≡ large.events) × (clauses ≡ large.clauses) × (evidence.workers ≡ [])
+  AnswersBody window count evidence None (recorded.Answers records) =
+      AnswersSubjects window evidence 0 0 question.subjects records
+      × AreWorkers (question.problem window) count (subjects_tickets question window 0 question.subjects) evidence.workers
+  AnswersBody window count evidence _ _ = ⊥
+
+  -- a window's record answers it, for so many workers and this budget
+  abbrev pub AnswersWindow : ℕ → ℕ → WindowForm → WindowRecordOf Shown → Type 0
+  AnswersWindow count budget window own =
+      AnswersBody window count (record { budget = budget; shared = own.shared; workers = own.records }) (question.too_large window) own.body
+
+  -- records answer a recording, window by window, for so many workers and this budget
+  abbrev pub IsAnswered : RecordingForm → ℕ → ℕ → List (WindowRecordOf Shown) → Type 0
+  IsAnswered recording count budget records = AllZip (AnswersWindow count budget) (all_windows recording) records

@@ -1,11 +1,9 @@
+pub mod Question
 pub mod Tickets
-pub mod Runs
 pub mod Answered
-pub mod Queries
-pub mod EntryRecords
-pub mod WindowRecords
+pub mod Runs
+pub mod Listed
+pub mod Recording
+pub mod Recorded
 pub mod Drawn
 pub mod Ahead
-pub mod Laws
-pub mod Agreement
-pub mod Enough

@@ -1,11 +1,11 @@
 -- Runs of neighbouring windows.
 use Rattle.std.specs.Prelude.{ℕ, ◌+◌, ◌≡◌, ◌≤◌, List, All, flat_map, sum_by}
-use Rattle.gp_property.specs.PropertyForm.{PropertyForm}
 use Rattle.gp_window.specs.RecordingForm.{RecordingForm}
 use Rattle.gp_window.specs.WindowForm.{WindowForm, numbers_from}
 use Rattle.gp_window.specs.Windows.{windows_from}
 use Rattle.gp_analysis.specs.declared.counting.Counted.{Counted}
 use Rattle.gp_analysis.specs.declared.runs.Run.{Run}
+use Rattle.gp_analysis.specs.Question.{QuestionForm}
 use Rattle.gp_analysis.specs.Tickets.{window_count}
 
 -- the numbers of the windows of a run
@@ -16,9 +16,9 @@ numbers_of run = numbers_from run.first run.count
 abbrev pub run_windows : RecordingForm → Run → List WindowForm
 run_windows recording run = windows_from recording run.first run.count
 
--- how many instances are counted in the windows of a run
-abbrev pub run_count : Counted → RecordingForm → List PropertyForm → Run → ℕ
-run_count counted recording properties run = sum_by (window_count counted properties) (run_windows recording run)
+-- how many asks are counted in the windows of a run
+abbrev pub run_count : {Subject Shown : Type 0} → QuestionForm Subject Shown → Counted → RecordingForm → Run → ℕ
+run_count question counted recording run = sum_by (window_count question counted) (run_windows recording run)
 
 -- a run has some windows, which are among so many
 pub record IsRun (epochs : ℕ) (run : Run) : Type 0 where

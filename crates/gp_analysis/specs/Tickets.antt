@@ -1,55 +1,74 @@
--- How many instances there are, and how many of them are asked.
+-- How many asks there are, and how many of them have a ticket.
 use Rattle.std.specs.Prelude.{ℕ, ◌+◌, ◌*◌, List, [], ◌∷◌, Option, None, Some, Result, Ok, Err, if◌then◌else◌, length, nat_lt, sum_by}
-use Rattle.gp_constraint.specs.declared.fault.BaseFault.{BaseFault}
-use Rattle.gp_constraint.specs.Encoded.{base_due}
 use Rattle.gp_instance.specs.declared.instance.Instance.{Instance}
 use Rattle.gp_instance.specs.declared.instance.InstancesFault.{InstancesFault}
-use Rattle.gp_instance.specs.Instances.{due_instances}
-use Rattle.gp_property.specs.PropertyForm.{PropertyForm}
-use Rattle.gp_analysis.specs.declared.counting.Counted.{Counted}
-use Rattle.gp_analysis.specs.declared.counting.Counted.TheVariants.{Listed, Asked}
+use Rattle.gp_report.specs.declared.record.AnswerOf.{AnswerOf}
 use Rattle.gp_window.specs.RecordingForm.{RecordingForm}
 use Rattle.gp_window.specs.WindowForm.{WindowForm, numbers_from, window_of}
+use Rattle.gp_analysis.specs.declared.counting.Counted.{Counted}
+use Rattle.gp_analysis.specs.declared.counting.Counted.TheVariants.{Listed, Asked}
+use Rattle.gp_analysis.specs.declared.question.TooLarge.{TooLarge}
+use Rattle.gp_analysis.specs.Question.{QuestionForm}
 
--- how many instances are listed of a property; of one that has too many, none
+-- how many asks are listed of a subject; of one that has too many, none
 abbrev pub listed_count : Result (List Instance) InstancesFault → ℕ
-listed_count (Ok listed) = length listed
+listed_count (Ok asks) = length asks
 listed_count (Err fault) = 0
 
--- how many instances are listed of these properties in a window, the first of which has this number
-abbrev pub properties_count : WindowForm → ℕ → List PropertyForm → ℕ
-properties_count window number [] = 0
-properties_count window number (property ∷ properties) =
-    listed_count (due_instances window property number) + properties_count window (number + 1) properties
+-- how many of so many asks have a ticket in a window that is too large, or is not: none where it is
+abbrev pub asked_of : Option TooLarge → ℕ → ℕ
+asked_of None count = count
+asked_of (Some large) count = 0
 
--- how many of so many instances are asked in a window that has these constraints: none where it is too large
-abbrev pub asked_of : Result WindowForm BaseFault → ℕ → ℕ
-asked_of (Ok encoded) count = count
-asked_of (Err fault) count = 0
+-- an ask that has an answer already has no ticket
+abbrev pub tickets_of : {Shown : Type 0} → Option (AnswerOf Shown) → ℕ
+tickets_of None = 1
+tickets_of (Some given) = 0
 
--- how many instances are asked in a window
-abbrev pub window_asked : List PropertyForm → WindowForm → ℕ
-window_asked properties window = asked_of (base_due window) (properties_count window 0 properties)
+module _ {Subject Shown : Type 0} (question : QuestionForm Subject Shown) where
+  -- how many of these asks of a subject have a ticket
+  abbrev pub tickets_in : WindowForm → Subject → List Instance → ℕ
+  tickets_in window subject [] = 0
+  tickets_in window subject (ask ∷ asks) = tickets_of (question.given window subject ask.events) + tickets_in window subject asks
 
--- how many instances are asked in window k
-abbrev pub asked_in : RecordingForm → List PropertyForm → ℕ → ℕ
-asked_in recording properties k = window_asked properties (window_of recording k)
+  -- the same of the asks that are listed; of too many, none
+  abbrev pub tickets_listed : WindowForm → Subject → Result (List Instance) InstancesFault → ℕ
+  tickets_listed window subject (Ok asks) = tickets_in window subject asks
+  tickets_listed window subject (Err fault) = 0
 
--- how many instances are asked in all windows
-abbrev pub asked_total : RecordingForm → List PropertyForm → ℕ
-asked_total recording properties = sum_by (asked_in recording properties) (numbers_from 1 recording.manifest.epochs)
+  -- how many asks of these subjects are listed in a window, the first of which has this number
+  abbrev pub subjects_count : WindowForm → ℕ → List Subject → ℕ
+  subjects_count window number [] = 0
+  subjects_count window number (subject ∷ subjects) =
+      listed_count (question.asks window subject number) + subjects_count window (number + 1) subjects
 
--- how many instances of a window are counted: all that are listed, or those that are asked
-abbrev pub window_count : Counted → List PropertyForm → WindowForm → ℕ
-window_count Listed properties window = properties_count window 0 properties
-window_count Asked properties window = window_asked properties window
+  -- how many of them have a ticket
+  abbrev pub subjects_tickets : WindowForm → ℕ → List Subject → ℕ
+  subjects_tickets window number [] = 0
+  subjects_tickets window number (subject ∷ subjects) =
+      tickets_listed window subject (question.asks window subject number) + subjects_tickets window (number + 1) subjects
 
--- how many instances of all windows are counted
-abbrev pub total_of : Counted → RecordingForm → List PropertyForm → ℕ
-total_of counted recording properties =
-    sum_by (λ (k : ℕ). window_count counted properties (window_of recording k)) (numbers_from 1 recording.manifest.epochs)
+  -- how many asks have a ticket in a window
+  abbrev pub window_asked : WindowForm → ℕ
+  window_asked window = asked_of (question.too_large window) (subjects_tickets window 0 question.subjects)
 
--- how many instances are asked, where that times a budget is over 1,000,000
-abbrev pub too_much : RecordingForm → List PropertyForm → ℕ → Option ℕ
-too_much recording properties budget =
-    if nat_lt 1000000 (asked_total recording properties * budget) then Some (asked_total recording properties) else None
+  -- how many asks have a ticket in window k
+  abbrev pub asked_in : RecordingForm → ℕ → ℕ
+  asked_in recording k = window_asked (window_of recording k)
+
+  -- how many asks have a ticket in all windows
+  abbrev pub asked_total : RecordingForm → ℕ
+  asked_total recording = sum_by (asked_in recording) (numbers_from 1 recording.manifest.epochs)
+
+  -- how many asks of a window are counted: all that are listed, or those that have a ticket
+  abbrev pub window_count : Counted → WindowForm → ℕ
+  window_count Listed window = subjects_count window 0 question.subjects
+  window_count Asked window = window_asked window
+
+  -- how many asks of all windows are counted
+  abbrev pub total_of : Counted → RecordingForm → ℕ
+  total_of counted recording = sum_by (λ (k : ℕ). window_count counted (window_of recording k)) (numbers_from 1 recording.manifest.epochs)
+
+  -- how many asks have a ticket, where that times a budget is over 1,000,000
+  abbrev pub too_much : RecordingForm → ℕ → Option ℕ
+  too_much recording budget = if nat_lt 1000000 (asked_total recording * budget) then Some (asked_total recording) else None

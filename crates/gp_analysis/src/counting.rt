@@ -1,12 +1,14 @@
-ghost use Rattle.std.specs.Prelude.{◌≡◌, ◌+◌, ◌*◌, ◌≤◌, IfOk, length, map, nat_lt, sum};
-ghost use Rattle.gp_instance.specs.Instances.{due_instances};
+ghost use Rattle.std.specs.Prelude.{◌≡◌, ◌+◌, ◌*◌, ◌≤◌, IfOk, map, nat_lt, sum};
+ghost use Rattle.std.specs.List.{AllByRecursion};
+ghost use Rattle.gp_analysis.specs.Question.{ListsAsks};
 ghost use Rattle.gp_analysis.specs.Runs.{IsRun, PartAll, run_count};
-ghost use Rattle.gp_analysis.specs.Tickets.{listed_count, properties_count, too_much, total_of, window_asked, window_count};
+ghost use Rattle.gp_analysis.specs.Tickets.{listed_count, subjects_count, subjects_tickets, tickets_in, tickets_listed, tickets_of, too_much, total_of, window_asked, window_count};
 
+use crate::left::Left;
+use crate::question::{EncodeFault, Question};
 use crate::runs::{Run, runs_of};
-use gp_constraint::{BaseFault, base};
-use gp_instance::{InstancesFault, instances};
-use gp_property::Property;
+use gp_base::Row;
+use gp_instance::{Instance, InstancesFault};
 use gp_window::{Recording, Window, Windows};
 use rayon::prelude::*;
 use std::alloc::{AllocError, Global};
@@ -15,49 +17,54 @@ use std::thread::Threads;
 // As many runs as keep so many processors busy. Each begins by a walk past all windows before it, so that more would cost more.
 const COUNTED_RUNS: u32 = 16;
 
-/// The most instances of a recording, times the budget of each.
+/// The most asks of a recording, times the budget of each.
 const MOST_WORK: u64 = 1_000_000;
 
-// Which instances are counted: all that are listed, or those alone that are asked, since their window is not too large.
+// Which asks are counted: all that are listed, or those alone that have a ticket, since their window is not too large and they
+// have no answer already.
 #[derive(Clone, Copy, Debug)]
 pub(crate) enum Counted {
     Listed,
     Asked,
 }
 
-/// How many instances are asked in all windows of a recording, where that times the budget of each is over 1,000,000, and
-/// `None` where it is not. Whether a window is too large takes making its constraints, and is looked at only where all
-/// instances that are listed would be too many. Runs of windows are counted side by side, and of each run the lists of one
-/// window at a time are in memory.
-pub fn too_much<R: Threads + Sync>(
+/// How many asks have a ticket in all windows of a recording, where that times the budget of each is over 1,000,000, and `None`
+/// where it is not. Whether a window is too large takes making its constraints, and is looked at only where all asks that are
+/// listed would be too many. Runs of windows are counted side by side, and of each run the lists of one window at a time are in
+/// memory.
+pub fn too_much<R: Threads + Sync, Q: Question + Sync>(
     rt: &R,
     alloc: Global,
     recording: &Recording,
-    properties: &[Property],
+    question: &Q,
     budget: u64,
 ) -> Result<Option<u64>, AllocError>
-    requires { length properties.now ≤ 64 }
-    ensures { IfOk result (λ found. found ≡ too_much recording.now properties.now budget) }
+where
+    Q::Encoded: Send,
+    Q::Shown: Send,
+    ensures { IfOk result (λ found. found ≡ too_much (Q.form question.now) recording.now budget) }
 {
-    let listed = total(rt, alloc, recording, properties, Counted::Listed)?;
+    let listed = total(rt, alloc, recording, question, Counted::Listed)?;
     if !is_too_much(listed, budget) {
         return Ok(None);
     }
-    asked_too_much(rt, alloc, recording, properties, budget)
+    asked_too_much(rt, alloc, recording, question, budget)
 }
 
-// The same by the instances that are asked.
-fn asked_too_much<R: Threads + Sync>(
+// The same by the asks that have a ticket.
+fn asked_too_much<R: Threads + Sync, Q: Question + Sync>(
     rt: &R,
     alloc: Global,
     recording: &Recording,
-    properties: &[Property],
+    question: &Q,
     budget: u64,
 ) -> Result<Option<u64>, AllocError>
-    requires { length properties.now ≤ 64 }
-    ensures { IfOk result (λ found. found ≡ too_much recording.now properties.now budget) }
+where
+    Q::Encoded: Send,
+    Q::Shown: Send,
+    ensures { IfOk result (λ found. found ≡ too_much (Q.form question.now) recording.now budget) }
 {
-    let asked = total(rt, alloc, recording, properties, Counted::Asked)?;
+    let asked = total(rt, alloc, recording, question, Counted::Asked)?;
     if is_too_much(asked, budget) {
         return Ok(Some(asked));
     }
@@ -73,124 +80,210 @@ fn is_too_much(total: u64, budget: u64) -> bool
     }
 }
 
-// How many instances there are in all windows of a recording.
-fn total<R: Threads + Sync>(
+// How many asks there are in all windows of a recording.
+fn total<R: Threads + Sync, Q: Question + Sync>(
     rt: &R,
     alloc: Global,
     recording: &Recording,
-    properties: &[Property],
+    question: &Q,
     counted: Counted,
 ) -> Result<u64, AllocError>
-    requires { length properties.now ≤ 64 }
-    ensures total { IfOk result (λ total. total ≡ total_of counted recording.now properties.now) }
+where
+    Q::Encoded: Send,
+    Q::Shown: Send,
+    ensures total { IfOk result (λ total. total ≡ total_of (Q.form question.now) counted recording.now) }
 {
     let epochs = recording.manifest().epochs();
     let runs = runs_of(alloc, epochs, epochs.min(COUNTED_RUNS))?;
-    let counts = run_counts(rt, alloc, recording, properties, counted, runs)?;
+    let counts = run_counts(rt, alloc, recording, question, counted, runs)?;
     sum_of(counts.as_slice())
 }
 
-// How many instances there are in each of these runs, counted side by side.
-fn run_counts<R: Threads + Sync>(
+// How many asks there are in each of these runs, counted side by side.
+fn run_counts<R: Threads + Sync, Q: Question + Sync>(
     rt: &R,
     alloc: Global,
     recording: &Recording,
-    properties: &[Property],
+    question: &Q,
     counted: Counted,
     runs: Vec<Run>,
 ) -> Result<Vec<u64>, AllocError>
-    requires few { length properties.now ≤ 64 }
-    requires runs { PartAll recording.now.manifest.epochs runs.items }
-    ensures { IfOk result (λ counts. counts.items ≡ map (run_count counted recording.now properties.now) runs.items) }
+where
+    Q::Encoded: Send,
+    Q::Shown: Send,
+    requires { PartAll recording.now.manifest.epochs runs.items }
+    ensures { IfOk result (λ counts. counts.items ≡ map (run_count (Q.form question.now) counted recording.now) runs.items) }
 {
     runs.into_par_iter()
         .with_min_len(1)
         .map(
             |run: Run| -> Result<u64, AllocError>
-                requires { IsRun recording.now.manifest.epochs run × (length properties.now ≤ 64) }
-                ensures { IfOk result (λ count. count ≡ run_count counted recording.entry.now properties.entry.now run) }
-            { run_count(alloc, recording, properties, counted, run) },
+                requires { IsRun recording.now.manifest.epochs run }
+                ensures { IfOk result (λ count. count ≡ run_count (Q.form question.entry.now) counted recording.entry.now run) }
+            { run_count(alloc, recording, question, counted, run) },
         )
         .collect::<Result<Vec<u64>, AllocError>>(rt, alloc)?
 }
 
-// How many instances there are in the windows of a run.
-fn run_count(
+// How many asks there are in the windows of a run.
+fn run_count<Q: Question>(
     alloc: Global,
     recording: &Recording,
-    properties: &[Property],
+    question: &Q,
     counted: Counted,
     run: Run,
 ) -> Result<u64, AllocError>
-    requires few { length properties.now ≤ 64 }
-    requires run { IsRun recording.now.manifest.epochs run }
-    ensures { IfOk result (λ count. count ≡ run_count counted recording.now properties.now run) }
+    requires { IsRun recording.now.manifest.epochs run }
+    ensures { IfOk result (λ count. count ≡ run_count (Q.form question.now) counted recording.now run) }
 {
     let mut count = 0;
     let mut windows = Windows::from(alloc, recording, run.first, run.count)?;
     while let Some(window) = windows.next(alloc)? {
-        count = added(count, window_count(alloc, window, properties, counted)?)?;
+        count = added(count, window_count(alloc, window, question, counted)?)?;
     }
     Ok(count)
 }
 
-// How many instances there are in a window.
-fn window_count(
+// How many asks there are in a window.
+fn window_count<Q: Question>(
     alloc: Global,
     window: Window,
-    properties: &[Property],
+    question: &Q,
     counted: Counted,
 ) -> Result<u64, AllocError>
-    requires { length properties.now ≤ 64 }
-    ensures { IfOk result (λ count. count ≡ window_count counted properties.now window) }
+    ensures { IfOk result (λ count. count ≡ window_count (Q.form question.now) counted window) }
 {
     match counted {
-        Counted::Listed => properties_count(alloc, &window, properties),
-        Counted::Asked => window_asked(alloc, window, properties),
+        Counted::Listed => subjects_count(alloc, question, &window),
+        Counted::Asked => window_asked(alloc, window, question),
     }
 }
 
-// How many instances are asked in a window.
-fn window_asked(alloc: Global, window: Window, properties: &[Property]) -> Result<u64, AllocError>
-    requires { length properties.now ≤ 64 }
-    ensures { IfOk result (λ asked. asked ≡ window_asked properties.now window) }
-{
-    match base(alloc, window) {
-        Ok(encoded) => properties_count(alloc, encoded.window(), properties),
-        Err(BaseFault::TooLarge { .. }) => Ok(0),
-        Err(BaseFault::Memory) => Err(AllocError),
-    }
-}
-
-// How many instances of these properties are listed in a window.
-fn properties_count(
+// How many asks are listed in a window.
+fn subjects_count<Q: Question>(
     alloc: Global,
+    question: &Q,
     window: &Window,
-    properties: &[Property],
 ) -> Result<u64, AllocError>
-    requires { length properties.now ≤ 64 }
-    ensures { IfOk result (λ count. count ≡ properties_count window.now 0 properties.now) }
+    ensures { IfOk result (λ count. count ≡ subjects_count (Q.form question.now) window.now 0 (Q.form question.now).subjects) }
 {
+    question.laws();
     let mut count = 0;
-    for (number, property) in properties.iter().enumerate() {
-        count = added(count, listed_count(alloc, window, property, number as u32)?)?;
+    let mut left = question.subjects();
+    let mut number = 0u32;
+    while let Some((subject, more)) = left.split_first() {
+        count = added(
+            count,
+            listed_count(alloc, question, window, subject, number)?,
+        )?;
+        left = more;
+        number += 1;
     }
     Ok(count)
 }
 
-// How many instances of a property are listed in a window: none where there are too many.
-fn listed_count(
+// How many asks of a subject are listed in a window: none where there are too many.
+fn listed_count<Q: Question>(
     alloc: Global,
+    question: &Q,
     window: &Window,
-    property: &Property,
+    subject: &Q::Subject,
     number: u32,
 ) -> Result<u64, AllocError>
-    ensures { IfOk result (λ count. count ≡ listed_count (due_instances window.now property.now number)) }
+    ensures { IfOk result (λ count. count ≡ listed_count ((Q.form question.now).asks window.now subject.now number)) }
 {
-    match instances(alloc, window, property, number) {
-        Ok(found) => Ok(found.len() as u64),
+    match question.asks(alloc, window, subject, number) {
+        Ok(asks) => Ok(asks.len() as u64),
         Err(InstancesFault::TooMany) => Ok(0),
         Err(InstancesFault::Memory) => Err(AllocError),
+    }
+}
+
+// How many asks have a ticket in a window: none where it is too large.
+fn window_asked<Q: Question>(alloc: Global, window: Window, question: &Q) -> Result<u64, AllocError>
+    ensures { IfOk result (λ asked. asked ≡ window_asked (Q.form question.now) window) }
+{
+    match question.encode(alloc, window) {
+        Ok(encoded) => subjects_tickets(alloc, question, &encoded),
+        Err(EncodeFault::TooLarge(_)) => Ok(0),
+        Err(EncodeFault::Memory) => Err(AllocError),
+    }
+}
+
+// How many asks have a ticket in a window that is encoded.
+fn subjects_tickets<Q: Question>(
+    alloc: Global,
+    question: &Q,
+    encoded: &Q::Encoded,
+) -> Result<u64, AllocError>
+    ensures { IfOk result (λ count. count ≡ subjects_tickets (Q.form question.now) (Q.window_in encoded.now) 0 (Q.form question.now).subjects) }
+{
+    question.laws();
+    let mut count = 0;
+    let mut left = question.subjects();
+    let mut number = 0u32;
+    while let Some((subject, more)) = left.split_first() {
+        count = added(
+            count,
+            tickets_listed(alloc, question, encoded, subject, number)?,
+        )?;
+        left = more;
+        number += 1;
+    }
+    Ok(count)
+}
+
+// How many asks of a subject have a ticket: none where there are too many.
+fn tickets_listed<Q: Question>(
+    alloc: Global,
+    question: &Q,
+    encoded: &Q::Encoded,
+    subject: &Q::Subject,
+    number: u32,
+) -> Result<u64, AllocError>
+    requires { ListsAsks (Q.form question.now) (Q.lists question.now) subject.now }
+    ensures { IfOk result (λ count. count ≡ tickets_listed (Q.form question.now) (Q.window_in encoded.now) subject.now ((Q.form question.now).asks (Q.window_in encoded.now) subject.now number)) }
+{
+    match question.asks(alloc, question.window_of(encoded), subject, number) {
+        Ok(asks) => tickets_in(alloc, question, encoded, subject, asks),
+        Err(InstancesFault::TooMany) => Ok(0),
+        Err(InstancesFault::Memory) => Err(AllocError),
+    }
+}
+
+// How many of these asks have a ticket.
+fn tickets_in<Q: Question>(
+    alloc: Global,
+    question: &Q,
+    encoded: &Q::Encoded,
+    subject: &Q::Subject,
+    asks: Row<Instance>,
+) -> Result<u64, AllocError>
+    requires { AllByRecursion (λ ask. Q.lists question.now (Q.window_in encoded.now) subject.now ask.events) asks }
+    ensures { IfOk result (λ count. count ≡ tickets_in (Q.form question.now) (Q.window_in encoded.now) subject.now asks) }
+{
+    let mut count = 0;
+    let mut left = Left::of(asks);
+    while let Some(ask) = left.next() {
+        count = added(count, tickets_of(alloc, question, encoded, subject, &ask)?)?;
+    }
+    Ok(count)
+}
+
+// One ticket, or none where an ask has an answer already.
+fn tickets_of<Q: Question>(
+    alloc: Global,
+    question: &Q,
+    encoded: &Q::Encoded,
+    subject: &Q::Subject,
+    ask: &Instance,
+) -> Result<u64, AllocError>
+    requires { Q.lists question.now (Q.window_in encoded.now) subject.now ask.now.events }
+    ensures { IfOk result (λ count. count ≡ tickets_of ((Q.form question.now).given (Q.window_in encoded.now) subject.now ask.now.events)) }
+{
+    match question.given(alloc, encoded, subject, ask)? {
+        None => Ok(1),
+        Some(_) => Ok(0),
     }
 }
 
@@ -204,7 +297,7 @@ fn sum_of(counts: &[u64]) -> Result<u64, AllocError>
     Ok(total)
 }
 
-// More instances than 2^64 - 1 would not fit into memory.
+// More asks than 2^64 - 1 would not fit into memory.
 fn added(total: u64, count: u64) -> Result<u64, AllocError>
     ensures { IfOk result (λ sum. sum ≡ total + count) }
 {

@@ -1,63 +1,62 @@
-ghost use Rattle.std.specs.Prelude.{◌≡◌, ◌<◌, ◌≤◌, ◌+◌, ℕ, List, All, IfOk, length};
-ghost use Rattle.gp_property.specs.PropertyForm.{PropertyForm};
-ghost use Rattle.gp_window.specs.RecordingForm.{RecordingForm};
+ghost use Rattle.std.specs.Prelude.{◌≡◌, ◌<◌, ◌≤◌, ◌+◌, All, IfOk, length};
 ghost use Rattle.gp_window.specs.WindowForm.{window_of};
-ghost use Rattle.gp_tickets.specs.Drawn.{HasDrawn, numbers_of};
+ghost use Rattle.gp_tickets.specs.Drawn.{numbers_of};
 ghost use Rattle.gp_tickets.specs.Tickets.{IsSingle, IsUnused, hand_of};
 ghost use Rattle.gp_analysis.specs.Ahead.{AreAhead};
 ghost use Rattle.gp_analysis.specs.Drawn.{RecordsDrawn, RecordsOwn};
-ghost use Rattle.gp_analysis.specs.WindowRecords.{CanBeAnalysed, RecordsWindow};
+ghost use Rattle.gp_analysis.specs.Recorded.{CanBeAnalysed, RecordsWindow};
 
+use crate::question::Question;
 use crate::task::{Instructions, Order};
 use crate::window::window_record;
 use crate::windows_ahead::WindowsAhead;
 use gp_outside::Gate;
-use gp_report::WindowRecord;
+use gp_report::WindowRecordOf;
 use gp_tickets::{Drawer, Drawn, Made, Tickets};
 use gp_window::Recording;
 use std::alloc::{AllocError, Global};
 use std::sync::Wait;
 use std::thread::Threads;
 
-// Draws windows until none is left, and makes a record of each. The workers of a window work in turn.
-pub(crate) fn record_drawn<R: Threads + Wait + Sync, G: Gate + Sync>(
+// Draws windows until none is left, and records each. The workers of a window work in turn.
+pub(crate) fn record_drawn<R: Threads + Wait + Sync, G: Gate + Sync, Q: Question>(
     rt: &R,
     alloc: Global,
     recording: &Recording,
-    task: &Instructions<'_, G>,
+    task: &Instructions<'_, Q, G>,
     tickets: &Tickets,
     mut drawer: Drawer,
-) -> Result<Drawn<WindowRecord>, AllocError>
-    requires can { CanBeAnalysed recording.now task.now.properties.now task.now.workers task.now.budget }
+) -> Result<Drawn<WindowRecordOf<Q::Shown>>, AllocError>
+    requires can { CanBeAnalysed (Q.form task.now.question.now) recording.now task.now.workers task.now.budget }
     requires count { tickets.now.count ≡ recording.now.manifest.epochs }
     requires drawer { IsUnused tickets.now drawer }
-    ensures { IfOk result (RecordsDrawn tickets.now recording.now task.now.properties.now task.now.workers task.now.budget 1) }
+    ensures { IfOk result (RecordsDrawn (Q.form task.now.question.now) tickets.now recording.now task.now.workers task.now.budget 1) }
 {
-    let made = records_as_drawn(rt, alloc, recording, task, tickets, &mut drawer)?;
+    let made = recorded_as_drawn(rt, alloc, recording, task, tickets, &mut drawer)?;
     Ok(Drawn { made, drawer })
 }
 
 // What is recorded of the windows that a drawer draws, in the order in which it draws them.
-fn records_as_drawn<R: Threads + Wait + Sync, G: Gate + Sync>(
+fn recorded_as_drawn<R: Threads + Wait + Sync, G: Gate + Sync, Q: Question>(
     rt: &R,
     alloc: Global,
     recording: &Recording,
-    task: &Instructions<'_, G>,
+    task: &Instructions<'_, Q, G>,
     tickets: &Tickets,
     drawer: &mut Drawer,
-) -> Result<Vec<Made<WindowRecord>>, AllocError>
-    requires can { CanBeAnalysed recording.now task.now.properties.now task.now.workers task.now.budget }
+) -> Result<Vec<Made<WindowRecordOf<Q::Shown>>>, AllocError>
+    requires can { CanBeAnalysed (Q.form task.now.question.now) recording.now task.now.workers task.now.budget }
     requires count { tickets.now.count ≡ recording.now.manifest.epochs }
     requires drawer { IsUnused tickets.now drawer.old }
     ensures drawer { IfOk result (λ made. IsSingle tickets.now 1 drawer.new) }
     ensures numbers { IfOk result (λ made. numbers_of made.items ≡ (hand_of drawer.new).drawn) }
-    ensures tells { IfOk result (λ made. All (RecordsOwn recording.now task.now.properties.now task.now.workers task.now.budget) made.items) }
+    ensures records { IfOk result (λ made. All (RecordsOwn (Q.form task.now.question.now) recording.now task.now.workers task.now.budget) made.items) }
 {
     let mut made = Vec::new(alloc);
     let mut ahead = WindowsAhead::new(alloc, recording)?;
     while let Some(number) = tickets.draw(drawer) {
         let k = window_number(recording, number);
-        let value = record_next(rt, alloc, recording, task, &mut ahead, k)?;
+        let value = recorded_next(rt, alloc, recording, task, &mut ahead, k)?;
         made.push(Made { number, value })?;
     }
     Ok(made)
@@ -74,33 +73,34 @@ fn window_number(recording: &Recording, ticket: u64) -> u32
 }
 
 // What is recorded of window `k`.
-fn record_next<'a, R: Threads + Wait + Sync, G: Gate + Sync>(
+fn recorded_next<'a, R: Threads + Wait + Sync, G: Gate + Sync, Q: Question>(
     rt: &R,
     alloc: Global,
     recording: &'a Recording,
-    task: &Instructions<'_, G>,
+    task: &Instructions<'_, Q, G>,
     ahead: &mut WindowsAhead<'a>,
     k: u32,
-) -> Result<WindowRecord, AllocError>
-    requires can { CanBeAnalysed recording.now task.now.properties.now task.now.workers task.now.budget }
+) -> Result<WindowRecordOf<Q::Shown>, AllocError>
+    requires can { CanBeAnalysed (Q.form task.now.question.now) recording.now task.now.workers task.now.budget }
     requires ahead { AreAhead recording.now ahead.old }
     requires k { (1 ≤ k) × (k ≤ recording.now.manifest.epochs) }
-    ensures ahead { IfOk result (λ told. AreAhead recording.now ahead.new) }
-    ensures tells { IfOk result (RecordsWindow task.now.properties.now task.now.workers task.now.budget (window_of recording.now k)) }
+    ensures ahead { IfOk result (λ own. AreAhead recording.now ahead.new) }
+    ensures records { IfOk result (RecordsWindow (Q.form task.now.question.now) task.now.workers task.now.budget (window_of recording.now k)) }
 {
     let window = ahead.window(alloc, recording, k)?;
     window_record(rt, alloc, window, task, Order::InTurn)
 }
 
-// All that was drawn. One drawer takes in the others.
-pub(crate) fn gather(
+// All that was drawn of a recording for this task. One drawer takes in the others.
+pub(crate) fn gather<G, Q: Question>(
+    recording: &Recording,
+    task: &Instructions<'_, Q, G>,
     tickets: &Tickets,
-    mut parts: Vec<Result<Drawn<WindowRecord>, AllocError>>,
-) -> Result<Drawn<WindowRecord>, AllocError>
+    mut parts: Vec<Result<Drawn<WindowRecordOf<Q::Shown>>, AllocError>>,
+) -> Result<Drawn<WindowRecordOf<Q::Shown>>, AllocError>
     requires some { 1 ≤ length parts.items }
-    requires drawn { All (λ part. IfOk part (HasDrawn tickets.now)) parts.items }
-    ensures { (recording : RecordingForm) (properties : List PropertyForm) (count budget : ℕ) → All (λ part. IfOk part (RecordsDrawn tickets.now recording properties count budget 1)) parts.items
-        → IfOk result (RecordsDrawn tickets.now recording properties count budget (length parts.items)) }
+    requires drawn { All (λ part. IfOk part (RecordsDrawn (Q.form task.now.question.now) tickets.now recording.now task.now.workers task.now.budget 1)) parts.items }
+    ensures { IfOk result (RecordsDrawn (Q.form task.now.question.now) tickets.now recording.now task.now.workers task.now.budget (length parts.items)) }
 {
     let Some(first) = parts.pop() else {
         unreachable!()

@@ -1,111 +1,105 @@
-ghost use Rattle.std.specs.Prelude.{◌≡◌, true, IfOk};
-ghost use Rattle.gp_constraint.specs.Base.{base_of};
-ghost use Rattle.gp_constraint.specs.Query.{query_of};
-ghost use Rattle.gp_instance.specs.Instance.{is_instance};
-ghost use Rattle.gp_analysis.specs.EntryRecords.{CanRecordListed, CanRecordEach, IsSound, RecordsAnswer, RecordsEach, RecordsListed};
+ghost use Rattle.std.specs.Prelude.{◌≡◌, IfOk};
+ghost use Rattle.gp_analysis.specs.Recording.{CanRecord, CanRecordAsk, CanRecordEach, IsSound, RecordsAnswer, RecordsAsk, RecordsEach, RecordsListed, left_after};
 
-use crate::answers_left::AnswersLeft;
+use crate::left::Left;
+use crate::listing::Asked;
+use crate::question::Question;
 use gp_base::Row;
-use gp_constraint::Encoded;
 use gp_instance::Instance;
-use gp_property::Property;
-use gp_report::{Answer, Entry, PropertyBody, PropertyRecord};
-use gp_witness::schedule_of;
+use gp_report::{AnswerOf, EntryOf, PropertyBodyOf, PropertyRecordOf};
 use gp_workers::WorkAnswer;
 use std::alloc::{AllocError, Global};
 
-// What is recorded of a property by the first of the answers, which are those to its instances.
-pub(crate) fn property_record(
+// What is recorded of a subject by the first of the answers, which are those to its asks.
+pub(crate) fn subject_record<Q: Question>(
     alloc: Global,
-    encoded: &Encoded,
-    property: &Property,
-    listed: &Option<Row<Instance>>,
-    answers: &mut AnswersLeft,
-) -> Result<PropertyRecord, AllocError>
-    requires { CanRecordListed encoded.now property.now listed.now answers.old }
-    ensures name { IfOk result (λ told. told.name ≡ property.now.name) }
-    ensures body { IfOk result (λ told. RecordsListed encoded.now property.now listed.now answers.old told.body answers.new) }
+    question: &Q,
+    encoded: &Q::Encoded,
+    subject: &Q::Subject,
+    listed: Option<Row<Asked<Q::Shown>>>,
+    answers: &mut Left<WorkAnswer>,
+) -> Result<PropertyRecordOf<Q::Shown>, AllocError>
+    requires { CanRecord (Q.form question.now) (Q.lists question.now) (Q.window_in encoded.now) subject.now listed answers.old }
+    ensures name { IfOk result (λ own. own.name ≡ (Q.form question.now).name subject.now) }
+    ensures body { IfOk result (λ own. RecordsListed (Q.form question.now) (Q.window_in encoded.now) subject.now listed answers.old own.body answers.new) }
 {
-    let name = *property.name();
-    let body = property_body(alloc, encoded, property, listed, answers)?;
-    Ok(PropertyRecord { name, body })
+    let name = question.name(subject);
+    let body = match listed {
+        None => PropertyBodyOf::TooMany,
+        Some(asked) => PropertyBodyOf::Entries(entries_of(
+            alloc, question, encoded, subject, asked, answers,
+        )?),
+    };
+    Ok(PropertyRecordOf { name, body })
 }
 
-fn property_body(
+// An entry for each of these asks, in order.
+fn entries_of<Q: Question>(
     alloc: Global,
-    encoded: &Encoded,
-    property: &Property,
-    listed: &Option<Row<Instance>>,
-    answers: &mut AnswersLeft,
-) -> Result<PropertyBody, AllocError>
-    requires { CanRecordListed encoded.now property.now listed.now answers.old }
-    ensures { IfOk result (λ body. RecordsListed encoded.now property.now listed.now answers.old body answers.new) }
-{
-    match listed {
-        None => Ok(PropertyBody::TooMany),
-        Some(listed) => Ok(PropertyBody::Entries(entries_of(
-            alloc,
-            encoded,
-            property,
-            listed.as_slice(),
-            answers,
-        )?)),
-    }
-}
-
-// An entry for each of these instances, in order.
-fn entries_of(
-    alloc: Global,
-    encoded: &Encoded,
-    property: &Property,
-    listed: &[Instance],
-    answers: &mut AnswersLeft,
-) -> Result<Row<Entry>, AllocError>
-    requires { CanRecordEach encoded.now property.now listed.now answers.old }
-    ensures { IfOk result (λ entries. RecordsEach encoded.now property.now listed.now answers.old entries answers.new) }
+    question: &Q,
+    encoded: &Q::Encoded,
+    subject: &Q::Subject,
+    asked: Row<Asked<Q::Shown>>,
+    answers: &mut Left<WorkAnswer>,
+) -> Result<Row<EntryOf<Q::Shown>>, AllocError>
+    requires { CanRecordEach (Q.form question.now) (Q.lists question.now) (Q.window_in encoded.now) subject.now asked answers.old }
+    ensures { IfOk result (λ entries. RecordsEach (Q.form question.now) (Q.window_in encoded.now) subject.now asked answers.old entries answers.new) }
 {
     let mut entries = Row::new(alloc);
-    for instance in listed {
-        let answer = answers.take_first();
-        entries.push(entry_of(alloc, encoded, property, instance, answer)?)?;
+    let mut left = Left::of(asked);
+    while let Some(asked) = left.next() {
+        entries.push(entry_of(alloc, question, encoded, subject, asked, answers)?)?;
     }
     Ok(entries)
 }
 
-fn entry_of(
+// The answer that an ask has already is recorded as it is; else the first of the answers is.
+fn entry_of<Q: Question>(
     alloc: Global,
-    encoded: &Encoded,
-    property: &Property,
-    instance: &Instance,
-    answer: WorkAnswer,
-) -> Result<Entry, AllocError>
-    requires instance { is_instance encoded.now property.now instance.now.events ≡ true }
-    requires answer { IsSound (base_of encoded.now) (query_of encoded.now property.now instance.now.events) answer }
-    ensures events { IfOk result (λ entry. entry.events ≡ instance.now.events) }
-    ensures answer { IfOk result (λ entry. RecordsAnswer encoded.now property.now instance.now.events answer entry.answer) }
+    question: &Q,
+    encoded: &Q::Encoded,
+    subject: &Q::Subject,
+    asked: Asked<Q::Shown>,
+    answers: &mut Left<WorkAnswer>,
+) -> Result<EntryOf<Q::Shown>, AllocError>
+    requires ask { Q.lists question.now (Q.window_in encoded.now) subject.now asked.ask.events }
+    requires can { CanRecordAsk (Q.form question.now) (Q.lists question.now) (Q.window_in encoded.now) subject.now asked.ask.events asked.given answers.old }
+    ensures events { IfOk result (λ entry. entry.events ≡ asked.ask.events) }
+    ensures records { IfOk result (λ entry. RecordsAsk (Q.form question.now) (Q.window_in encoded.now) subject.now asked.ask.events asked.given answers.old entry.answer) }
+    ensures left { IfOk result (λ _. answers.new ≡ left_after asked.given answers.old) }
 {
-    let answer = answer_of(alloc, encoded, property, instance, answer)?;
-    let events = Row::from_vec(Vec::from_slice(alloc, instance.events.as_slice())?);
-    Ok(Entry { events, answer })
+    let Asked { ask, given } = asked;
+    let answer = match given {
+        Some(given) => given,
+        None => {
+            let answer = answers.take_first();
+            answer_of(alloc, question, encoded, subject, &ask, answer)?
+        }
+    };
+    Ok(EntryOf {
+        events: ask.events,
+        answer,
+    })
 }
 
-// A valuation is recorded as the schedule that it gives; a certificate and a spent budget are recorded as they are.
-fn answer_of(
+// A valuation is recorded as what it shows; a certificate and a spent budget are recorded as they are.
+fn answer_of<Q: Question>(
     alloc: Global,
-    encoded: &Encoded,
-    property: &Property,
-    instance: &Instance,
+    question: &Q,
+    encoded: &Q::Encoded,
+    subject: &Q::Subject,
+    ask: &Instance,
     answer: WorkAnswer,
-) -> Result<Answer, AllocError>
-    requires instance { is_instance encoded.now property.now instance.now.events ≡ true }
-    requires answer { IsSound (base_of encoded.now) (query_of encoded.now property.now instance.now.events) answer }
-    ensures { IfOk result (RecordsAnswer encoded.now property.now instance.now.events answer) }
+) -> Result<AnswerOf<Q::Shown>, AllocError>
+    requires ask { Q.lists question.now (Q.window_in encoded.now) subject.now ask.now.events }
+    requires answer { IsSound ((Q.form question.now).problem (Q.window_in encoded.now)) ((Q.form question.now).query (Q.window_in encoded.now) subject.now ask.now.events) answer }
+    ensures { IfOk result (RecordsAnswer (Q.form question.now) (Q.window_in encoded.now) subject.now ask.now.events answer) }
 {
     match answer {
-        WorkAnswer::Model(valuation) => Ok(Answer::Found(schedule_of(
-            alloc, encoded, property, instance, &valuation,
+        WorkAnswer::Model(valuation) => Ok(AnswerOf::Found(question.shown(
+            alloc, encoded, subject, ask, &valuation,
         )?)),
-        WorkAnswer::Refuted(certificate) => Ok(Answer::Impossible(certificate)),
-        WorkAnswer::Spent { worker, from, to } => Ok(Answer::Undecided { worker, from, to }),
+        WorkAnswer::Refuted(certificate) => Ok(AnswerOf::Impossible(certificate)),
+        WorkAnswer::Spent { worker, from, to } => Ok(AnswerOf::Undecided { worker, from, to }),
     }
 }

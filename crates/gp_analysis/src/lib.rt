@@ -1,17 +1,19 @@
-// The analysis of a recording: each instance of each property in each window is answered once, by a schedule that shows
-// it, by a certificate that no schedule does, or by the part of a worker's log that spent the budget.
+// The analysis of a recording: each ask of a question in each window is answered once, by what shows it, by a certificate
+// that nothing does, or by the part of a worker's log that spent the budget.
 //
-// A window's constraints are made once. Its instances are listed, property by property; each is a query, whose ticket is
-// its number in that list; the workers answer the queries, each query once, and each answer is recorded with its evidence.
+// A question says what is asked of a window: its constraints, the asks of each subject, the query of an ask, and what a
+// valuation of the query shows. A window's constraints are made once. Its asks are listed, subject by subject; each that has
+// no answer yet is a query, whose ticket is its number in that list; the workers answer the queries, each query once, and
+// each answer is recorded with its evidence.
 #![tactic(auto)]
 
 mod analysing;
-mod answers_left;
 mod counting;
 mod drawn;
 mod entries;
-mod laws;
+mod left;
 mod listing;
+mod question;
 mod runs;
 mod side_by_side;
 mod task;
@@ -20,4 +22,4 @@ mod windows_ahead;
 
 pub use analysing::analyse;
 pub use counting::too_much;
-pub use laws::{enough_decides, reports_agree};
+pub use question::{EncodeFault, Question, TooLarge};

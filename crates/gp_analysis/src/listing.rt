@@ -1,91 +1,116 @@
-ghost use Rattle.std.specs.Prelude.{◌≡◌, ◌≤◌, ◌++◌, All, IfOk, OnOk, length, map};
-ghost use Rattle.gp_constraint.specs.Query.{query_of};
-ghost use Rattle.gp_instance.specs.Instances.{due_instances};
-ghost use Rattle.gp_property.specs.Property.{IsProperty};
-ghost use Rattle.gp_analysis.specs.Queries.{listed_from, listed_of, queries_from, queries_of};
+ghost use Rattle.std.specs.Prelude.{◌≡◌, ◌≤◌, ◌++◌, IfOk, OnOk, length, map};
+ghost use Rattle.std.specs.List.{AllByRecursion};
+ghost use Rattle.gp_analysis.specs.Listed.{asked_of, listed_from, listed_of, queries_each, queries_from, queries_of, query_for};
+ghost use Rattle.gp_analysis.specs.Question.{ListsAsks};
 
+use crate::left::Left;
+use crate::question::Question;
 use gp_base::Row;
 use gp_clause::Query;
-use gp_constraint::{Encoded, query};
-use gp_instance::{Instance, InstancesFault, instances};
-use gp_property::Property;
-use gp_window::Window;
+use gp_instance::{Instance, InstancesFault};
+use gp_report::AnswerOf;
 use std::alloc::{AllocError, Global};
 
-// What is asked of a window: the instances of each property, nothing where there are too many; and the query of each
-// instance, in order. The number of a query is its ticket.
+// An ask, and the answer that it has already.
 #[derive(Drop)]
-pub(crate) struct AskedWindow {
-    pub(crate) listed: Vec<Option<Row<Instance>>>,
+pub(crate) struct Asked<S> {
+    pub(crate) ask: Instance,
+    pub(crate) given: Option<AnswerOf<S>>,
+}
+
+// What is asked of a window: the asks of each subject, nothing where there are too many; and the query of each that has no
+// answer yet, in order. The number of a query is its ticket.
+#[derive(Drop)]
+pub(crate) struct Listing<S> {
+    pub(crate) listed: Row<Option<Row<Asked<S>>>>,
     pub(crate) queries: Vec<Query>,
 }
 
 // What is asked of a window that is encoded.
-pub(crate) fn listing_of(
+pub(crate) fn listing_of<Q: Question>(
     alloc: Global,
-    encoded: &Encoded,
-    properties: &[Property],
-) -> Result<AskedWindow, AllocError>
-    requires { length properties.now ≤ 64 }
-    ensures properties { OnOk result (All IsProperty properties.now) }
-    ensures listed { IfOk result (λ listing. listing.listed.items ≡ listed_from encoded.now 0 properties.now) }
-    ensures queries { IfOk result (λ listing. listing.queries.items ≡ queries_from encoded.now 0 properties.now) }
+    question: &Q,
+    encoded: &Q::Encoded,
+) -> Result<Listing<Q::Shown>, AllocError>
+    ensures listed { IfOk result (λ listing. listing.listed ≡ listed_from (Q.form question.now) (Q.window_in encoded.now) 0 (Q.form question.now).subjects) }
+    ensures queries { IfOk result (λ listing. listing.queries.items ≡ queries_from (Q.form question.now) (Q.window_in encoded.now) 0 (Q.form question.now).subjects) }
 {
-    let window = encoded.window();
-    let mut listed = Vec::new(alloc);
+    question.laws();
+    let mut listed = Row::new(alloc);
     let mut queries = Vec::new(alloc);
-    for (number, property) in properties.iter().enumerate() {
-        property.keeps_rules();
-        let own = listed_of(alloc, window, property, number as u32)?;
-        add_queries(alloc, &mut queries, encoded, property, &own)?;
-        listed.push(own)?;
+    let mut left = question.subjects();
+    let mut number = 0u32;
+    while let Some((subject, more)) = left.split_first() {
+        listed.push(listed_of(alloc, question, encoded, subject, number, &mut queries)?)?;
+        left = more;
+        number += 1;
     }
-    Ok(AskedWindow { listed, queries })
+    Ok(Listing { listed, queries })
 }
 
-// The instances of a property in a window, nothing where there are too many.
-fn listed_of(
+// The asks of a subject, nothing where there are too many; and the queries of those that have no answer yet are added.
+fn listed_of<Q: Question>(
     alloc: Global,
-    window: &Window,
-    property: &Property,
+    question: &Q,
+    encoded: &Q::Encoded,
+    subject: &Q::Subject,
     number: u32,
-) -> Result<Option<Row<Instance>>, AllocError>
-    ensures { IfOk result (λ listed. listed ≡ listed_of (due_instances window.now property.now number)) }
+    queries: &mut Vec<Query>,
+) -> Result<Option<Row<Asked<Q::Shown>>>, AllocError>
+    requires { ListsAsks (Q.form question.now) (Q.lists question.now) subject.now }
+    ensures listed { IfOk result (λ listed. listed ≡ listed_of (Q.form question.now) (Q.window_in encoded.now) subject.now ((Q.form question.now).asks (Q.window_in encoded.now) subject.now number)) }
+    ensures queries { OnOk result (queries.new.items ≡ queries.old.items ++ queries_of (Q.form question.now) (Q.window_in encoded.now) subject.now ((Q.form question.now).asks (Q.window_in encoded.now) subject.now number)) }
 {
-    match instances(alloc, window, property, number) {
-        Ok(listed) => Ok(Some(listed)),
+    match question.asks(alloc, question.window_of(encoded), subject, number) {
+        Ok(asks) => Ok(Some(asked_each(alloc, question, encoded, subject, asks, queries)?)),
         Err(InstancesFault::TooMany) => Ok(None),
         Err(InstancesFault::Memory) => Err(AllocError),
     }
 }
 
-// Adds the queries of the instances of a property.
-fn add_queries(
+// These asks with the answers that they have already; and the queries of the others are added.
+fn asked_each<Q: Question>(
     alloc: Global,
+    question: &Q,
+    encoded: &Q::Encoded,
+    subject: &Q::Subject,
+    asks: Row<Instance>,
     queries: &mut Vec<Query>,
-    encoded: &Encoded,
-    property: &Property,
-    listed: &Option<Row<Instance>>,
-) -> Result<(), AllocError>
-    ensures { OnOk result (queries.new.items ≡ queries.old.items ++ queries_of encoded.now property.now listed.now) }
+) -> Result<Row<Asked<Q::Shown>>, AllocError>
+    requires { AllByRecursion (λ ask. Q.lists question.now (Q.window_in encoded.now) subject.now ask.events) asks }
+    ensures asked { IfOk result (λ asked. asked ≡ map (asked_of (Q.form question.now) (Q.window_in encoded.now) subject.now) asks) }
+    ensures queries { OnOk result (queries.new.items ≡ queries.old.items ++ queries_each (Q.form question.now) (Q.window_in encoded.now) subject.now asks) }
 {
-    match listed {
-        None => Ok(()),
-        Some(listed) => add_all(alloc, queries, encoded, property, listed.as_slice()),
+    let mut asked = Row::new(alloc);
+    let mut left = Left::of(asks);
+    while let Some(ask) = left.next() {
+        asked.push(asked_one(alloc, question, encoded, subject, ask, queries)?)?;
     }
+    Ok(asked)
 }
 
-fn add_all(
+// An ask with the answer that it has already; else its query is added.
+fn asked_one<Q: Question>(
     alloc: Global,
+    question: &Q,
+    encoded: &Q::Encoded,
+    subject: &Q::Subject,
+    ask: Instance,
     queries: &mut Vec<Query>,
-    encoded: &Encoded,
-    property: &Property,
-    listed: &[Instance],
-) -> Result<(), AllocError>
-    ensures { OnOk result (queries.new.items ≡ queries.old.items ++ map (λ instance. query_of encoded.now property.now instance.events) listed.now) }
+) -> Result<Asked<Q::Shown>, AllocError>
+    requires { Q.lists question.now (Q.window_in encoded.now) subject.now ask.events }
+    ensures asked { IfOk result (λ asked. asked ≡ asked_of (Q.form question.now) (Q.window_in encoded.now) subject.now ask) }
+    ensures queries { OnOk result (queries.new.items ≡ queries.old.items ++ query_for (Q.form question.now) (Q.window_in encoded.now) subject.now ask ((Q.form question.now).given (Q.window_in encoded.now) subject.now ask.events)) }
 {
-    for instance in listed {
-        queries.push(query(alloc, encoded, property, instance)?)?;
+    let given = question.given(alloc, encoded, subject, &ask)?;
+    match given {
+        None => {
+            queries.push(question.query(alloc, encoded, subject, &ask)?)?;
+            Ok(Asked { ask, given: None })
+        }
+        Some(given) => Ok(Asked {
+            ask,
+            given: Some(given),
+        }),
     }
-    Ok(())
 }

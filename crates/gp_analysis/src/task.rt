@@ -1,10 +1,8 @@
-use gp_property::Property;
-
-// What is asked of each window: its instances of these properties are answered by so many workers, each of which has this
-// budget for an instance, and passes the gate before each of its own.
+// What is asked of each window: this question is answered by so many workers, each of which has this budget for an ask, and
+// passes the gate before each of its own.
 #[derive(Drop)]
-pub(crate) struct Instructions<'a, G> {
-    pub(crate) properties: &'a [Property],
+pub(crate) struct Instructions<'a, Q, G> {
+    pub(crate) question: &'a Q,
     pub(crate) workers: u32,
     pub(crate) budget: u64,
     pub(crate) gate: &'a G,

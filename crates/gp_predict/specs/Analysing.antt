@@ -2,7 +2,7 @@
 use Rattle.std.specs.Prelude.{ℕ, ◌++◌, ◌*◌, ◌≤◌, List, Option, None, Some, Result, Ok, if◌then◌else◌, length, codes, decimal}
 use Rattle.std.specs.List.{list_any}
 use Rattle.gp_outside.specs.Folders.{File}
-use Rattle.gp_analysis.specs.Tickets.{asked_total, too_much}
+use Rattle.gp_patterns.specs.Tickets.{asked_total, too_much}
 use Rattle.gp_report.specs.Records.{Entry}
 use Rattle.gp_report.specs.Entries.{entries_of, is_found}
 use Rattle.gp_report.specs.ReportForm.{ReportForm}

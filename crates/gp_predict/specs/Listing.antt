@@ -11,7 +11,7 @@ use Rattle.gp_instance.specs.declared.instance.Instance.{Instance}
 use Rattle.gp_instance.specs.declared.instance.InstancesFault.{InstancesFault}
 use Rattle.gp_instance.specs.declared.instance.InstancesFault.TheVariants.{TooMany, Memory}
 use Rattle.gp_instance.specs.Instances.{due_instances}
-use Rattle.gp_analysis.specs.Tickets.{properties_count}
+use Rattle.gp_patterns.specs.Tickets.{properties_count}
 use Rattle.gp_predict.specs.declared.reply.Reply.{Reply}
 use Rattle.gp_predict.specs.declared.listing.Listing.{Listing}
 use Rattle.gp_predict.specs.Content.{content_at, recording_at}

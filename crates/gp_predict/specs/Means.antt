@@ -1,6 +1,6 @@
 -- What may be told where something is due: one line a task.
 use Rattle.std.specs.Prelude.{ℕ, ◌≡◌, ◌≢◌}
-use Rattle.gp_analysis.specs.Answered.{IsAnswered}
+use Rattle.gp_patterns.specs.Answered.{IsAnswered}
 use Rattle.gp_checker.specs.declared.failure.Checked.{Checked}
 use Rattle.gp_compact.specs.Compact.{IsCompacted}
 use Rattle.gp_report.specs.ReportForm.{ReportForm}

@@ -3,7 +3,7 @@ ghost use Rattle.std.specs.List.{AllByRecursion};
 ghost use Rattle.gp_instance.specs.Instances.{due_instances};
 ghost use Rattle.gp_property.specs.Property.{IsProperty};
 ghost use Rattle.gp_property.specs.Reading.{properties_of};
-ghost use Rattle.gp_analysis.specs.Tickets.{listed_count, properties_count};
+ghost use Rattle.gp_patterns.specs.Tickets.{listed_count, properties_count};
 ghost use Rattle.gp_predict.specs.Listing.{instance_lines, list_at, listing_at, properties_at, properties_lines, property_lines, window_count, window_lines};
 ghost use Rattle.gp_predict.specs.Finished.{CameTo, told_by};
 ghost use Rattle.gp_predict.specs.Refusal.{properties_refusal};

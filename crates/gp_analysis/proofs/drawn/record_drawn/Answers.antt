@@ -6,5 +6,5 @@ pub returns : goal.returns
 returns g c = record {
   own = single_has_drawn c.args.tickets.now _ c.in_ok-made.ensures.drawer c.in_ok-made.ensures.numbers;
   stands_for = c.in_ok-made.ensures.drawer.one;
-  tells = c.in_ok-made.ensures.tells;
+  records = c.in_ok-made.ensures.records;
 }

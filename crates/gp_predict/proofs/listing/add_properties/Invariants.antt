@@ -1,5 +1,5 @@
 use Rattle.std.proofs.Common.{◌≡◌, ◌≤◌, ◌+◌, ◌*◌, ◌++◌, drop}
-use Rattle.gp_analysis.specs.Tickets.{properties_count}
+use Rattle.gp_patterns.specs.Tickets.{properties_count}
 use Rattle.gp_predict.specs.Listing.{properties_lines}
 use Rattle.gp_predict.proofs.listing.add_properties.Given as goal
 

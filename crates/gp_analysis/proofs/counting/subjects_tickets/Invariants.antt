@@ -1,0 +1,16 @@
+use Rattle.std.proofs.Common.{◌≡◌, ◌≤◌, ◌+◌, length}
+use Rattle.std.specs.List.{AllByRecursion}
+use Rattle.gp_analysis.specs.Question.{ListsAsks}
+use Rattle.gp_analysis.specs.Tickets.{subjects_tickets}
+use Rattle.gp_analysis.proofs.counting.subjects_tickets.Given as goal
+
+abbrev pub decreases-loop-subject : goal.decreases-loop-subject
+decreases-loop-subject g l = length l.left
+
+abbrev pub invariant-loop-subject : goal.invariant-loop-subject
+invariant-loop-subject g l = record {
+  count : l.count + subjects_tickets (g.Q.Question.form l.question) (g.Q.Question.window_in l.encoded) l.number l.left
+      ≡ subjects_tickets (g.Q.Question.form l.question) (g.Q.Question.window_in l.encoded) 0 (g.Q.Question.form l.question).subjects;
+  few : l.number + length l.left ≤ 64;
+  asks : AllByRecursion (ListsAsks (g.Q.Question.form l.question) (g.Q.Question.lists l.question)) l.left;
+}

@@ -1,5 +1,0 @@
-use Rattle.gp_analysis.proofs.Enough.{enough_decides_lem}
-use Rattle.gp_analysis.proofs.laws.enough_decides.Goals as goal
-
-pub returns : goal.returns
-returns c = enough_decides_lem

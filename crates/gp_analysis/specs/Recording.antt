@@ -1,0 +1,76 @@
+-- How the answers of a window's workers are recorded, one after another.
+use Rattle.std.specs.Prelude.{◌≡◌, List, [], ◌∷◌, Option, Some, None}
+use Rattle.gp_clause.specs.declared.problem.Problem.{Problem}
+use Rattle.gp_clause.specs.declared.problem.Query.{Query}
+use Rattle.gp_clause.specs.Valuation.{Meets}
+use Rattle.gp_instance.specs.declared.instance.Instance.{Instance}
+use Rattle.gp_report.specs.declared.record.AnswerOf.{AnswerOf}
+use Rattle.gp_report.specs.declared.record.AnswerOf.TheVariants.{Found, Impossible, Undecided}
+use Rattle.gp_report.specs.declared.record.EntryOf.{EntryOf}
+use Rattle.gp_report.specs.declared.record.PropertyBodyOf.{PropertyBodyOf}
+use Rattle.gp_report.specs.declared.record.PropertyBodyOf.TheVariants.{TooMany, Entries}
+use Rattle.gp_window.specs.declared.schedule.EventId.{EventId}
+use Rattle.gp_window.specs.WindowForm.{WindowForm}
+use Rattle.gp_workers.specs.declared.work.WorkAnswer.{WorkAnswer}
+use Rattle.gp_workers.specs.declared.work.WorkAnswer.TheVariants.{Model, Refuted, Spent}
+use Rattle.gp_analysis.specs.declared.listing.Asked.{Asked}
+use Rattle.gp_analysis.specs.Question.{QuestionForm}
+
+-- a valuation meets the problem and the query; of other answers nothing is wanted before they are recorded
+abbrev pub IsSound : Problem → Query → WorkAnswer → Type 0
+IsSound problem query (Model valuation) = Meets problem query valuation
+IsSound problem query (Refuted certificate) = Unit {0}
+IsSound problem query (Spent worker from to) = Unit {0}
+
+-- what is left of the answers after an ask, which takes one where it has none already
+abbrev pub left_after : {Shown : Type 0} → Option (AnswerOf Shown) → List WorkAnswer → List WorkAnswer
+left_after (Some given) answers = answers
+left_after None [] = []
+left_after None (answer ∷ answers) = answers
+
+module _ {Subject Shown : Type 0} (question : QuestionForm Subject Shown) (lists : WindowForm → Subject → List EventId → Type 0) where
+  -- the first of these answers can be recorded of an ask, where it has none already
+  abbrev pub CanRecordAsk : WindowForm → Subject → List EventId → Option (AnswerOf Shown) → List WorkAnswer → Type 0
+  CanRecordAsk window subject ids (Some given) answers = Unit {0}
+  CanRecordAsk window subject ids None [] = ⊥
+  CanRecordAsk window subject ids None (answer ∷ answers) = IsSound (question.problem window) (question.query window subject ids) answer
+
+  -- the first of these answers can be recorded of the asks of a subject
+  abbrev pub CanRecordEach : WindowForm → Subject → List (Asked Shown) → List WorkAnswer → Type 0
+  CanRecordEach window subject [] answers = Unit {0}
+  CanRecordEach window subject (asked ∷ more) answers =
+      lists window subject asked.ask.events × CanRecordAsk window subject asked.ask.events asked.given answers
+      × CanRecordEach window subject more (left_after asked.given answers)
+
+  -- the same of the asks that are listed of a subject, if any
+  abbrev pub CanRecord : WindowForm → Subject → Option (List (Asked Shown)) → List WorkAnswer → Type 0
+  CanRecord window subject None answers = Unit {0}
+  CanRecord window subject (Some asked) answers = CanRecordEach window subject asked answers
+
+module _ {Subject Shown : Type 0} (question : QuestionForm Subject Shown) where
+  -- how an answer is recorded of an ask: a valuation as what it shows, all else as it is
+  abbrev pub RecordsAnswer : WindowForm → Subject → List EventId → WorkAnswer → AnswerOf Shown → Type 0
+  RecordsAnswer window subject ids (Model valuation) (Found shown) = question.shows window subject ids shown
+  RecordsAnswer window subject ids (Refuted certificate) (Impossible own) = own ≡ certificate
+  RecordsAnswer window subject ids (Spent worker from to) (Undecided by begins ends) = (by ≡ worker) × (begins ≡ from) × (ends ≡ to)
+  RecordsAnswer window subject ids _ _ = ⊥
+
+  -- the answer that an ask has already is recorded as it is, else the first of these answers is
+  abbrev pub RecordsAsk : WindowForm → Subject → List EventId → Option (AnswerOf Shown) → List WorkAnswer → AnswerOf Shown → Type 0
+  RecordsAsk window subject ids (Some given) answers own = own ≡ given
+  RecordsAsk window subject ids None [] own = ⊥
+  RecordsAsk window subject ids None (answer ∷ answers) own = RecordsAnswer window subject ids answer own
+
+  -- entries record asks by the first of these answers, in order, and the other answers are left
+  abbrev pub RecordsEach : WindowForm → Subject → List (Asked Shown) → List WorkAnswer → List (EntryOf Shown) → List WorkAnswer → Type 0
+  RecordsEach window subject [] answers [] left = answers ≡ left
+  RecordsEach window subject (asked ∷ more) answers (entry ∷ entries) left =
+      (entry.events ≡ asked.ask.events) × RecordsAsk window subject asked.ask.events asked.given answers entry.answer
+      × RecordsEach window subject more (left_after asked.given answers) entries left
+  RecordsEach window subject _ _ _ left = ⊥
+
+  -- what is recorded of a subject by the first of these answers, where these of its asks are listed
+  abbrev pub RecordsListed : WindowForm → Subject → Option (List (Asked Shown)) → List WorkAnswer → PropertyBodyOf Shown → List WorkAnswer → Type 0
+  RecordsListed window subject None answers TooMany left = answers ≡ left
+  RecordsListed window subject (Some asked) answers (Entries entries) left = RecordsEach window subject asked answers entries left
+  RecordsListed window subject _ answers _ left = ⊥

@@ -1,0 +1,7 @@
+mod Lawful
+mod Same
+mod Reports
+mod Agreement
+mod Digits
+mod Few
+mod Enough

@@ -1,0 +1,27 @@
+-- What is recorded of all windows is a report, which answers the recording.
+use Rattle.std.proofs.Common.{◌≡◌, ◌∙◌, sym, subst, ◌*◌, ◌≤◌, ℕ, List}
+use Rattle.gp_property.specs.PropertyForm.{PropertyForm}
+use Rattle.gp_window.specs.Windows.{all_windows}
+use Rattle.gp_analysis.specs.Recorded.{RecordEach}
+use Rattle.gp_analysis.specs.Tickets as ticket
+use Rattle.gp_patterns.specs.Question.{patterns}
+use Rattle.gp_patterns.proofs.Reports.{is_report, report_answers}
+use Rattle.gp_patterns.proofs.Same.{total_same}
+use Rattle.gp_patterns.proofs.analysing.analyse.Goals as goal
+
+pub analyse-requires-clause-limit : goal.analyse-requires-clause-limit
+analyse-requires-clause-limit g c _ _ =
+    let r = c.args.recording.now in
+    let properties = c.args.properties.now in
+    subst (λ (ps : List PropertyForm). ticket.asked_total (patterns ps) r * c.args.budget ≤ 1000000) (sym c.of-question.ensures)
+    (subst (λ (n : ℕ). n * c.args.budget ≤ 1000000) (sym (total_same r properties)) c.requires.limit)
+
+pub new-requires : goal.new-requires
+new-requires g c =
+    let each = subst (λ (ps : List PropertyForm). RecordEach (patterns ps) c.args.workers c.args.budget (all_windows c.args.recording.now) c.in_ok-windows.windows) c.of-question.ensures c.in_ok-windows.ensures in
+    is_report c.args.properties.now c.args.workers c.args.budget c.args.recording.now c.in_ok-windows.windows c.requires.budget c.requires.most each
+
+pub returns-clause-answered : goal.returns-clause-answered
+returns-clause-answered g c =
+    let each = subst (λ (ps : List PropertyForm). RecordEach (patterns ps) c.args.workers c.args.budget (all_windows c.args.recording.now) c.in_ok-windows.windows) c.of-question.ensures c.in_ok-windows.ensures in
+    report_answers c.args.properties.now c.args.workers c.args.budget c.args.recording.now c.in_ok-windows.windows c.new.result each c.new.ensures

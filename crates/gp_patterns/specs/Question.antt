@@ -1,0 +1,41 @@
+-- The question which instances of properties are possible.
+use Rattle.std.specs.Prelude.{ℕ, ◌≡◌, ◌↔◌, List, Option, None, Some, Result, Ok, Err}
+use Rattle.gp_constraint.specs.declared.fault.BaseFault.{BaseFault}
+use Rattle.gp_constraint.specs.declared.fault.BaseFault.TheVariants as no_window
+use Rattle.gp_constraint.specs.Base.{base_of}
+use Rattle.gp_constraint.specs.Encoded.{base_due}
+use Rattle.gp_constraint.specs.Query.{query_of}
+use Rattle.gp_instance.specs.Instances.{due_instances}
+use Rattle.gp_property.specs.PropertyForm.{PropertyForm}
+use Rattle.gp_report.specs.ReportForm.{ReportForm}
+use Rattle.gp_window.specs.declared.schedule.Schedule.{Schedule}
+use Rattle.gp_window.specs.RecordingForm.{RecordingForm}
+use Rattle.gp_window.specs.WindowForm.{WindowForm}
+use Rattle.gp_analysis.specs.declared.question.TooLarge.{TooLarge}
+use Rattle.gp_analysis.specs.Answered.{IsAnswered as AnswersQuestion}
+use Rattle.gp_analysis.specs.Question.{QuestionForm}
+use Rattle.gp_patterns.specs.Answered.{IsAnswered, IsShown}
+
+-- the two numbers of a window that has no constraints, since it is too large
+abbrev pub too_large_in : Result WindowForm BaseFault → Option TooLarge
+too_large_in (Ok encoded) = None
+too_large_in (Err (no_window.TooLarge events clauses)) = Some (record { events = events; clauses = clauses })
+too_large_in (Err no_window.Memory) = Some (record { events = 0; clauses = 0 })
+
+-- each property asks for its instances; an instance has no answer before, and a feasible schedule that matches it shows it
+abbrev pub patterns : List PropertyForm → QuestionForm PropertyForm Schedule
+patterns properties = record {
+  subjects = properties;
+  name = λ (property : PropertyForm). property.name;
+  too_large = λ window. too_large_in (base_due window);
+  problem = base_of;
+  asks = due_instances;
+  query = query_of;
+  given = λ window property ids. None;
+  shows = λ window property ids (schedule : Schedule). IsShown window property ids schedule.events;
+}
+
+-- a report answers a recording and its properties exactly where its windows answer this question, with its budget
+abbrev pub PatternsAnswered : Type 0
+PatternsAnswered = (recording : RecordingForm) (properties : List PropertyForm) (count budget : ℕ) (report : ReportForm)
+    → IsAnswered recording properties count budget report ↔ ((report.budget ≡ budget) × AnswersQuestion (patterns properties) recording count budget report.windows)

@@ -77,6 +77,12 @@ Owes view held = (number : ℕ) → MayPush view number → sent_by number (hist
 abbrev pub IsDrained : View → Type 0
 IsDrained view = (number : ℕ) → MayPush view number → sent_by number view.taken ≡ sent_by number view.pushed
 
+-- a pass that holds the number of each sender, may take, and took all that was pushed
+pub record IsWhole (view : View) : Type 0 where
+  pub numbers : (number : ℕ) → count_by (◌==◌ number) view.numbers ≡ count_by (◌==◌ number) view.senders
+  pub takes : view.takes ≡ true
+  pub drained : IsDrained view
+
 -- what a sender learns of what the queue holds: where it pushed fewer than 1,024 under a number, a place is free
 abbrev pub HasRoom : View → List SharedClause → Type 0
 HasRoom view held = (number : ℕ) → MayPush view number → length (sent_by number view.pushed) < 1024 → length held < 1024 * length view.senders

@@ -2,7 +2,7 @@ ghost use Rattle.crossbeam_queue.specs.Passes.{view};
 ghost use Rattle.gp_inbox.specs.History.{sent_by};
 ghost use Rattle.gp_inbox.specs.Passes.{IsOf};
 ghost use Rattle.gp_inbox.specs.Senders.{AllDifferent};
-ghost use Rattle.gp_inbox.specs.Views.{IsDrained, IsGoodFor, joined, MayPush, pushed_one, sender_view, taker_view, Takes};
+ghost use Rattle.gp_inbox.specs.Views.{IsDrained, IsGoodFor, IsWhole, joined, MayPush, pushed_one, sender_view, taker_view, Takes};
 ghost use Rattle.std.specs.Prelude.{◌≡◌, ◌<◌, ◌≤◌, true, All, IfNone, IfOk, length, map, MatchOption};
 
 use crate::rule::{Both, InboxRule, Push, Take, View};
@@ -39,6 +39,26 @@ impl Inbox {
         inbox.open::<Brand>(&mut pass, base, senders);
         let passes = inbox.cut(alloc, &mut pass, base, senders)?;
         Ok((inbox, passes, pass))
+    }
+
+    /// The inbox serves another problem, once all its passes were joined into this one and all that was pushed was taken: a pass
+    /// for each sender in their order, and this one is the taker's.
+    pub fn renew(
+        &self,
+        alloc: Global,
+        pass: &mut Pass,
+        base: &Problem,
+        senders: &[u32],
+    ) -> Result<Vec<Pass>, AllocError>
+        requires own { IsOf self.now pass.old }
+        requires whole { IsWhole (view pass.old) }
+        requires same { senders.now ≡ (view pass.old).senders }
+        ensures own { IfOk result (λ passes. All (IsOf self.now) passes.items × IsOf self.now pass.new) }
+        ensures senders { IfOk result (λ passes. map view passes.items ≡ map (sender_view base.now senders.now) senders.now) }
+        ensures taker { IfOk result (λ _. view pass.new ≡ taker_view base.now senders.now) }
+    {
+        self.reopen::<Brand>(pass, base, senders);
+        self.cut(alloc, pass, base, senders)
     }
 
     /// Pushes the clause. The queue has a place for it. It takes no memory.

@@ -1,7 +1,7 @@
 ghost use Rattle.crossbeam_queue.specs.Passes.{IsPassOf, ruled_capacity, view};
 ghost use Rattle.gp_inbox.specs.Passes.{IsOf};
 ghost use Rattle.gp_inbox.specs.Senders.{AllDifferent};
-ghost use Rattle.gp_inbox.specs.Views.{blank, opened, sender_view, taker_view};
+ghost use Rattle.gp_inbox.specs.Views.{blank, IsWhole, opened, sender_view, taker_view};
 ghost use Rattle.std.specs.Prelude.{◌≡◌, ◌*◌, ◌≤◌, Some, All, IfOk, length, map};
 
 use crate::inbox::{Inbox, Pass};
@@ -26,6 +26,17 @@ impl Inbox {
         requires named { (N.base ≡ Some _base.now) × (N.senders ≡ _senders.now) }
         requires pass { IsPassOf self.now.queue pass.old × (view pass.old ≡ blank) }
         requires different { AllDifferent _senders.now }
+        ensures { IsPassOf self.now.queue pass.new × (view pass.new ≡ opened (Some _base.now) _senders.now) }
+    {
+        let _ = self.queue.another::<Open<N>>(pass);
+    }
+
+    // From here on the inbox is one of this base, for the senders that it has.
+    pub(crate) fn reopen<N: Naming>(&self, pass: &mut Pass, _base: &Problem, _senders: &[u32])
+        requires named { (N.base ≡ Some _base.now) × (N.senders ≡ _senders.now) }
+        requires own { IsOf self.now pass.old }
+        requires whole { IsWhole (view pass.old) }
+        requires same { _senders.now ≡ (view pass.old).senders }
         ensures { IsPassOf self.now.queue pass.new × (view pass.new ≡ opened (Some _base.now) _senders.now) }
     {
         let _ = self.queue.another::<Open<N>>(pass);

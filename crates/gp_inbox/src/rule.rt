@@ -86,7 +86,7 @@ impl Naming for Brand {
     ghost senders = { [] };
 }
 
-// The first pass learns the base and the senders. The other half of the split is spent.
+// A pass that holds every number and may take learns the base and the senders. The other half of the split is spent.
 pub(crate) struct Open<N> {
     naming: PhantomData<N>,
 }

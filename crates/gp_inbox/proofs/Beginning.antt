@@ -33,6 +33,7 @@ spent_fits base senders pushes got = record {
   taker = λ may. absurd (true≢false (sym may));
   other = λ may_not. refl;
   idle = λ none. (refl, refl, refl);
+  busy = λ none may_not. refl;
   own = λ number may. absurd (omega (arith, may));
   none = λ number without. refl;
   sound = All-nil (IsGoodFor base);
@@ -45,6 +46,7 @@ blank_fits view is = subst (Fits None [] (λ number. []) []) is (record {
   taker = λ may. (refl, refl, refl);
   other = λ may_not. refl;
   idle = λ none. (refl, refl, refl);
+  busy = λ none may_not. refl;
   own = λ number may. absurd (omega (arith, may));
   none = λ number without. refl;
   sound = All-nil (IsGoodFor None);
@@ -70,29 +72,30 @@ begins = record {
   short = λ number. omega arith;
 }
 
--- the first view, once it is opened
-opened_fits : (base : Problem) (senders : List ℕ) → Fits (Some base) senders (λ number. []) [] (opened (Some base) senders)
+-- a view that holds every number and may take, once it is opened
+pub opened_fits : (base : Problem) (senders : List ℕ) → Fits (Some base) senders (λ number. []) [] (opened (Some base) senders)
 opened_fits base senders = record {
   same = λ there. (refl, refl);
   taker = λ may. (refl, refl, refl);
   other = λ may_not. refl;
   idle = λ none. absurd (some_not_none (Some base) refl none);
+  busy = λ none may_not. absurd (true≢false may_not);
   own = λ number may. refl;
   none = λ number without. refl;
   sound = All-nil (IsGoodFor (Some base));
 }
 
--- any other view knows nothing then
-other_fits : (before : Option Problem) (before_senders : List ℕ) (pushes : ℕ → List SharedClause) (got : List SharedClause) (view : View) → Fits before before_senders pushes got view → before ≡ None
-    → (view.takes ≡ true → ⊥) → (base : Problem) (senders : List ℕ) → Fits (Some base) senders (λ number. []) [] view
-other_fits before before_senders pushes got view fits closed may_not base senders =
-    let none : view.base ≡ None = none_unless view.base (λ there. (fits.same there).0 ∙ closed) in
+-- a view that knows nothing fits the base that is opened
+pub other_fits : (before : Option Problem) (before_senders : List ℕ) (pushes : ℕ → List SharedClause) (got : List SharedClause) (view : View) → Fits before before_senders pushes got view
+    → view.base ≡ None → (view.takes ≡ true → ⊥) → (base : Problem) (senders : List ℕ) → Fits (Some base) senders (λ number. []) [] view
+other_fits before before_senders pushes got view fits none may_not base senders =
     let idle = fits.idle none in
     record {
       same = λ there. absurd (some_not_none view.base there none);
       taker = λ may. absurd (may_not may);
       other = fits.other;
       idle = fits.idle;
+      busy = fits.busy;
       own = λ number may. let without : count_by (◌==◌ number) view.numbers ≡ 0 = ap (count_by (◌==◌ number)) idle.0 in absurd (omega (arith, without, may));
       none = λ number without. ap (sent_by number) idle.1;
       sound = subst (All (IsGoodFor (Some base))) (sym idle.1) (All-nil (IsGoodFor (Some base)));
@@ -116,7 +119,8 @@ keeps_open held views seat view base senders kept at is different =
       fits = each_push (Fits (Some base) senders (λ number. []) []) (set views seat new) spent
           (each_set (Fits (Some base) senders (λ number. []) []) views seat new (opened_fits base senders)
           (λ other one apart there.
-          other_fits kept.base kept.senders kept.pushes kept.got one (kept.fits other one there) closed (no_other views seat other view one kept.one at apart there takes) base senders))
+          other_fits kept.base kept.senders kept.pushes kept.got one (kept.fits other one there) (none_unless one.base (λ has. ((kept.fits other one there).same has).0 ∙ closed))
+          (no_other views seat other view one kept.one at apart there takes) base senders))
           (spent_fits (Some base) senders (λ number. []) []);
       order = λ number. ap (sent_by number) empty.1;
       good = subst (All (IsGoodFor (Some base))) (sym empty.1) (All-nil (IsGoodFor (Some base)));

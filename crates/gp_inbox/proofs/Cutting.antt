@@ -1,5 +1,5 @@
 -- One number after another is handed over.
-use Rattle.std.proofs.Common.{◌≡◌, refl, sym, ap, ◌∙◌, subst, ℕ, ◌+◌, ◌*◌, ◌<◌, true, false, Some, IsSome, List, [], ◌∷◌, ◌++◌, length, map, take, drop, get_or, add-one, drop-cons}
+use Rattle.std.proofs.Common.{◌≡◌, refl, sym, ap, ◌∙◌, subst, ℕ, suc, ◌+◌, ◌*◌, ◌<◌, true, false, Some, IsSome, List, [], ◌∷◌, ◌++◌, length, map, take, drop, get_or, add-one, drop-cons, arith}
 use Rattle.std.proofs.lemmas.List.{map-append, take_more}
 use Rattle.crossbeam_queue.specs.Passes.{IsPassOf, Pass, ruled_capacity, view}
 use Rattle.gp_clause.specs.declared.problem.Problem.{Problem}
@@ -8,6 +8,12 @@ use Rattle.gp_inbox.specs.declared.inbox.Inbox.{Inbox}
 use Rattle.gp_inbox.specs.declared.rule.View.{View}
 use Rattle.gp_inbox.specs.Passes.{IsOf}
 use Rattle.gp_inbox.specs.Views.{left_of, one_of, sender_view, unused}
+
+-- a number is left as long as fewer were handed over than there are
+pub some_left : (senders : List ℕ) (i : ℕ) (numbers : List ℕ) → numbers ≡ drop i senders → i < length senders → 0 < length numbers
+some_left senders i numbers left more =
+    let parts : length numbers ≡ length (get_or senders i 0 ∷ drop (suc i) senders) = ap length (left ∙ drop-cons senders i 0 more) in
+    omega (arith, parts)
 
 -- what is left after one more
 pub left_after : (base : Problem) (senders : List ℕ) (i : ℕ) → i < length senders → left_of (unused (Some base) senders (drop i senders) true) ≡ unused (Some base) senders (drop (i + 1) senders) true

@@ -14,7 +14,7 @@ use Rattle.gp_inbox.specs.Views.{IsGoodFor, joined, spent}
 use Rattle.gp_base.specs.SumLaws.{sum_set, two_most, count_append}
 use Rattle.gp_inbox.proofs.Beginning.{spent_fits}
 use Rattle.gp_inbox.proofs.Parting.{some_not_none}
-use Rattle.gp_inbox.proofs.Sending.{sent_append}
+use Rattle.gp_inbox.proofs.Sending.{both_empty, sent_append}
 use Rattle.gp_inbox.proofs.Elements.{each_set}
 
 -- what two took, of which one may take at most
@@ -29,6 +29,11 @@ join_taken false false mine theirs got is_mine is_theirs no_mine no_theirs few m
 join_untaken : (a b : Bool) (mine theirs : List SharedClause) → (a ≡ false → mine ≡ []) → (b ≡ false → theirs ≡ []) → (a || b) ≡ false → mine ++ theirs ≡ []
 join_untaken true b mine theirs no_mine no_theirs may_not = absurd (true≢false may_not)
 join_untaken false b mine theirs no_mine no_theirs may_not = λ i. no_mine refl i ++ no_theirs may_not i
+
+-- where the joined one may not take, the first may not
+join_idle : (a b : Bool) → (a || b) ≡ false → a ≡ false
+join_idle true b may_not = absurd (true≢false may_not)
+join_idle false b may_not = refl
 
 -- of two that take one does, so the joined one does
 join_one : (a b : Bool) → (if a then 1 else 0) + (if b then 1 else 0) ≤ 1 → (if (a || b) then 1 else 0) ≡ (if a then 1 else 0) + (if b then 1 else 0)
@@ -57,6 +62,7 @@ join_both base senders pushes got view other mine theirs there few alone known =
   );
   other = λ may_not. join_untaken view.takes other.takes view.taken other.taken mine.other theirs.other may_not;
   idle = λ none. absurd (some_not_none view.base there none);
+  busy = λ none may_not. mine.busy (both_empty view.numbers other.numbers none).0 (join_idle view.takes other.takes may_not);
   own = λ number may.
       sent_append number view.pushed other.pushed
       ∙ join_own (count_by (◌==◌ number) view.numbers) (count_by (◌==◌ number) other.numbers) (sent_by number view.pushed) (sent_by number other.pushed) (pushes number) (mine.own number) (theirs.own number) (mine.none number)

@@ -5,6 +5,7 @@ mod Pushing
 mod Taking
 mod Parting
 mod Beginning
+mod Renewing
 mod Joining
 mod Learning
 mod Steps

@@ -1,5 +1,5 @@
 -- To hand a number over keeps the rule.
-use Rattle.std.proofs.Common.{◌≡◌, refl, sym, subst, ap, ◌∙◌, ℕ, true≢false, Option, None, IsSome, List, [], ◌∷◌, ◌++◌, set, arith, count_by, ◌==◌}
+use Rattle.std.proofs.Common.{◌≡◌, refl, sym, subst, ap, ◌∙◌, ℕ, ◌<◌, true, true≢false, Option, None, IsSome, List, [], ◌∷◌, ◌++◌, length, take, set, arith, count_by, ◌==◌}
 use Rattle.std.proofs.lemmas.List.Elements.{All-nil}
 use Rattle.std.proofs.lemmas.List.Sums.{sum_by_push}
 use mathlib.Core.Option.{some}
@@ -18,14 +18,20 @@ use Rattle.gp_inbox.proofs.Elements.{each_push, each_set}
 pub some_not_none : (base : Option Problem) → IsSome base → base ≡ None → ⊥
 some_not_none base there none = true≢false (sym (subst IsSome none there))
 
+-- the first of some numbers stays where it alone is taken
+first_stays : (numbers : List ℕ) → 0 < length numbers → take 1 numbers ≡ [] → ⊥
+first_stays [] left none = omega (arith, left)
+first_stays (number ∷ numbers) left none = cc
+
 -- what is left
 part_left : (base : Option Problem) (senders : List ℕ) (pushes : ℕ → List SharedClause) (got : List SharedClause) (view : View) → Fits base senders pushes got view → IsSome view.base → view.pushed ≡ []
-    → Fits base senders pushes got (left_of view)
-part_left base senders pushes got view fits there unused = record {
+    → view.takes ≡ true → Fits base senders pushes got (left_of view)
+part_left base senders pushes got view fits there unused takes = record {
   same = fits.same;
   taker = fits.taker;
   other = fits.other;
   idle = λ none. absurd (some_not_none view.base there none);
+  busy = λ none may_not. absurd (true≢false (sym takes ∙ may_not));
   own = λ number may. fits.own number (let parts = count_parts (◌==◌ number) view.numbers in omega (arith, parts, may));
   none = λ number without. ap (sent_by number) unused;
   sound = fits.sound;
@@ -33,20 +39,21 @@ part_left base senders pushes got view fits there unused = record {
 
 -- what is handed over
 part_right : (base : Option Problem) (senders : List ℕ) (pushes : ℕ → List SharedClause) (got : List SharedClause) (view : View) → Fits base senders pushes got view → IsSome view.base → view.pushed ≡ []
-    → Fits base senders pushes got (one_of view)
-part_right base senders pushes got view fits there unused = record {
+    → 0 < length view.numbers → Fits base senders pushes got (one_of view)
+part_right base senders pushes got view fits there unused left = record {
   same = fits.same;
   taker = λ may. absurd (true≢false (sym may));
   other = λ may_not. refl;
   idle = λ none. absurd (some_not_none view.base there none);
+  busy = λ none may_not. absurd (first_stays view.numbers left none);
   own = λ number may. sym (ap (sent_by number) unused) ∙ fits.own number (let parts = count_parts (◌==◌ number) view.numbers in omega (arith, parts, may));
   none = λ number without. refl;
   sound = All-nil (IsGoodFor base);
 }
 
 pub keeps_part : (held : List SharedClause) (views : List View) (seat : ℕ) (view : View) → Kept held views → get_elem? views seat ≡ some view → IsSome view.base → view.pushed ≡ []
-    → Kept held (set views seat (left_of view) ++ one_of view ∷ [])
-keeps_part held views seat view kept at there unused =
+    → view.takes ≡ true → 0 < length view.numbers → Kept held (set views seat (left_of view) ++ one_of view ∷ [])
+keeps_part held views seat view kept at there unused takes left_over =
     let mine = kept.fits seat view at in
     let left : View = left_of view in
     let right : View = one_of view in
@@ -56,9 +63,9 @@ keeps_part held views seat view kept at there unused =
       pushes = kept.pushes;
       got = kept.got;
       fits = each_push (Fits kept.base kept.senders kept.pushes kept.got) (set views seat left) right
-          (each_set (Fits kept.base kept.senders kept.pushes kept.got) views seat left (part_left kept.base kept.senders kept.pushes kept.got view mine there unused)
+          (each_set (Fits kept.base kept.senders kept.pushes kept.got) views seat left (part_left kept.base kept.senders kept.pushes kept.got view mine there unused takes)
           (λ other one apart at_other. kept.fits other one at_other))
-          (part_right kept.base kept.senders kept.pushes kept.got view mine there unused);
+          (part_right kept.base kept.senders kept.pushes kept.got view mine there unused left_over);
       order = kept.order;
       good = kept.good;
       from = kept.from;

@@ -39,6 +39,7 @@ push_own base senders pushes got view clause fits good sound may = record {
   taker = fits.taker;
   other = fits.other;
   idle = λ none. absurd (good_none view.base clause good none);
+  busy = fits.busy;
   own = λ number mine. sent_append number view.pushed (clause ∷ []) ∙ ap (λ (l : List SharedClause). l ++ sent_by number (clause ∷ [])) (fits.own number mine);
   none = λ number without.
       sent_append number view.pushed (clause ∷ [])
@@ -54,6 +55,7 @@ push_other base senders pushes got view clause fits without = record {
   taker = fits.taker;
   other = fits.other;
   idle = fits.idle;
+  busy = fits.busy;
   own = λ number mine.
       fits.own number mine
       ∙ sym (append-nil (pushes number))

@@ -7,12 +7,13 @@ use Rattle.gp_inbox.specs.declared.rule.View.{View}
 use Rattle.gp_inbox.specs.History.{sent_by}
 use Rattle.gp_inbox.specs.Rule.{Kept}
 use Rattle.gp_inbox.specs.Senders.{AllDifferent}
-use Rattle.gp_inbox.specs.Views.{blank, HasRoom, IsGoodFor, joined, left_of, MayPush, one_of, opened, Owes, pushed_one, spent, Takes, took_one}
+use Rattle.gp_inbox.specs.Views.{blank, HasRoom, IsGoodFor, IsWhole, joined, left_of, MayPush, one_of, opened, Owes, pushed_one, spent, Takes, took_one}
 use Rattle.gp_inbox.proofs.Joining.{keeps_join}
 use Rattle.gp_inbox.proofs.Learning.{has_room, owes}
 use Rattle.gp_inbox.proofs.Beginning.{keeps_open}
 use Rattle.gp_inbox.proofs.Parting.{keeps_part}
 use Rattle.gp_inbox.proofs.Pushing.{keeps_push}
+use Rattle.gp_inbox.proofs.Renewing.{keeps_renewal}
 use Rattle.gp_inbox.proofs.Taking.{keeps_take}
 
 -- a clause is pushed
@@ -33,12 +34,16 @@ pub learns_room : (seat : ℕ) (view : View) → IsSome view.base → Learns Kep
 learns_room seat view there held views kept at = has_room held views seat view kept at there
 
 -- a number is handed over
-pub parts : (seat : ℕ) (view : View) → IsSome view.base → view.pushed ≡ [] → Forks Kept seat view (left_of view) (one_of view)
-parts seat view there unused held views kept at = keeps_part held views seat view kept at there unused
+pub parts : (seat : ℕ) (view : View) → IsSome view.base → view.pushed ≡ [] → view.takes ≡ true → 0 < length view.numbers → Forks Kept seat view (left_of view) (one_of view)
+parts seat view there unused takes left held views kept at = keeps_part held views seat view kept at there unused takes left
 
 -- the first pass is opened
 pub opens : (seat : ℕ) (view : View) (base : Problem) → (senders : List ℕ) → view ≡ blank → AllDifferent senders → Forks Kept seat view (opened (Some base) senders) spent
 opens seat view base senders is different held views kept at = keeps_open held views seat view base senders kept at is different
+
+-- a pass that is whole is opened again
+pub reopens : (seat : ℕ) (view : View) (base : Problem) → (senders : List ℕ) → IsWhole view → senders ≡ view.senders → Forks Kept seat view (opened (Some base) senders) spent
+reopens seat view base senders whole same held views kept at = keeps_renewal held views seat view base senders kept at whole same
 
 -- two passes become one
 pub joins : (seat : ℕ) (view : View) (other : ℕ) (one : View) → IsSome view.base → Merges Kept seat view other one (joined view one) spent

@@ -14,13 +14,14 @@ abbrev pub one_that_takes : View → ℕ
 one_that_takes view = if view.takes then 1 else 0
 
 -- a view beside the base, the senders, what each of them pushed and what was taken. A view that is not spent carries the one
--- base and the one list of senders. The one that may take has what was taken, and no other has a list of it. A pushed list that
--- is not empty stands in the view with its number. Each clause in it is good
+-- base and the one list of senders, and has a number or may take. The one that may take has what was taken, and no other has a
+-- list of it. A pushed list that is not empty stands in the view with its number. Each clause in it is good
 pub record Fits (base : Option Problem) (senders : List ℕ) (pushes : ℕ → List SharedClause) (got : List SharedClause) (view : View) : Type 0 where
   pub same : IsSome view.base → (view.base ≡ base) × (view.senders ≡ senders)
   pub taker : view.takes ≡ true → (view.base ≡ base) × (view.senders ≡ senders) × (view.taken ≡ got)
   pub other : view.takes ≡ false → view.taken ≡ []
   pub idle : view.base ≡ None → (view.numbers ≡ []) × (view.pushed ≡ []) × (view.taken ≡ [])
+  pub busy : view.numbers ≡ [] → view.takes ≡ false → view.base ≡ None
   pub own : (number : ℕ) → MayPush view number → sent_by number view.pushed ≡ pushes number
   pub none : (number : ℕ) → count_by (◌==◌ number) view.numbers ≡ 0 → sent_by number view.pushed ≡ []
   pub sound : All (IsGoodFor base) view.pushed

@@ -6,12 +6,15 @@ use Rattle.crossbeam_queue.specs.Passes.{view}
 use Rattle.gp_inbox.specs.declared.rule.View.{View}
 use Rattle.gp_inbox.specs.Passes.{IsOf}
 use Rattle.gp_inbox.specs.Views.{left_of, one_of, sender_view}
-use Rattle.gp_inbox.proofs.Cutting.{handed_more, left_after, one_after, sender_is_of}
+use Rattle.gp_inbox.proofs.Cutting.{handed_more, left_after, one_after, sender_is_of, some_left}
 use Rattle.gp_inbox.proofs.Steps.{parts}
 use Rattle.gp_inbox.proofs.inbox.Inbox.cut.Goals as goal
 
 pub another-one-requires-clause-rule : goal.another-one-requires-clause-rule
-another-one-requires-clause-rule c = parts _ _ (subst (λ (view : View). IsSome view.base) (sym c.senders.invariant.knows) refl) (ap (λ (view : View). view.pushed) c.senders.invariant.knows)
+another-one-requires-clause-rule c =
+    let knows = c.senders.invariant.knows in
+    parts _ _ (subst (λ (view : View). IsSome view.base) (sym knows) refl) (ap (λ (view : View). view.pushed) knows) (ap (λ (view : View). view.takes) knows)
+    (some_left c.args.senders.now c.senders.counter _ (ap (λ (view : View). view.numbers) knows) c.senders-test.true)
 
 pub senders-preserved : goal.senders-preserved
 senders-preserved c =

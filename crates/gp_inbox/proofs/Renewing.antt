@@ -1,5 +1,5 @@
 -- The rule where a whole pass learns another base.
-use Rattle.std.proofs.Common.{◌≡◌, refl, sym, subst, ap, ◌∙◌, ℕ, ◌+◌, ◌<◌, ◌≤◌, ◌≢◌, ◌==◌, Bool, true, false, Option, None, Some, List, [], ◌∷◌, ◌++◌, length, set, All, if◌then◌else◌, arith, count_by, sum_by, length-append}
+use Rattle.std.proofs.Common.{◌≡◌, refl, sym, subst, ap, ◌∙◌, ℕ, ◌+◌, ◌<◌, ◌≢◌, ◌==◌, Bool, true, false, None, Some, List, [], ◌∷◌, ◌++◌, length, set, All, if◌then◌else◌, arith, count_by, length-append}
 use Rattle.std.proofs.lemmas.Bool.{eq-eqb}
 use Rattle.std.proofs.lemmas.List.Elements.{All-head, All-nil}
 use Rattle.std.proofs.lemmas.List.Sums.{sum_by_push}
@@ -11,7 +11,7 @@ use Rattle.gp_base.specs.SumLaws.{sum_set, two_most}
 use Rattle.gp_clause.specs.declared.problem.Problem.{Problem}
 use Rattle.gp_derivation.specs.declared.exchange.SharedClause.{SharedClause}
 use Rattle.gp_inbox.specs.declared.rule.View.{View}
-use Rattle.gp_inbox.specs.History.{history, sent_by}
+use Rattle.gp_inbox.specs.History.{sent_by}
 use Rattle.gp_inbox.specs.Rule.{Fits, Kept, one_that_takes}
 use Rattle.gp_inbox.specs.Senders.{AllDifferent}
 use Rattle.gp_inbox.specs.Views.{IsGoodFor, IsWhole, NamesOneOf, opened, spent}
@@ -26,6 +26,7 @@ nothing_counts [] none = refl
 nothing_counts (number ∷ rest) none =
     let once = count_one (◌==◌ number) (number ∷ rest) number (here number rest) (eq-eqb number number refl) in let never = none number in absurd (omega (arith, once, never))
 
+-- a test that is not true is false
 not_true : (b : Bool) → (b ≡ true → ⊥) → b ≡ false
 not_true true not = absurd (not refl)
 not_true false not = refl

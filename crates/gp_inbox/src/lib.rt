@@ -4,6 +4,7 @@
 // from it, followed by those that it holds. A push adds a clause at the end of the history, and a take moves one from held to
 // taken. Each pass of an inbox knows what was pushed and taken through it. The rule ties what the passes know to what the
 // queue holds, so a clause that is taken is good for the problem, and the taker need not check it.
+// An inbox that was emptied, whose passes were all joined into one, serves another problem: its history begins anew.
 #![tactic(auto)]
 
 mod history;

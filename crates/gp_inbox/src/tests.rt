@@ -2,7 +2,7 @@ ghost use Rattle.crossbeam_queue.specs.Passes.{view};
 ghost use Rattle.gp_clause.specs.Clause.{NamesBelow};
 ghost use Rattle.gp_derivation.specs.Exchange.{IsGood};
 ghost use Rattle.gp_inbox.specs.Passes.{IsOf};
-ghost use Rattle.gp_inbox.specs.Views.{joined, MayPush, pushed_one, sender_view, taker_view};
+ghost use Rattle.gp_inbox.specs.Views.{IsDrained, joined, MayPush, pushed_one, sender_view, taker_view};
 ghost use Rattle.std.specs.Prelude.{◌≡◌, ◌<◌, ◌≤◌, ◌+◌, true, Some, [], ◌∷◌, Contains, IfOk, IfSome, IsTrue, length};
 
 use crate::inbox::{Inbox, Pass};
@@ -24,8 +24,8 @@ fn unit(alloc: Global, variable: u32) -> Result<Clause, Fail> {
     Ok(Clause::of(lits)?)
 }
 
-// Four free variables and a clause that is false, by which every clause passes.
-fn no_way_out(alloc: Global) -> Result<Problem, Fail> {
+// So many points, four free variables and a clause that is false, by which every clause passes.
+fn no_way_out(alloc: Global, points: u32) -> Result<Problem, Fail> {
     let mut kinds = Row::new(alloc);
     for _ in 0..4 {
         kinds.push(Kind::Free)?;
@@ -33,7 +33,7 @@ fn no_way_out(alloc: Global) -> Result<Problem, Fail> {
     let mut clauses = Row::new(alloc);
     clauses.push(Clause::of(Vec::new(alloc))?)?;
     Ok(Problem {
-        points: 0,
+        points,
         kinds,
         edges: Row::new(alloc),
         clauses,
@@ -109,6 +109,7 @@ fn send<R: Wait>(
     requires few { length (view pass.old).pushed < 1000 }
     ensures own { IfOk result (λ _. IsOf inbox.now pass.new) }
     ensures same { IfOk result (λ _. (view pass.new).base ≡ (view pass.old).base) }
+    ensures senders { IfOk result (λ _. (view pass.new).senders ≡ (view pass.old).senders) }
     ensures numbers { IfOk result (λ _. (view pass.new).numbers ≡ (view pass.old).numbers) }
     ensures takes { IfOk result (λ _. (view pass.new).takes ≡ (view pass.old).takes) }
     ensures more { IfOk result (λ _. length (view pass.new).pushed ≡ length (view pass.old).pushed + 1) }
@@ -128,6 +129,7 @@ fn next<R: Wait>(rt: &R, inbox: &Inbox, pass: &mut Pass) -> Option<SharedClause>
     requires takes { (view pass.old).takes ≡ true }
     ensures own { IsOf inbox.now pass.new }
     ensures same { (view pass.new).base ≡ (view pass.old).base }
+    ensures senders { (view pass.new).senders ≡ (view pass.old).senders }
     ensures numbers { (view pass.new).numbers ≡ (view pass.old).numbers }
     ensures takes { (view pass.new).takes ≡ true }
     ensures pushed { (view pass.new).pushed ≡ (view pass.old).pushed }
@@ -177,6 +179,51 @@ fn exchange<R: Wait>(
     )
 }
 
+// Whether all that was pushed under the numbers of the pass was taken.
+fn is_drained<R: Wait>(rt: &R, inbox: &Inbox, pass: &mut Pass) -> bool
+    requires own { IsOf inbox.now pass.old }
+    requires takes { (view pass.old).takes ≡ true }
+    ensures own { IsOf inbox.now pass.new }
+    ensures drained { IsTrue result → IsDrained (view pass.new) × (view pass.new ≡ view pass.old) }
+{
+    inbox.take(rt, pass).is_none()
+}
+
+// One clause of the first problem, and an exchange over the second once the passes are joined.
+fn renew<R: Wait>(
+    rt: &R,
+    alloc: Global,
+    first: &Problem,
+    second: &Problem,
+    inbox: &Inbox,
+    two: Pass,
+    three: Pass,
+    taker: Pass,
+) -> Result<bool, Fail>
+    requires first { (length first.now.kinds ≡ 4) × Contains first.now.clauses [] }
+    requires second { (length second.now.kinds ≡ 4) × Contains second.now.clauses [] }
+    requires two { IsOf inbox.now two × (view two ≡ sender_view first.now (2 ∷ 3 ∷ []) 2) }
+    requires three { IsOf inbox.now three × (view three ≡ sender_view first.now (2 ∷ 3 ∷ []) 3) }
+    requires taker { IsOf inbox.now taker × (view taker ≡ taker_view first.now (2 ∷ 3 ∷ [])) }
+{
+    let mut two = two;
+    let mut taker = taker;
+    send(rt, alloc, inbox, first, &mut two, 2, 3)?;
+    let got = next(rt, inbox, &mut taker);
+    inbox.rejoin(&mut taker, two);
+    inbox.rejoin(&mut taker, three);
+    if !is_drained(rt, inbox, &mut taker) {
+        return Ok(false);
+    }
+    let passes = inbox.renew(alloc, &mut taker, second, &[2, 3])?;
+    match both(passes) {
+        Some((two, three)) => Ok(
+            is_unit(&got, 2, 3) && exchange(rt, alloc, second, inbox, two, three, taker)?,
+        ),
+        None => Ok(false),
+    }
+}
+
 // An inbox of two senders, their passes and the taker's.
 fn of_two(alloc: Global, base: &Problem) -> Result<Option<(Inbox, Pass, Pass, Pass)>, Fail>
     ensures { IfOk result (λ some. IfSome some (λ made. (IsOf made.0 made.1 × (view made.1 ≡ sender_view base.now (2 ∷ 3 ∷ []) 2)) × (IsOf made.0 made.2 × (view made.2 ≡ sender_view base.now (2 ∷ 3 ∷ []) 3)) × (IsOf made.0 made.3 × (view made.3 ≡ taker_view base.now (2 ∷ 3 ∷ []))))) }
@@ -203,11 +250,29 @@ fn both(passes: Vec<Pass>) -> Option<(Pass, Pass)>
 #[test]
 fn in_the_order_of_the_offers(rt: HostRuntime) -> Result<(), Fail> {
     let alloc = rt.alloc();
-    let base = no_way_out(alloc)?;
+    let base = no_way_out(alloc, 0)?;
     assert!(rt; is_no_way_out(&base));
     match of_two(alloc, &base)? {
         Some((inbox, two, three, taker)) => {
             let due = exchange(&rt, alloc, &base, &inbox, two, three, taker)?;
+            assert!(rt; due);
+        }
+        None => {
+            assert!(rt; false);
+        }
+    }
+    Ok(())
+}
+
+#[test]
+fn serves_one_problem_after_another(rt: HostRuntime) -> Result<(), Fail> {
+    let alloc = rt.alloc();
+    let first = no_way_out(alloc, 0)?;
+    let second = no_way_out(alloc, 1)?;
+    assert!(rt; is_no_way_out(&first) && is_no_way_out(&second));
+    match of_two(alloc, &first)? {
+        Some((inbox, two, three, taker)) => {
+            let due = renew(&rt, alloc, &first, &second, &inbox, two, three, taker)?;
             assert!(rt; due);
         }
         None => {

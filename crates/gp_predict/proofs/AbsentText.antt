@@ -19,7 +19,7 @@ use Rattle.gp_report.specs.declared.fault.ReportFault.TheVariants as report
 use Rattle.gp_predict.specs.declared.refusal.Refusal.{Refusal}
 use Rattle.gp_predict.specs.declared.refusal.Refusal.TheVariants as refusal
 use Rattle.gp_predict.specs.declared.reply.Reply.{Reply}
-use Rattle.gp_predict.specs.Expected.{text_of}
+use Rattle.gp_predict.specs.Telling.{text_of}
 use Rattle.gp_predict.specs.Refusal.{recording_refused, refused_as, refused_at, rule_word, text_refusal, trace_refusal, two_holders}
 use Rattle.gp_predict.specs.Refused.{is_absent, reply_of}
 

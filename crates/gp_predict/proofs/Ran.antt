@@ -8,14 +8,13 @@ use Rattle.gp_words.specs.declared.task.Task.{Task}
 use Rattle.gp_predict.specs.declared.outcome.Outcome.{Outcome}
 use Rattle.gp_predict.specs.declared.stop.Stop.{Stop}
 use Rattle.gp_predict.specs.declared.stop.Stop.TheVariants as stop
-use Rattle.gp_predict.specs.Expected.{Expected}
+use Rattle.gp_predict.specs.Due.{due_by}
+use Rattle.gp_predict.specs.Tasks.{Expected, Means, either_expected, reads_files, task_at}
+use Rattle.gp_predict.specs.Telling.{of_reply}
 use Rattle.gp_predict.specs.Finished.{CameTo, IsFinished, IsPut, told_by}
-use Rattle.gp_predict.specs.Means.{Means}
 use Rattle.gp_predict.specs.Refused.{reply_of, stops_absent}
-use Rattle.gp_predict.specs.Reply.{due_by, either_expected, reads_files, task_at}
 use Rattle.gp_predict.specs.Run.{IsNothing, IsRefused, IsRun, WhereDue}
 use Rattle.gp_predict.specs.Stage.{IsStage}
-use Rattle.gp_predict.specs.Telling.{of_reply}
 use Rattle.gp_predict.proofs.AbsentText.{told_absent}
 use Rattle.gp_predict.specs.Told.{IsDone, Nothing, Told, ends_with}
 

@@ -1,18 +1,32 @@
 -- What is due to task analyse: an analysis of the recording with its properties, or the refusal of too much work.
-use Rattle.std.specs.Prelude.{ℕ, ◌++◌, ◌*◌, ◌≤◌, List, Option, None, Some, Result, Ok, if◌then◌else◌, length, codes, decimal}
+use Rattle.std.specs.Prelude.{ℕ, ◌++◌, ◌*◌, ◌≡◌, ◌≢◌, ◌≤◌, List, Option, None, Some, Result, Ok, Err, if◌then◌else◌, length, codes, decimal}
 use Rattle.std.specs.List.{list_any}
 use Rattle.gp_outside.specs.Folders.{File}
+use Rattle.gp_compact.specs.Compact.{IsCompacted}
+use Rattle.gp_patterns.specs.Answered.{IsAnswered}
 use Rattle.gp_patterns.specs.Tickets.{asked_total, too_much}
 use Rattle.gp_report.specs.Records.{Entry}
 use Rattle.gp_report.specs.Entries.{entries_of, is_found}
 use Rattle.gp_report.specs.ReportForm.{ReportForm}
 use Rattle.gp_base.specs.Results.{and_then}
+use Rattle.gp_property.specs.PropertyForm.{PropertyForm}
+use Rattle.gp_window.specs.RecordingForm.{RecordingForm}
 use Rattle.gp_predict.specs.declared.reply.Reply.{Reply}
 use Rattle.gp_predict.specs.declared.analysing.Asked.{Asked}
 use Rattle.gp_predict.specs.declared.listing.Listing.{Listing}
-use Rattle.gp_predict.specs.Expected.{AnalysisForm, Expected, Text, Analysis}
 use Rattle.gp_predict.specs.Listing.{listing_at}
 use Rattle.gp_predict.specs.Refusal.{one_line}
+use Rattle.gp_predict.specs.Telling.{report_text}
+use Rattle.gp_predict.specs.Told.{Analysed, Told}
+
+-- an analysis of a recording with its properties, by so many workers, each query with this budget; its report is to be
+-- told in this format
+pub record AnalysisForm : Type 0 where
+  pub recording : RecordingForm
+  pub properties : List PropertyForm
+  pub workers : ℕ
+  pub budget : ℕ
+  pub format : ℕ
 
 -- an analysis of what would be listed, as it is asked for
 abbrev pub analysis_form : Listing → Asked → AnalysisForm
@@ -29,17 +43,17 @@ abbrev pub limit_refused : ℕ → ℕ → Reply
 limit_refused total budget = one_line 7 (codes "limit " ++ decimal total ++ codes " " ++ decimal budget)
 
 -- an analysis, or the refusal of so many instances, where they are too many
-abbrev pub analysis_by : Listing → Asked → Option ℕ → Expected
-analysis_by listing asked None = Analysis (analysis_form listing asked)
-analysis_by listing asked (Some total) = Text (limit_refused total asked.budget)
+abbrev pub analysis_by : Listing → Asked → Option ℕ → Result AnalysisForm Reply
+analysis_by listing asked None = Ok (analysis_form listing asked)
+analysis_by listing asked (Some total) = Err (limit_refused total asked.budget)
 
 -- an analysis, where the instances that are asked, times the budget, are at most 1,000,000
-abbrev pub analysis_of : Listing → Asked → Expected
+abbrev pub analysis_of : Listing → Asked → Result AnalysisForm Reply
 analysis_of listing asked = analysis_by listing asked (too_much listing.recording listing.properties asked.budget)
 
 -- what is due to task analyse on the files of a folder
-abbrev pub analysing_at : List File → List ℕ → Asked → Result Expected Reply
-analysing_at files folder asked = and_then (listing_at files folder) (λ listing. Ok (analysis_of listing asked))
+abbrev pub analysing_at : List File → List ℕ → Asked → Result AnalysisForm Reply
+analysing_at files folder asked = and_then (listing_at files folder) (λ listing. analysis_of listing asked)
 
 -- the workers and the budget are within their ranges
 pub record IsAskable (asked : Asked) : Type 0 where
@@ -57,3 +71,19 @@ pub record CanBeAnalysed (listing : Listing) (asked : Asked) : Type 0 where
 -- the status of a kept report: 1 exactly where some entry is found
 abbrev pub report_status : ReportForm → ℕ
 report_status report = if list_any (λ (entry : Entry). is_found entry.answer) (entries_of report.windows) then 1 else 0
+
+-- a report told in the format that is asked for: format 2 is its compact form
+pub record IsInFormat (format : ℕ) (recording : RecordingForm) (answered report : ReportForm) : Type 0 where
+  pub compact : format ≡ 2 → IsCompacted recording answered report
+  pub plain : format ≢ 2 → report ≡ answered
+
+-- a report answers an analysis: it is the report of all answers, in the format that is asked for
+pub record Answers (analysis : AnalysisForm) (report : ReportForm) : Type 0 where
+  pub answered : ReportForm
+  pub plain : answered.format ≡ 1
+  pub instances : IsAnswered analysis.recording analysis.properties analysis.workers analysis.budget answered
+  pub told : IsInFormat analysis.format analysis.recording answered report
+
+-- what a report tells, which is kept: its text, and that it has an entry found or none
+abbrev pub of_report : ReportForm → Told
+of_report report = record { status = report_status report; text = report_text report; kept = Analysed report }

@@ -6,10 +6,9 @@ use Rattle.gp_predict.specs.declared.outcome.Outcome.{Outcome}
 use Rattle.gp_predict.specs.declared.refusal.Refusal.{Refusal}
 use Rattle.gp_predict.specs.declared.stop.Stop.{Stop}
 use Rattle.gp_predict.specs.declared.stop.Stop.TheVariants as stop
-use Rattle.gp_predict.specs.Expected.{Expected, Text}
-use Rattle.gp_predict.specs.Means.{Means}
-use Rattle.gp_predict.specs.Refused.{reply_of}
+use Rattle.gp_predict.specs.Tasks.{Expected, Means, Text}
 use Rattle.gp_predict.specs.Telling.{of_reply}
+use Rattle.gp_predict.specs.Refused.{reply_of}
 use Rattle.gp_predict.specs.Told.{IsDone, Nothing, Told, ends, ends_with}
 
 -- what a task came to: something to tell, a refusal, or why there is nothing

@@ -13,10 +13,13 @@ use Rattle.gp_instance.specs.declared.instance.InstancesFault.TheVariants.{TooMa
 use Rattle.gp_instance.specs.Instances.{due_instances}
 use Rattle.gp_patterns.specs.Tickets.{properties_count}
 use Rattle.gp_predict.specs.declared.reply.Reply.{Reply}
+use Rattle.gp_predict.specs.declared.listing.Listed.{Listed}
 use Rattle.gp_predict.specs.declared.listing.Listing.{Listing}
 use Rattle.gp_predict.specs.Content.{content_at, recording_at}
 use Rattle.gp_predict.specs.Lines.{instance_line, property_line, total_line, window_line}
 use Rattle.gp_predict.specs.Refusal.{properties_refusal}
+use Rattle.gp_predict.specs.Telling.{of_reply}
+use Rattle.gp_predict.specs.Told.{Told}
 use Rattle.gp_base.specs.Results.{and_then, or_refused}
 
 -- the properties in the folder
@@ -76,3 +79,7 @@ answer_of_listing listing = list_answer listing.recording listing.properties
 -- the answer of task list on the files of a folder
 abbrev pub list_at : List File → List ℕ → Result Reply Reply
 list_at files folder = and_then (listing_at files folder) (λ listing. Ok (answer_of_listing listing))
+
+-- what the result of task list tells: the answer that its listing is
+abbrev pub of_listed : Listed → Told
+of_listed listed = of_reply (answer_of_listing listed.listing)

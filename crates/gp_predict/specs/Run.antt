@@ -6,8 +6,8 @@ use Rattle.gp_outside.specs.Sinks.{Appends, AppendsFront}
 use Rattle.gp_window.specs.declared.file_name.FileName.{FileName}
 use Rattle.gp_predict.specs.declared.outcome.Outcome.{Outcome}
 use Rattle.gp_predict.specs.declared.refusal.Refusal.{Refusal}
-use Rattle.gp_predict.specs.Expected.{Expected, text_of}
-use Rattle.gp_predict.specs.Means.{Means}
+use Rattle.gp_predict.specs.Tasks.{Expected, Means}
+use Rattle.gp_predict.specs.Telling.{text_of}
 use Rattle.gp_predict.specs.Refusal.{refused_as}
 use Rattle.gp_predict.specs.Refused.{reply_of}
 use Rattle.gp_predict.specs.Told.{IsDone, Nothing, Told, ends, ends_with}

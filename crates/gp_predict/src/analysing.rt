@@ -1,12 +1,10 @@
 ghost use Rattle.std.specs.Prelude.{ℕ, ◌≡◌, ◌≢◌, ◌≤◌, Err, IfOk, false, length};
-ghost use Rattle.gp_predict.specs.Analysing.{CanBeAnalysed, IsAskable, analysing_at, analysis_form, analysis_of};
+ghost use Rattle.gp_predict.specs.Analysing.{Answers, CanBeAnalysed, IsAskable, analysing_at, analysis_form, analysis_of, of_report};
+ghost use Rattle.gp_predict.specs.Tasks.{as_analysis, either_expected};
 ghost use Rattle.gp_predict.specs.Asking.{asked_of};
 ghost use Rattle.gp_predict.specs.Finished.{CameTo, told_by};
-ghost use Rattle.gp_predict.specs.Means.{Answers};
 ghost use Rattle.gp_predict.specs.Refused.{stops_absent};
-ghost use Rattle.gp_predict.specs.Reply.{either_expected};
 ghost use Rattle.gp_predict.specs.Stage.{IsStage};
-ghost use Rattle.gp_predict.specs.Telling.{of_report};
 ghost use Rattle.gp_words.specs.Command.{IsInRanges, form_of};
 
 use crate::listing::{Listing, listing_at};
@@ -57,7 +55,7 @@ pub fn analysed<R: AllocGlobal + Threads + Wait + Sync, F: Folder, G: Gate + Syn
     gate: &G,
 ) -> Result<Report, Stop>
     requires { IsAskable asked }
-    ensures { IsStage result (λ files. CameTo (told_by of_report result) (either_expected (analysing_at files directory.now asked))) (F.files folder.old) (F.files folder.new) (F.faults folder.old) (F.faults folder.new) }
+    ensures { IsStage result (λ files. CameTo (told_by of_report result) (either_expected (as_analysis (analysing_at files directory.now asked)))) (F.files folder.old) (F.files folder.new) (F.faults folder.old) (F.faults folder.new) }
 {
     let listing = listing_at(rt, folder, directory)?;
     analysis_of(rt, &listing, asked, gate)
@@ -72,7 +70,7 @@ fn analysis_of<R: AllocGlobal + Threads + Wait + Sync, G: Gate + Sync>(
 ) -> Result<Report, Stop>
     requires few { length listing.now.properties ≤ 64 }
     requires askable { IsAskable asked }
-    ensures due { CameTo (told_by of_report result) (analysis_of listing.now asked) }
+    ensures due { CameTo (told_by of_report result) (either_expected (as_analysis (analysis_of listing.now asked))) }
     ensures no_fault { result ≢ Err Stop.FolderFailed }
     ensures present { stops_absent result ≡ false }
 {

@@ -1,19 +1,40 @@
 ghost use Rattle.std.specs.Prelude.{IfOk};
-ghost use Rattle.gp_predict.specs.Expected.{Compacted};
+ghost use Rattle.gp_predict.specs.Compacting.{of_compact_form};
+ghost use Rattle.gp_predict.specs.Tasks.{Compacted, Means, as_compacted, either_expected};
 ghost use Rattle.gp_predict.specs.Finished.{CameTo, told_by};
-ghost use Rattle.gp_predict.specs.Means.{Means};
-ghost use Rattle.gp_predict.specs.Reply.{as_compacted, either_expected};
 ghost use Rattle.gp_predict.specs.Stage.{IsStage};
 ghost use Rattle.gp_predict.specs.Submission.{submission_at};
-ghost use Rattle.gp_predict.specs.Telling.{of_compact_form};
 
-use crate::results::CompactForm;
+use crate::outcome::Outcome;
+use crate::reporting::put_report;
+use crate::results::Tells;
 use crate::stop::Stop;
 use crate::submission::{Submission, submission_at};
 use gp_compact::compact;
-use gp_outside::Folder;
+use gp_outside::{Folder, PutFault, Sink};
+use gp_report::Report;
 use std::alloc::{AllocError, Global};
 use std::thread::Threads;
+
+/// The compact form of a report. It is not kept, since no analysis was made.
+#[derive(Debug, Drop)]
+pub struct CompactForm {
+    pub report: Report,
+}
+
+impl Tells for CompactForm {
+    ghost use Rattle.gp_predict.specs.Compacting.{of_compact_form};
+
+    ghost told = { of_compact_form };
+
+    fn put<S: Sink>(&self, alloc: Global, sink: &mut S) -> Result<(), PutFault> {
+        put_report(alloc, sink, &self.report)
+    }
+
+    fn end(self) -> Outcome {
+        Outcome::of(0)
+    }
+}
 
 /// Task compact: the compact form of a report.
 pub fn compacted<R: AllocGlobal + Threads + Sync, F: Folder>(

@@ -4,24 +4,25 @@ ghost use Rattle.gp_instance.specs.Instances.{due_instances};
 ghost use Rattle.gp_property.specs.Property.{IsProperty};
 ghost use Rattle.gp_property.specs.Reading.{properties_of};
 ghost use Rattle.gp_patterns.specs.Tickets.{listed_count, properties_count};
-ghost use Rattle.gp_predict.specs.Listing.{instance_lines, list_at, listing_at, properties_at, properties_lines, property_lines, window_count, window_lines};
+ghost use Rattle.gp_predict.specs.Listing.{instance_lines, list_at, listing_at, of_listed, properties_at, properties_lines, property_lines, window_count, window_lines};
+ghost use Rattle.gp_predict.specs.Tasks.{as_text, either_expected};
 ghost use Rattle.gp_predict.specs.Finished.{CameTo, told_by};
 ghost use Rattle.gp_predict.specs.Refusal.{properties_refusal};
 ghost use Rattle.gp_predict.specs.Refused.{stops_absent};
-ghost use Rattle.gp_predict.specs.Reply.{as_text, either_expected};
 ghost use Rattle.gp_base.specs.Results.{or_refused};
 ghost use Rattle.gp_predict.specs.Stage.{IsStage, refusal_of};
-ghost use Rattle.gp_predict.specs.Telling.{of_listed};
 ghost use Rattle.gp_window.specs.Gives.{Gives};
 
 use crate::content::{content_at, recording_at};
 use crate::lines::{instance_line, property_line, window_line};
+use crate::outcome::Outcome;
 use crate::refusal::Refusal;
-use crate::results::Listed;
+use crate::results::Tells;
 use crate::stop::Stop;
+use crate::writing::put_listing;
 use gp_base::Row;
 use gp_instance::{Instance, InstancesFault, instances};
-use gp_outside::Folder;
+use gp_outside::{Folder, PutFault, Sink};
 use gp_property::{Property, PropertyFault, read_properties, reads_exactly};
 use gp_text::Name;
 use gp_window::{FileName, Recording, Window};
@@ -33,6 +34,27 @@ use std::thread::Threads;
 pub struct Listing {
     pub recording: Recording,
     pub properties: Row<Property>,
+}
+
+/// What is to be listed. Its text is made window by window while it is written.
+#[derive(Debug, Drop)]
+pub struct Listed {
+    pub listing: Listing,
+    ghost few: { length listing.properties ≤ 64 },
+}
+
+impl Tells for Listed {
+    ghost use Rattle.gp_predict.specs.Listing.{of_listed};
+
+    ghost told = { of_listed };
+
+    fn put<S: Sink>(&self, alloc: Global, sink: &mut S) -> Result<(), PutFault> {
+        put_listing(alloc, sink, &self.listing)
+    }
+
+    fn end(self) -> Outcome {
+        Outcome::of(0)
+    }
 }
 
 /// Task list: what is to be listed.

@@ -2,11 +2,11 @@ ghost use Rattle.std.specs.Prelude.{◌≡◌, ◌≢◌, ◌≤◌, ◌<◌, Er
 ghost use Rattle.gp_make.specs.Writing.{AreAllMade, AreKeptOrMade, AreSomeMade, WhereTold, made_at};
 ghost use Rattle.gp_outside.specs.Faults.{Rose};
 ghost use Rattle.gp_predict.specs.Asking.{recipe_of};
-ghost use Rattle.gp_predict.specs.Expected.{Text};
+ghost use Rattle.gp_predict.specs.Tasks.{Text};
+ghost use Rattle.gp_predict.specs.Telling.{of_answer};
 ghost use Rattle.gp_predict.specs.Finished.{CameTo, told_by};
 ghost use Rattle.gp_predict.specs.Making.{LeavesMade, MakingStops, made_answer};
 ghost use Rattle.gp_predict.specs.Run.{IsRun};
-ghost use Rattle.gp_predict.specs.Telling.{of_answer};
 ghost use Rattle.gp_words.specs.Command.{IsInRanges, form_of};
 
 use crate::finish::finish;

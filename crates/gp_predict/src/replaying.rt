@@ -5,9 +5,9 @@ ghost use Rattle.gp_predict.specs.Refusal.{schedule_refusal};
 ghost use Rattle.gp_base.specs.Results.{or_refused};
 ghost use Rattle.gp_predict.specs.Finished.{CameTo, told_by};
 ghost use Rattle.gp_predict.specs.Refused.{stops_absent};
-ghost use Rattle.gp_predict.specs.Reply.{as_text, either_expected};
-ghost use Rattle.gp_predict.specs.Stage.{IsStage, refusal_of};
+ghost use Rattle.gp_predict.specs.Tasks.{as_text, either_expected};
 ghost use Rattle.gp_predict.specs.Telling.{of_answer};
+ghost use Rattle.gp_predict.specs.Stage.{IsStage, refusal_of};
 ghost use Rattle.gp_window.specs.Gives.{Gives};
 
 use crate::content::{content_at, recording_at};

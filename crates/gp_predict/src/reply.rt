@@ -1,6 +1,6 @@
 ghost use Rattle.std.specs.Prelude.{◌≡◌, [], ◌∷◌, IfOk, string_bytes};
 ghost use Rattle.gp_predict.specs.Analysing.{limit_refused};
-ghost use Rattle.gp_predict.specs.Reply.{words_refused};
+ghost use Rattle.gp_predict.specs.Due.{words_refused};
 ghost use Rattle.gp_predict.specs.Replaying.{feasible, stuck};
 
 use gp_base::Row;

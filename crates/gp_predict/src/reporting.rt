@@ -8,13 +8,13 @@ ghost use Rattle.gp_predict.specs.Analysing.{report_status};
 ghost use Rattle.gp_predict.specs.Telling.{report_text};
 
 use crate::outcome::Outcome;
-use crate::results::{CompactForm, Tells};
+use crate::results::Tells;
 use gp_outside::{PutFault, Sink};
 use gp_report::{Answer, Entry, PropertyRecord, Report, WindowRecord, print_report};
 use std::alloc::Global;
 
 impl Tells for Report {
-    ghost use Rattle.gp_predict.specs.Telling.{of_report};
+    ghost use Rattle.gp_predict.specs.Analysing.{of_report};
 
     ghost told = { of_report };
 
@@ -30,22 +30,8 @@ impl Tells for Report {
     }
 }
 
-impl Tells for CompactForm {
-    ghost use Rattle.gp_predict.specs.Telling.{of_compact_form};
-
-    ghost told = { of_compact_form };
-
-    fn put<S: Sink>(&self, alloc: Global, sink: &mut S) -> Result<(), PutFault> {
-        put_report(alloc, sink, &self.report)
-    }
-
-    fn end(self) -> Outcome {
-        Outcome::of(0)
-    }
-}
-
 /// Writes the text of a report.
-fn put_report<S: Sink>(alloc: Global, sink: &mut S, report: &Report) -> Result<(), PutFault>
+pub fn put_report<S: Sink>(alloc: Global, sink: &mut S, report: &Report) -> Result<(), PutFault>
     ensures later { S.faults sink.old ≤ S.faults sink.new }
     ensures ok { OnOk result (Appends (S.written sink.old) (S.written sink.new) (report_text report.now)) }
     ensures err { OnErr result (AppendsFront (S.written sink.old) (S.written sink.new) (report_text report.now)) }

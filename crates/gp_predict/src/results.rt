@@ -1,14 +1,12 @@
-ghost use Rattle.std.specs.Prelude.{◌≡◌, ◌≤◌, Err, OnErr, OnOk, length};
+ghost use Rattle.std.specs.Prelude.{◌≡◌, ◌≤◌, Err, OnErr, OnOk};
 ghost use Rattle.gp_outside.specs.Faults.{Rose};
 ghost use Rattle.gp_outside.specs.Sinks.{Appends, AppendsFront};
 ghost use Rattle.gp_predict.specs.Told.{Told, ends};
 
-use crate::listing::Listing;
 use crate::outcome::Outcome;
 use crate::reply::Reply;
-use crate::writing::{put_lines, put_listing};
+use crate::writing::put_lines;
 use gp_outside::{PutFault, Sink};
-use gp_report::Report;
 use std::alloc::Global;
 
 /// The result of a task, which can be told: it has a status, a text, and what of it is kept.
@@ -47,31 +45,4 @@ impl Tells for Answer {
     fn end(self) -> Outcome {
         Outcome::of(self.reply.status)
     }
-}
-
-/// What is to be listed. Its text is made window by window while it is written.
-#[derive(Debug, Drop)]
-pub struct Listed {
-    pub listing: Listing,
-    ghost few: { length listing.properties ≤ 64 },
-}
-
-impl Tells for Listed {
-    ghost use Rattle.gp_predict.specs.Telling.{of_listed};
-
-    ghost told = { of_listed };
-
-    fn put<S: Sink>(&self, alloc: Global, sink: &mut S) -> Result<(), PutFault> {
-        put_listing(alloc, sink, &self.listing)
-    }
-
-    fn end(self) -> Outcome {
-        Outcome::of(0)
-    }
-}
-
-/// The compact form of a report. It is not kept, since no analysis was made.
-#[derive(Debug, Drop)]
-pub struct CompactForm {
-    pub report: Report,
 }

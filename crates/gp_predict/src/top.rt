@@ -1,8 +1,8 @@
 ghost use Rattle.std.specs.Prelude.{◌≡◌, ◌≢◌, ◌≤◌, ◌⊎◌, None, Some, map, string_bytes};
 ghost use Rattle.gp_outside.specs.Faults.{Rose};
-ghost use Rattle.gp_predict.specs.Expected.{Text};
+ghost use Rattle.gp_predict.specs.Due.{due_answer, due_by, words_refused};
+ghost use Rattle.gp_predict.specs.Tasks.{Text, reads_files};
 ghost use Rattle.gp_predict.specs.Making.{LeavesBy, LeavesFiles};
-ghost use Rattle.gp_predict.specs.Reply.{due_answer, due_by, reads_files, words_refused};
 ghost use Rattle.gp_predict.specs.Run.{IsBegun, IsGiven, IsNothing, IsRefused, IsRun, WhereDue};
 ghost use Rattle.gp_predict.specs.Told.{IsDone};
 ghost use Rattle.gp_words.specs.Command.{IsInRanges, command_of, form_of};

@@ -1,11 +1,9 @@
 ghost use Rattle.std.specs.Prelude.{◌≡◌, ◌≤◌, ◌+◌, IfOk, OnOk, length};
-ghost use Rattle.gp_predict.specs.Expected.{Verdict};
+ghost use Rattle.gp_predict.specs.Tasks.{Means, Verdict, as_verdict, either_expected};
+ghost use Rattle.gp_predict.specs.Telling.{of_answer};
 ghost use Rattle.gp_predict.specs.Finished.{CameTo, told_by};
-ghost use Rattle.gp_predict.specs.Means.{Means};
-ghost use Rattle.gp_predict.specs.Reply.{as_verdict, either_expected};
 ghost use Rattle.gp_predict.specs.Stage.{IsStage};
 ghost use Rattle.gp_predict.specs.Submission.{CanBeChecked, submission_at};
-ghost use Rattle.gp_predict.specs.Telling.{of_answer};
 ghost use Rattle.gp_predict.specs.Verdict.{IsVerdict, accepted, rejected, then_number, verdict_on};
 ghost use Rattle.gp_report.specs.Entries.{entries_among, entries_of};
 

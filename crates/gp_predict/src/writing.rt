@@ -1,9 +1,9 @@
 ghost use Rattle.std.specs.Prelude.{◌≡◌, ◌≤◌, IfOk, OnOk, OnErr, Err, flat_map, length};
 ghost use Rattle.gp_outside.specs.Faults.{Rose};
 ghost use Rattle.gp_outside.specs.Sinks.{Appends, AppendsFront};
-ghost use Rattle.gp_predict.specs.Expected.{text_of};
-ghost use Rattle.gp_predict.specs.Lines.{total_line};
 ghost use Rattle.gp_predict.specs.Listing.{all_lines, answer_of_listing, total_count, window_count, window_lines};
+ghost use Rattle.gp_predict.specs.Telling.{text_of};
+ghost use Rattle.gp_predict.specs.Lines.{total_line};
 
 use crate::lines::total_line;
 use crate::listing::{Listing, WindowLines, window_lines_of};

@@ -2,9 +2,9 @@
 use Rattle.std.proofs.Common.{subst}
 use Rattle.gp_make.specs.declared.recipe.Recipe.{Recipe}
 use Rattle.gp_predict.specs.Asking.{recipe_of}
-use Rattle.gp_predict.specs.Expected.{Text}
-use Rattle.gp_predict.specs.Finished.{CameTo, told_by}
+use Rattle.gp_predict.specs.Tasks.{Text}
 use Rattle.gp_predict.specs.Telling.{of_answer}
+use Rattle.gp_predict.specs.Finished.{CameTo, told_by}
 use Rattle.gp_words.specs.Command.{form_of}
 use Rattle.gp_make.specs.Writing.{made_at}
 use Rattle.gp_predict.specs.Making.{LeavesMade, made_answer}

@@ -3,11 +3,13 @@ use Rattle.std.proofs.Common.{refl, subst}
 use Rattle.gp_words.specs.Command.{form_of}
 use Rattle.gp_words.specs.declared.task.Task.TheVariants as task
 use Rattle.gp_predict.specs.declared.analysing.Asked.{Asked}
-use Rattle.gp_predict.specs.Analysing.{analysing_at}
+use Rattle.gp_predict.specs.Analysing.{analysing_at, of_report}
+use Rattle.gp_predict.specs.Compacting.{of_compact_form}
+use Rattle.gp_predict.specs.Listing.{of_listed}
+use Rattle.gp_predict.specs.Tasks.{as_analysis, either_expected}
+use Rattle.gp_predict.specs.Telling.{of_answer}
 use Rattle.gp_predict.specs.Finished.{CameTo, told_by}
-use Rattle.gp_predict.specs.Reply.{either_expected}
 use Rattle.gp_predict.specs.Stage.{IsStage}
-use Rattle.gp_predict.specs.Telling.{of_answer, of_compact_form, of_listed, of_report}
 use Rattle.gp_predict.proofs.Ran.{ran_stage}
 use Rattle.gp_predict.proofs.top.answer.Goals as goal
 
@@ -22,7 +24,7 @@ returns-in-List-clause-run g c =
 pub returns-in-Analyse-clause-run : goal.returns-in-Analyse-clause-run
 returns-in-Analyse-clause-run g c =
     ran_stage of_report c.analysed-made.result (form_of c.args.command.now) task.Analyse _ _ _ _ _ _ _ _ _ c.in-Analyse.is refl
-    (subst (λ (asked : Asked). IsStage c.analysed-made.result (λ files. CameTo (told_by of_report c.analysed-made.result) (either_expected (analysing_at files c.args.command.now.folder.now asked))) (g.F.Folder.files c.args.folder.now) (g.F.Folder.files c.analysed-made.new.folder) (g.F.Folder.faults c.args.folder.now) (g.F.Folder.faults c.analysed-made.new.folder))
+    (subst (λ (asked : Asked). IsStage c.analysed-made.result (λ files. CameTo (told_by of_report c.analysed-made.result) (either_expected (as_analysis (analysing_at files c.args.command.now.folder.now asked)))) (g.F.Folder.files c.args.folder.now) (g.F.Folder.files c.analysed-made.new.folder) (g.F.Folder.faults c.args.folder.now) (g.F.Folder.faults c.analysed-made.new.folder))
     c.asked_of.ensures.numbers c.analysed-made.ensures) c.finish-in-Analyse.ensures.finished
 
 pub returns-in-Check-clause-run : goal.returns-in-Check-clause-run

@@ -1,9 +1,8 @@
 -- The refusal of the words is what is due to them.
 use Rattle.std.proofs.Common.{ap}
 use Rattle.gp_predict.specs.declared.reply.Reply.{Reply}
-use Rattle.gp_predict.specs.Expected.{Expected, Text}
-use Rattle.gp_predict.specs.Means.{Means}
-use Rattle.gp_predict.specs.Reply.{words_refused}
+use Rattle.gp_predict.specs.Due.{words_refused}
+use Rattle.gp_predict.specs.Tasks.{Expected, Means, Text}
 use Rattle.gp_predict.specs.Telling.{of_reply}
 use Rattle.gp_predict.proofs.Ran.{not_three, ran_put, where_due}
 use Rattle.gp_predict.proofs.top.refuse_words.Goals as goal

@@ -1,0 +1,76 @@
+-- The tasks, a line each: what is due to a task on the files of a folder, and what may be told where that is due.
+use Rattle.std.specs.Prelude.{◌≡◌, Bool, true, false, List, Result, Ok, Err}
+use Rattle.gp_base.specs.Results.{and_then}
+use Rattle.gp_checker.specs.declared.failure.Checked.{Checked}
+use Rattle.gp_compact.specs.Compact.{IsCompacted}
+use Rattle.gp_outside.specs.Folders.{File}
+use Rattle.gp_report.specs.ReportForm.{ReportForm}
+use Rattle.gp_words.specs.declared.task.Task.{Task}
+use Rattle.gp_words.specs.declared.task.Task.TheVariants as task
+use Rattle.gp_words.specs.Command.{CommandForm}
+use Rattle.gp_predict.specs.declared.reply.Reply.{Reply}
+use Rattle.gp_predict.specs.declared.submission.Submission.{Submission}
+use Rattle.gp_predict.specs.Analysing.{AnalysisForm, Answers, analysing_at, of_report}
+use Rattle.gp_predict.specs.Asking.{asked_of, recipe_of}
+use Rattle.gp_predict.specs.Compacting.{of_compact}
+use Rattle.gp_predict.specs.Listing.{list_at}
+use Rattle.gp_predict.specs.Making.{made_answer}
+use Rattle.gp_predict.specs.Replaying.{replay_at}
+use Rattle.gp_predict.specs.Submission.{submission_at}
+use Rattle.gp_predict.specs.Telling.{of_reply}
+use Rattle.gp_predict.specs.Told.{Told}
+use Rattle.gp_predict.specs.Verdict.{IsVerdict, verdict_on}
+
+-- what is due: a text with its status, an analysis, the verdict on a report, or a report in its compact form
+pub data Expected : Type 0 where
+  Text : Reply → Expected
+  Analysis : AnalysisForm → Expected
+  Verdict : Submission → Expected
+  Compacted : Submission → Expected
+
+-- a text that is due, or the refusal that came before it
+abbrev pub as_text : Result Reply Reply → Result Expected Reply
+as_text due = and_then due (λ answer. Ok (Text answer))
+
+-- an analysis, or the refusal that came before it
+abbrev pub as_analysis : Result AnalysisForm Reply → Result Expected Reply
+as_analysis due = and_then due (λ analysis. Ok (Analysis analysis))
+
+-- the verdict on what was submitted, or the refusal that came before it
+abbrev pub as_verdict : Result Submission Reply → Result Expected Reply
+as_verdict due = and_then due (λ submission. Ok (Verdict submission))
+
+-- the compact form of the report that was submitted, or the refusal that came before it
+abbrev pub as_compacted : Result Submission Reply → Result Expected Reply
+as_compacted due = and_then due (λ submission. Ok (Compacted submission))
+
+-- what is due to a task on the files of a folder
+abbrev pub task_at : CommandForm → Task → List File → Result Expected Reply
+task_at command task.Replay files = as_text (replay_at files command.folder)
+task_at command task.List files = as_text (list_at files command.folder)
+task_at command task.Analyse files = as_analysis (analysing_at files command.folder (asked_of command))
+task_at command task.Check files = as_verdict (submission_at files command.folder)
+task_at command task.Compact files = as_compacted (submission_at files command.folder)
+task_at command task.Make files = Ok (Text (made_answer (recipe_of command)))
+
+-- whether a task reads files: task make only writes them
+abbrev pub reads_files : Task → Bool
+reads_files task.Make = false
+reads_files task.Replay = true
+reads_files task.List = true
+reads_files task.Analyse = true
+reads_files task.Check = true
+reads_files task.Compact = true
+
+-- what was reached, or the refusal that came before it
+abbrev pub either_expected : Result Expected Reply → Expected
+either_expected (Ok expected) = expected
+either_expected (Err refusal) = Text refusal
+
+-- what may be told where this is due: a text; a report that answers the analysis; the verdict on a report; a compact form
+abbrev pub Means : Expected → Told → Type 0
+Means (Text reply) told = told ≡ of_reply reply
+Means (Analysis analysis) told = (report : ReportForm) × Answers analysis report × (told ≡ of_report report)
+Means (Verdict submission) told = (checked : Checked) × IsVerdict submission checked × (told ≡ of_reply (verdict_on submission.report checked))
+Means (Compacted submission) told =
+    (made : ReportForm) × IsCompacted submission.listing.recording submission.report made × (told ≡ of_compact made)

@@ -10,9 +10,11 @@ use Rattle.gp_text.specs.Numbers.{OneSpelling, small_number_of}
 use Rattle.gp_window.specs.declared.schedule.Schedule.{Schedule}
 use Rattle.gp_window.specs.EventIds.{EventIdsReadExactly, event_id_of, event_id_text}
 use Rattle.gp_certificate.specs.declared.certificate.Certificate.{Certificate}
+use Rattle.gp_writer.specs.Lines.{in_lines}
+use Rattle.gp_writer.specs.Steps.{step_lines}
 use Rattle.gp_report.specs.Records.{Answer, Entry}
 use Rattle.gp_report.specs.declared.record.AnswerOf.TheVariants.{Found, Impossible, Undecided}
-use Rattle.gp_report.specs.Printed.{answer_lines, entries_lines, in_lines, instance_words, step_lines}
+use Rattle.gp_report.specs.Printed.{answer_lines, entries_lines, instance_words}
 use Rattle.gp_report.specs.Reading.{answer_at, begins_with, is_undecided_with, number_and_words, one_number, read_answer, read_entries, read_entry, read_found, read_impossible, read_instance, read_list, read_steps, read_undecided, read_words, three_numbers, told_by}
 use Rattle.gp_report.specs.Typed.{IsTypedId}
 use Rattle.gp_report.proofs.AnswersRead.{AnswerIs, EntryIs, entry_lines}

@@ -1,6 +1,5 @@
 pub mod Texts
 pub mod Seen
-pub mod Lists
 pub mod Tallies
 pub mod Words
 pub mod Plain

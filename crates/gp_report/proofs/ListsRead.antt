@@ -7,12 +7,12 @@ use Rattle.std.proofs.lemmas.List.{length-map, map-append, take-append-drop}
 use Rattle.gp_base.specs.ListLaws.{recursion_append, recursion_parts}
 use Rattle.gp_text.specs.declared.line.Line.{Line}
 use Rattle.gp_base.specs.Results.{or_refusal, then_rest}
+use Rattle.gp_writer.specs.Lines.{in_lines}
+use Rattle.gp_writer.specs.LinesLaws.{cut_line}
 use Rattle.gp_report.specs.declared.fault.ReportFault.{ReportFault}
 use Rattle.gp_report.specs.declared.fault.ReportFault.TheVariants.{Rule}
 use Rattle.gp_report.specs.declared.fault.ReportRule.TheVariants.{Form, Length}
-use Rattle.gp_report.specs.Printed.{in_lines}
 use Rattle.gp_report.specs.Reading.{Reads, kept_if, read_list, read_list_line, read_words, with_things}
-use Rattle.gp_report.proofs.Lists.{cut_line}
 use Rattle.gp_report.proofs.Taking.{Takes, bind_ok, kept_ok, ok_is, some_ok, words_in}
 use Rattle.gp_report.proofs.WordsRead.{IsWordOf}
 

@@ -7,13 +7,16 @@ use Rattle.gp_clause.specs.declared.lit.Lit.{Lit}
 use Rattle.gp_certificate.specs.declared.step.Step.{Step}
 use Rattle.gp_text.specs.Spelling.{IsPlainLine, PlainWords, ReadsAgain}
 use Rattle.gp_window.specs.EventIds.{event_id_text}
+use Rattle.gp_writer.specs.Lines.{in_lines}
+use Rattle.gp_writer.specs.Spelled.{lit_word}
+use Rattle.gp_writer.specs.Steps.{step_lines}
 use Rattle.gp_report.specs.Records.{Answer, Entry, PropertyBody, PropertyRecord, WindowBody, WindowRecord}
 use Rattle.gp_report.specs.declared.record.AnswerOf.TheVariants.{Found, Impossible, Undecided}
 use Rattle.gp_report.specs.declared.record.PropertyBodyOf.TheVariants.{TooMany, Entries}
 use Rattle.gp_report.specs.declared.record.WindowBodyOf.TheVariants.{TooLarge, Answers}
 use Rattle.gp_report.specs.Entries.{count_of, entries_in, entries_of, is_found, is_impossible, is_undecided}
 use Rattle.gp_report.specs.Laws.{ReportsArePlain}
-use Rattle.gp_report.specs.Printed.{answer_lines, count_word, entries_lines, in_lines, instance_words, lit_word, property_lines, report_lines, shared_lines, step_lines, summary_words, window_body_lines, window_lines}
+use Rattle.gp_report.specs.Printed.{answer_lines, count_word, entries_lines, instance_words, property_lines, report_lines, shared_lines, summary_words, window_body_lines, window_lines}
 use Rattle.gp_report.specs.Report.{IsEntry, IsPropertyBody, IsPropertyRecord, IsReport, IsPrintableAnswer, IsPrintableStep, IsWindowBody, IsWindowRecord}
 use Rattle.gp_report.specs.ReportForm.{ReportForm}
 use Rattle.gp_report.specs.Typed.{AreCounted, AreTypedSteps, IsTyped, IsTypedAnswer, IsTypedBody, IsTypedEntry, IsTypedId, IsTypedProperty, IsTypedStep, IsTypedWindow}

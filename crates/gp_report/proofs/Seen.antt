@@ -2,7 +2,7 @@
 use Rattle.std.proofs.Common.{◌≡◌, refl, sym, subst, ℕ, zero, suc, ◌+◌, ◌<◌, get_or, length, drop, List, [], ◌∷◌, All, arith}
 use Rattle.std.specs.List.{flat_map}
 use Rattle.std.proofs.lemmas.List.Elements.{All-append, All-cons}
-use Rattle.gp_report.proofs.Texts.{cut}
+use Rattle.gp_writer.specs.LinesLaws.{cut}
 
 -- what holds of all elements where it holds of those from one on, does so where it holds of those behind this one
 pub one_seen : {A : Type 0} (P : A → Type 0) (xs : List A) (x : A) (i : ℕ)

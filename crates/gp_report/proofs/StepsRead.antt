@@ -5,8 +5,10 @@ use Rattle.gp_clause.specs.declared.lit.Lit.{Lit}
 use Rattle.gp_certificate.specs.declared.step.Step.{Step}
 use Rattle.gp_text.specs.declared.line.Line.{Line}
 use Rattle.gp_text.specs.Numbers.{OneSpelling, small_number_of}
+use Rattle.gp_writer.specs.Lines.{in_lines}
+use Rattle.gp_writer.specs.Spelled.{lit_word}
+use Rattle.gp_writer.specs.Steps.{step_lines}
 use Rattle.gp_report.specs.declared.fault.ReportRule.TheVariants.{Clause}
-use Rattle.gp_report.specs.Printed.{in_lines, lit_word, step_lines}
 use Rattle.gp_report.specs.Reading.{Reads, ◌>>=◌, kept_if, lit_of, next_line, read_list, read_lits, read_step, read_steps, rises, told_by, two_numbers, with_front}
 use Rattle.gp_report.proofs.ListsRead.{ListAgain, ListWas, list_again, list_was}
 use Rattle.gp_report.proofs.NumbersRead.{line_of_two, two_again}

@@ -2,11 +2,11 @@
 use Rattle.std.proofs.Common.{◌≡◌, refl, ℕ, ◌+◌, ◌<◌, Bool, cond, get_or, length, drop, List, ◌++◌, ap, ◌∙◌, sym, arith}
 use Rattle.std.specs.List.{flat_map}
 use Rattle.std.proofs.lemmas.List.Sums.{sum_by-append}
+use Rattle.gp_writer.specs.LinesLaws.{cut}
 use Rattle.gp_report.specs.Records.{Answer, Entry}
 use Rattle.gp_report.specs.declared.tally.Tally.{Tally}
 use Rattle.gp_report.specs.Entries.{count_of, is_found, is_impossible, is_undecided}
 use Rattle.gp_report.specs.Tally.{with_entries}
-use Rattle.gp_report.proofs.Texts.{cut}
 
 counted : (is_such : Answer → Bool) (n : ℕ) (xs ys : List Entry) → (n + count_of is_such xs) + count_of is_such ys ≡ n + count_of is_such (xs ++ ys)
 counted is_such n xs ys = omega (arith, sum_by-append (λ (entry : Entry). cond (is_such entry.answer) 1 0) xs ys)

@@ -7,9 +7,10 @@ use Rattle.gp_certificate.specs.declared.step.Step.{Step}
 use Rattle.gp_text.specs.declared.line.Line.{Line}
 use Rattle.gp_text.specs.Numbers.{OneSpelling}
 use Rattle.gp_window.specs.EventIds.{EventIdsReadExactly}
+use Rattle.gp_writer.specs.Steps.{step_lines}
 use Rattle.gp_report.specs.Records.{PropertyRecord, WindowBody, WindowRecord}
 use Rattle.gp_report.specs.declared.record.WindowBodyOf.TheVariants.{TooLarge, Answers}
-use Rattle.gp_report.specs.Printed.{property_lines, shared_lines, step_lines, window_body_lines, window_lines}
+use Rattle.gp_report.specs.Printed.{property_lines, shared_lines, window_body_lines, window_lines}
 use Rattle.gp_report.specs.Reading.{is_at, one_number, read_answers, read_properties, read_shared, read_too_large, read_window, read_window_body, read_window_number, read_windows, shared_in, told_by, two_numbers}
 use Rattle.gp_report.proofs.NumbersRead.{one_again, two_again}
 use Rattle.gp_report.proofs.PropertiesRead.{at_words, properties_again, words_at}

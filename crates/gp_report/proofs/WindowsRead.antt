@@ -7,10 +7,11 @@ use Rattle.gp_certificate.specs.declared.step.Step.{Step}
 use Rattle.gp_text.specs.declared.line.Line.{Line}
 use Rattle.gp_text.specs.Numbers.{OneSpelling}
 use Rattle.gp_window.specs.EventIds.{EventIdsReadExactly}
+use Rattle.gp_writer.specs.Steps.{step_lines}
 use Rattle.gp_report.specs.declared.fault.ReportRule.TheVariants.{Form, Order}
 use Rattle.gp_report.specs.Records.{WindowBody, WindowRecord}
 use Rattle.gp_report.specs.declared.record.WindowBodyOf.TheVariants.{TooLarge, Answers}
-use Rattle.gp_report.specs.Printed.{property_lines, shared_lines, step_lines, window_body_lines, window_lines}
+use Rattle.gp_report.specs.Printed.{property_lines, shared_lines, window_body_lines, window_lines}
 use Rattle.gp_report.specs.Reading.{◌>>=◌, is_at, kept_if, next_line, one_number, read_answers, read_properties, read_shared, read_steps, read_too_large, read_window, read_window_body, read_window_number, read_windows, shared_in, told_by, two_numbers, with_front}
 use Rattle.gp_report.proofs.AnswersRead.{chosen_was}
 use Rattle.gp_report.proofs.NumbersRead.{line_of_one, line_of_two}

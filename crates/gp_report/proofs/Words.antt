@@ -11,7 +11,8 @@ use Rattle.gp_text.specs.Name.{is_name, is_name_byte}
 use Rattle.gp_text.specs.Spelling.{is_plain, is_plain_word, IsPlainLine, joined, PlainWords}
 use Rattle.gp_window.specs.declared.schedule.EventId.{EventId}
 use Rattle.gp_window.specs.EventIds.{event_id_text}
-use Rattle.gp_report.specs.Printed.{in_lines, lines_up_to, lit_word}
+use Rattle.gp_writer.specs.Lines.{in_lines, lines_up_to}
+use Rattle.gp_writer.specs.Spelled.{lit_word}
 use Rattle.gp_report.specs.Typed.{IsTypedId}
 
 -- a plain word of at most 39 bytes that begins no comment

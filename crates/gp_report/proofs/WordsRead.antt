@@ -9,7 +9,7 @@ use Rattle.gp_clause.specs.declared.lit.Lit.{Lit}
 use Rattle.gp_text.specs.Numbers.{OneSpelling, if_below, is_canonical, number_of, small_number_of}
 use Rattle.gp_window.specs.declared.schedule.EventId.{EventId}
 use Rattle.gp_window.specs.EventIds.{EventIdsReadExactly, event_id_from, event_id_of, event_id_text, event_id_with}
-use Rattle.gp_report.specs.Printed.{lit_word}
+use Rattle.gp_writer.specs.Spelled.{lit_word}
 use Rattle.gp_report.specs.Reading.{lit_of, lit_with}
 use Rattle.gp_report.specs.Typed.{IsTypedId}
 use Rattle.gp_report.proofs.Words.{BeginsWithDigit, decimal_begins}

@@ -1,34 +1,15 @@
 -- The lines of words that tell a report.
-use Rattle.std.specs.Prelude.{ℕ, zero, suc, ◌+◌, ◌==◌, List, [], ◌∷◌, ◌++◌, length, map, take, drop, codes, decimal, flat_map, if◌then◌else◌}
-use Rattle.gp_clause.specs.declared.lit.Lit.{Lit}
+use Rattle.std.specs.Prelude.{ℕ, ◌+◌, ◌==◌, List, [], ◌∷◌, ◌++◌, length, map, codes, decimal, flat_map, if◌then◌else◌}
 use Rattle.gp_certificate.specs.declared.step.Step.{Step}
 use Rattle.gp_window.specs.EventIds.{event_id_text}
+use Rattle.gp_writer.specs.Lines.{in_lines}
+use Rattle.gp_writer.specs.Steps.{step_lines}
 use Rattle.gp_report.specs.Records.{Answer, Entry, PropertyBody, PropertyRecord, WindowBody, WindowRecord}
 use Rattle.gp_report.specs.declared.record.AnswerOf.TheVariants.{Found, Impossible, Undecided}
 use Rattle.gp_report.specs.declared.record.PropertyBodyOf.TheVariants.{TooMany, Entries}
 use Rattle.gp_report.specs.declared.record.WindowBodyOf.TheVariants.{TooLarge, Answers}
 use Rattle.gp_report.specs.Entries.{count_of, entries_in, entries_of, is_found, is_impossible, is_undecided}
 use Rattle.gp_report.specs.ReportForm.{ReportForm}
-
--- words in lines of 100, the last line with what is left; at most so many lines
-abbrev pub lines_up_to : ℕ → List (List ℕ) → List (List (List ℕ))
-lines_up_to zero words = []
-lines_up_to (suc more) [] = []
-lines_up_to (suc more) (word ∷ words) = take 100 (word ∷ words) ∷ lines_up_to more (drop 100 (word ∷ words))
-
--- a list of words in lines of 100, the last line with what is left; an empty list has no line
-abbrev pub in_lines : List (List ℕ) → List (List (List ℕ))
-in_lines words = lines_up_to (length words) words
-
--- the number of a literal's variable, from 1, after `-` where the literal is negative
-abbrev pub lit_word : Lit → List ℕ
-lit_word lit = if lit.positive then decimal (lit.variable + 1) else 45 ∷ decimal (lit.variable + 1)
-
--- how many literals and hints a step has, then the literals, then the hints
-abbrev pub step_lines : Step → List (List (List ℕ))
-step_lines step =
-    (codes "step" ∷ decimal (length step.clause) ∷ decimal (length step.hints) ∷ [])
-    ∷ (in_lines (map lit_word step.clause) ++ in_lines (map decimal step.hints))
 
 -- a schedule, a certificate, or the worker and the entries of its log that it learned in vain
 abbrev pub answer_lines : Answer → List (List (List ℕ))

@@ -9,12 +9,10 @@ mod checks;
 mod fault;
 mod fit;
 mod laws;
-mod lines;
 mod printing;
 mod reading;
 mod record;
 mod report;
-mod spelled;
 mod tally;
 
 pub use fault::{ReportFault, ReportRule};

@@ -1,22 +1,19 @@
-ghost use Rattle.std.specs.Prelude.{◌≡◌, [], ◌∷◌, ◌++◌, IfOk, Ok, OnOk, codes, decimal, flat_map, length, map};
+ghost use Rattle.std.specs.Prelude.{◌≡◌, [], ◌∷◌, ◌++◌, IfOk, Ok, OnOk, codes, flat_map};
 ghost use Rattle.gp_text.specs.Spelling.{after_words, spelling};
-ghost use Rattle.gp_window.specs.EventIds.{event_id_text};
 ghost use Rattle.gp_report.specs.Entries.{entries_of};
 ghost use Rattle.gp_report.specs.Reading.{report_of};
 ghost use Rattle.gp_report.specs.Telling.{IsWhole, without_records};
 ghost use Rattle.gp_report.specs.Typed.{AreCounted};
-ghost use Rattle.gp_report.specs.Printed.{answer_lines, count_word, entries_lines, in_lines, instance_words, lit_word, property_lines, report_lines, shared_lines, step_lines, summary_words, window_body_lines, window_lines};
+ghost use Rattle.gp_report.specs.Printed.{answer_lines, count_word, entries_lines, instance_words, property_lines, report_lines, shared_lines, summary_words, window_body_lines, window_lines};
 
 use crate::fit::windows_fit;
 use crate::laws::reports_read_again;
-use crate::lines::{put_line, put_list, put_word, put_words};
 use crate::record::{Answer, Entry, PropertyBody, PropertyRecord, WindowBody, WindowRecord};
 use crate::report::Report;
 use crate::tally::tally_of;
 use gp_base::Row;
 use gp_certificate::Step;
-use gp_clause::Lit;
-use gp_window::EventId;
+use gp_writer::{put_counted_list, put_line, put_numbered_line, put_steps, put_word, put_words};
 use std::alloc::{AllocError, Global};
 
 /// The text of a report: its lines of words, with one space between words and a newline after each line. It is read as the
@@ -71,7 +68,7 @@ fn put_window_body(
     }
 }
 
-#[tactic(auto, using(crate::proofs::Texts::lines_put))]
+#[tactic(auto, using(gp_writer::specs::LinesLaws::lines_put))]
 fn put_answers(
     text: &mut Vec<u8>,
     format: u32,
@@ -90,8 +87,7 @@ fn put_shared(text: &mut Vec<u8>, format: u32, shared: &[Step]) -> Result<(), Al
     if format != 2 {
         return Ok(());
     }
-    put_line(text, b"shared", &[shared.len() as u64])?;
-    put_steps(text, shared)
+    put_steps(text, b"shared", shared)
 }
 
 fn put_properties(text: &mut Vec<u8>, properties: &[PropertyRecord]) -> Result<(), AllocError>
@@ -141,70 +137,22 @@ fn put_entries(text: &mut Vec<u8>, entries: &[Entry]) -> Result<(), AllocError>
 fn put_entry(text: &mut Vec<u8>, number: u64, entry: &Entry) -> Result<(), AllocError>
     ensures { OnOk result (text.new.items ≡ text.old.items ++ spelling (instance_words number entry.now ∷ answer_lines entry.now.answer)) }
 {
-    put_instance(text, number, entry)?;
+    put_numbered_line(text, b"instance", number, entry.events.as_slice())?;
     put_answer(text, &entry.answer)
-}
-
-fn put_instance(text: &mut Vec<u8>, number: u64, entry: &Entry) -> Result<(), AllocError>
-    ensures { OnOk result (text.new.items ≡ text.old.items ++ spelling (instance_words number entry.now ∷ [])) }
-{
-    text.extend_from_slice(b"instance")?;
-    put_words(text, &[number])?;
-    put_words(text, entry.events.as_slice())?;
-    text.push(b'\n')?;
-    Ok(())
 }
 
 fn put_answer(text: &mut Vec<u8>, answer: &Answer) -> Result<(), AllocError>
     ensures { OnOk result (text.new.items ≡ text.old.items ++ spelling (answer_lines answer.now)) }
 {
     match answer {
-        Answer::Found(schedule) => put_schedule(text, schedule.events.as_slice()),
-        Answer::Impossible(certificate) => put_certificate(text, certificate.steps.as_slice()),
+        Answer::Found(schedule) => put_counted_list(text, b"found", schedule.events.as_slice()),
+        Answer::Impossible(certificate) => {
+            put_steps(text, b"impossible", certificate.steps.as_slice())
+        }
         Answer::Undecided { worker, from, to } => {
             put_line(text, b"undecided", &[*worker, *from, *to])
         }
     }
-}
-
-fn put_schedule(text: &mut Vec<u8>, events: &[EventId]) -> Result<(), AllocError>
-    ensures { OnOk result (text.new.items ≡ text.old.items ++ spelling ((codes "found" ∷ decimal (length events.now) ∷ []) ∷ in_lines (map event_id_text events.now))) }
-{
-    put_line(text, b"found", &[events.len() as u64])?;
-    put_list(text, events)
-}
-
-fn put_certificate(text: &mut Vec<u8>, steps: &[Step]) -> Result<(), AllocError>
-    ensures { OnOk result (text.new.items ≡ text.old.items ++ spelling ((codes "impossible" ∷ decimal (length steps.now) ∷ []) ∷ flat_map step_lines steps.now)) }
-{
-    put_line(text, b"impossible", &[steps.len() as u64])?;
-    put_steps(text, steps)
-}
-
-fn put_steps(text: &mut Vec<u8>, steps: &[Step]) -> Result<(), AllocError>
-    ensures { OnOk result (text.new.items ≡ text.old.items ++ spelling (flat_map step_lines steps.now)) }
-{
-    for step in steps {
-        put_step(text, step)?;
-    }
-    Ok(())
-}
-
-fn put_step(text: &mut Vec<u8>, step: &Step) -> Result<(), AllocError>
-    ensures { OnOk result (text.new.items ≡ text.old.items ++ spelling (step_lines step.now)) }
-{
-    let lits = step.clause.lits();
-    let hints = step.hints.as_slice();
-    put_line(text, b"step", &[lits.len() as u64, hints.len() as u64])?;
-    put_lists(text, lits, hints)
-}
-
-#[tactic(auto, using(crate::proofs::Texts::lines_put))]
-fn put_lists(text: &mut Vec<u8>, lits: &[Lit], hints: &[u32]) -> Result<(), AllocError>
-    ensures { OnOk result (text.new.items ≡ text.old.items ++ spelling (in_lines (map lit_word lits.now) ++ in_lines (map decimal hints.now))) }
-{
-    put_list(text, lits)?;
-    put_list(text, hints)
 }
 
 fn put_summary(text: &mut Vec<u8>, windows: &[WindowRecord]) -> Result<(), AllocError>

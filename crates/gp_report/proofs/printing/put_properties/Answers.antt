@@ -1,5 +1,5 @@
+use Rattle.gp_writer.specs.LinesLaws.{one_more}
 use Rattle.gp_report.specs.Printed.{property_lines}
-use Rattle.gp_report.proofs.Texts.{one_more}
 use Rattle.gp_report.proofs.printing.put_properties.Goals as goal
 
 pub loop-property-preserved : goal.loop-property-preserved

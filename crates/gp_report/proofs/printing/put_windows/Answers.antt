@@ -1,5 +1,5 @@
+use Rattle.gp_writer.specs.LinesLaws.{one_more}
 use Rattle.gp_report.specs.Printed.{window_lines}
-use Rattle.gp_report.proofs.Texts.{one_more}
 use Rattle.gp_report.proofs.printing.put_windows.Goals as goal
 
 pub loop-window-preserved : goal.loop-window-preserved

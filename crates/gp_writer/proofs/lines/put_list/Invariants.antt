@@ -1,8 +1,8 @@
 use Rattle.std.proofs.Common.{◌≡◌, ◌++◌, map}
 use Rattle.std.specs.Slice.Iter.{chunks_rest, chunks_size}
 use Rattle.gp_text.specs.Spelling.{spelling}
-use Rattle.gp_report.specs.Printed.{in_lines}
-use Rattle.gp_report.proofs.lines.put_list.Given as goal
+use Rattle.gp_writer.specs.Lines.{in_lines}
+use Rattle.gp_writer.proofs.lines.put_list.Given as goal
 
 abbrev pub invariant-loop-line : goal.invariant-loop-line
 invariant-loop-line g l =

@@ -1,9 +1,28 @@
--- Lists of words in lines of 100.
-use Rattle.std.proofs.Common.{◌≡◌, refl, ℕ, zero, suc, ◌+◌, ◌<◌, ◌≤◌, min, length, take, drop, map, List, [], ◌∷◌, ◌++◌, ap, ◌∙◌, sym, append_assoc, arith, length-drop, length-append}
-use Rattle.std.proofs.lemmas.List.{drop_at, drop_min, length-map, map-append, take_at, take_min}
-use Rattle.gp_text.specs.Spelling.{joined, spelling}
-use Rattle.gp_report.specs.Printed.{in_lines, lines_up_to}
-use Rattle.gp_report.proofs.Texts.{lines_put}
+-- Laws: lines that are put one after another, and the first line of a list.
+use Rattle.std.proofs.Common.{◌≡◌, refl, ℕ, zero, suc, ◌+◌, ◌<◌, ◌≤◌, get_or, min, length, take, drop, add-one, drop-cons, List, [], ◌∷◌, ◌++◌, ap, ◌∙◌, sym, append_assoc, arith, length-drop, length-append}
+use Rattle.std.specs.List.{flat_map}
+use Rattle.std.proofs.lemmas.List.{drop_at, drop_min, take_at, take_min}
+use Rattle.gp_text.specs.Spelling.{spelling}
+use Rattle.gp_text.specs.SpellingLaws.{spelling_append}
+use Rattle.gp_writer.specs.Lines.{in_lines, lines_up_to}
+
+-- lines, and then more lines
+pub lines_put : (old : List ℕ) (xs ys : List (List (List ℕ))) → (old ++ spelling xs) ++ spelling ys ≡ old ++ spelling (xs ++ ys)
+lines_put old xs ys = append_assoc old (spelling xs) (spelling ys) ∙ ap (λ rest. old ++ rest) (sym (spelling_append xs ys))
+
+-- what stands at a place, and what stands after it
+pub cut : {A : Type 0} (xs : List A) (x : A) (i : ℕ) → i < length xs → x ≡ get_or xs i x → drop i xs ≡ x ∷ drop (i + 1) xs
+cut xs x i below is = rw (add-one, drop-cons xs i x below, ← is) refl
+
+-- the lines of one thing more, and then those of the things that are left
+pub one_more : {A : Type 0} (f : A → List (List (List ℕ))) (text whole : List ℕ) (xs : List A) (x : A) (i : ℕ)
+    → i < length xs → x ≡ get_or xs i x
+    → text ++ spelling (flat_map f (drop i xs)) ≡ whole
+    → (text ++ spelling (f x)) ++ spelling (flat_map f (drop (i + 1) xs)) ≡ whole
+one_more f text whole xs x i below is all =
+    lines_put text (f x) (flat_map f (drop (i + 1) xs))
+    ∙ ap (λ left. text ++ spelling (flat_map f left)) (sym (cut xs x i below is))
+    ∙ all
 
 -- as many lines as there are words are enough
 enough : (n m : ℕ) (words : List (List ℕ)) → length words ≤ n → length words ≤ m → lines_up_to n words ≡ lines_up_to m words
@@ -29,15 +48,3 @@ cut_line (word ∷ words) line rest whole full some =
     ap (λ front. front ∷ lines_up_to (length words) (drop 100 (word ∷ words))) first
     ∙ ap (λ back. line ∷ lines_up_to (length words) back) others
     ∙ ap (λ lines. line ∷ lines) (enough (length words) (length rest) rest (omega arith) (omega arith))
-
--- one line more of a list
-pub one_line : {A : Type 0} (f : A → List ℕ) (text whole : List ℕ) (words line rest : List A)
-    → words ≡ line ++ rest → length line ≡ min 100 (length words) → 0 < length words
-    → text ++ spelling (in_lines (map f words)) ≡ whole
-    → ((text ++ joined (map f line)) ++ 10 ∷ []) ++ spelling (in_lines (map f rest)) ≡ whole
-one_line f text whole words line rest parts full some all =
-    let parts_of : map f words ≡ map f line ++ map f rest = ap (map f) parts ∙ map-append f line rest in
-    ap (λ front. front ++ spelling (in_lines (map f rest))) (append_assoc text (joined (map f line)) (10 ∷ []))
-    ∙ lines_put text (map f line ∷ []) (in_lines (map f rest))
-    ∙ ap (λ lines. text ++ spelling lines) (sym (cut_line (map f words) (map f line) (map f rest) parts_of (rw (length-map line f, length-map words f) full) (rw (length-map words f) some)))
-    ∙ all

@@ -1,6 +1,6 @@
-use Rattle.gp_report.specs.Printed.{step_lines}
-use Rattle.gp_report.proofs.Texts.{one_more}
-use Rattle.gp_report.proofs.printing.put_steps.Goals as goal
+use Rattle.gp_writer.specs.Steps.{step_lines}
+use Rattle.gp_writer.specs.LinesLaws.{one_more}
+use Rattle.gp_writer.proofs.steps.put_each_step.Goals as goal
 
 pub loop-step-preserved : goal.loop-step-preserved
 loop-step-preserved c =

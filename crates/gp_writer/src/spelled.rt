@@ -5,11 +5,11 @@ use gp_text::print_u64;
 use gp_window::{EventId, put_event_id};
 use std::alloc::AllocError;
 
-// What is told as one word.
-pub(crate) trait Spelled {
+/// What is told as one word.
+pub trait Spelled {
     ghost word: { Self → List ℕ };
 
-    // Puts the word at the end of a text.
+    /// Puts the word at the end of a text.
     fn put(&self, text: &mut Vec<u8>) -> Result<(), AllocError>
         ensures { OnOk result (text.new.items ≡ text.old.items ++ word self.now) };
 }
@@ -34,6 +34,14 @@ impl Spelled for u64 {
     }
 }
 
+impl Spelled for &[u8] {
+    ghost word = { λ bytes. bytes.now };
+
+    fn put(&self, text: &mut Vec<u8>) -> Result<(), AllocError> {
+        text.extend_from_slice(*self)
+    }
+}
+
 impl Spelled for EventId {
     ghost use Rattle.gp_window.specs.EventIds.{event_id_text};
 
@@ -45,7 +53,7 @@ impl Spelled for EventId {
 }
 
 impl Spelled for Lit {
-    ghost use Rattle.gp_report.specs.Printed.{lit_word};
+    ghost use Rattle.gp_writer.specs.Spelled.{lit_word};
 
     ghost word = { lit_word };
 

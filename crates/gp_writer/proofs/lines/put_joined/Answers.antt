@@ -1,7 +1,7 @@
 use Rattle.std.proofs.Common.{◌≡◌, ◌++◌, ◌∙◌, ap, List, ℕ, OnOk, map, subst}
 use Rattle.gp_text.specs.Spelling.{after_words}
-use Rattle.gp_report.proofs.Texts.{first_put}
-use Rattle.gp_report.proofs.lines.put_joined.Goals as goal
+use Rattle.gp_writer.proofs.LineByLine.{first_put}
+use Rattle.gp_writer.proofs.lines.put_joined.Goals as goal
 
 pub returns : goal.returns
 returns g c =

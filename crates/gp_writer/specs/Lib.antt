@@ -1,0 +1,4 @@
+pub mod Lines
+pub mod LinesLaws
+pub mod Spelled
+pub mod Steps

@@ -72,4 +72,12 @@ impl Report {
     {
         self.windows.as_slice()
     }
+
+    /// Gives up the records of the windows.
+    pub fn into_windows(self) -> Row<WindowRecord>
+        ensures { result ≡ self.windows }
+    {
+        let Report { windows, .. } = self;
+        windows
+    }
 }

@@ -14,6 +14,7 @@ mod InboxPlaces
 mod InboxJoins
 mod InboxRows
 mod InboxColumns
+mod PostRenewed
 mod DeskBack
 mod CrewAlone
 mod SharedCrew

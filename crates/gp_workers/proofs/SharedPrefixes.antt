@@ -71,11 +71,11 @@ prefix_of problem count records place other own one seen out within apart got_ow
         ∙ out.pushed other one got_one apart
 
 pub takes_prefixes : TakesPrefixes
-takes_prefixes problem count work all = record {
+takes_prefixes problem count records passes all = record {
   offers = all.offers;
   prefixes = λ place other own one apart got_own got_one.
-      let own_within = slice_get_within work.records place own got_own in
-      let one_within = slice_get_within work.records other one got_one in
-      let pass = some_at work.passes place (omega (arith, own_within, all.workers, all.passes)) in
-      prefix_of problem count work.records place other own one (view pass.0) (all.each place pass.0 pass.1) (omega (arith, one_within, all.workers)) apart got_own got_one;
+      let own_within = slice_get_within records place own got_own in
+      let one_within = slice_get_within records other one got_one in
+      let pass = some_at passes place (omega (arith, own_within, all.workers, all.inboxes)) in
+      prefix_of problem count records place other own one (view pass.0) (all.each place pass.0 pass.1) (omega (arith, one_within, all.workers)) apart got_own got_one;
 }

@@ -1,6 +1,6 @@
 -- What the passes of one inbox know together, once those of all workers are joined.
-use Rattle.std.proofs.Common.{◌≡◌, refl, sym, ◌∙◌, ap, subst, ℕ, zero, suc, ◌+◌, ◌<◌, ◌==◌, ◌⊎◌, inl, inr, Bool, true, false, ◌||◌, cond, Option, None, Some, List, [], ◌∷◌, ◌++◌, length, map, All, append_assoc, append-nil, eq-eqb, arith, count_by}
-use Rattle.std.specs.List.{slice_get}
+use Rattle.std.proofs.Common.{◌≡◌, refl, sym, ◌∙◌, ap, subst, ℕ, zero, suc, ◌+◌, ◌-◌, ◌<◌, ◌==◌, ◌⊎◌, inl, inr, Bool, true, false, ◌||◌, cond, Option, None, Some, List, [], ◌∷◌, ◌++◌, length, map, All, append_assoc, append-nil, eq-eqb, arith, count_by}
+use Rattle.std.specs.List.{range_with_len, slice_get}
 use Rattle.std.proofs.Math.Bool.{or_assoc, or-false}
 use Rattle.std.proofs.lemmas.Bool.{cases_eq, ne_eqb}
 use Rattle.std.proofs.lemmas.List.Elements.{All-head, All-tail, filter-append}
@@ -17,7 +17,7 @@ use Rattle.gp_search.specs.Mail.{taken_entry}
 use Rattle.gp_workers.specs.declared.crew.Shared.{Shared}
 use Rattle.gp_workers.specs.Desk.{Knows}
 use Rattle.gp_workers.specs.Inboxes.{all_joined, joined_by}
-use Rattle.gp_workers.specs.Sharing.{pushed_to}
+use Rattle.gp_workers.specs.Sharing.{others, pushed_to}
 use Rattle.gp_workers.specs.Mail.{taken_entries}
 
 -- what a pass knows, where there is one
@@ -139,9 +139,9 @@ module _ (problem : Problem) (count place : ℕ) where
       let sends = seen.0.knows.sending (λ (is : place ≡ own). apart (sym same ∙ sym is)) in
       let ours : sent_by (from + 1) (seen_at place shared).pushed ≡ (seen_at place shared).pushed =
       subst (λ (n : ℕ). sent_by (n + 1) (seen_at place shared).pushed ≡ (seen_at place shared).pushed) same (sent_own (own + 1) (seen_at place shared).pushed sends.own) in
-      let others : sent_by (from + 1) (pushed_at place crew) ≡ [] = none_sent (own + 1) from crew seen.1 (omega (arith, at)) in
+      let behind : sent_by (from + 1) (pushed_at place crew) ≡ [] = none_sent (own + 1) from crew seen.1 (omega (arith, at)) in
       ap (λ (ss : List SharedClause). map (λ (s : SharedClause). s.clause) ss)
-      (sent_append (from + 1) (seen_at place shared).pushed (pushed_at place crew) ∙ (λ i. ours i ++ others i) ∙ append-nil (seen_at place shared).pushed)
+      (sent_append (from + 1) (seen_at place shared).pushed (pushed_at place crew) ∙ (λ i. ours i ++ behind i) ∙ append-nil (seen_at place shared).pushed)
       ∙ sends.pushed
       ∙ (λ i. pushed_to (same_Some shared.worked.record one got i) (same i) place)
   all_sent own (suc k) from (shared ∷ crew) one seen at got apart =
@@ -168,6 +168,32 @@ module _ (problem : Problem) (count place : ℕ) where
       let both = count_append (◌==◌ (from + 1)) (seen_at place shared).numbers (numbers_at place crew) in
       omega (arith, rest, both)
 
+  -- and no other
+  numbers_above : (own : ℕ) (crew : List Shared) → AreSeen problem count place own crew → place < own → numbers_at place crew ≡ range_with_len (own + 1) (length crew)
+  numbers_above own [] seen above = refl
+  numbers_above own (shared ∷ crew) seen above =
+      let holds : (seen_at place shared).numbers ≡ (own + 1) ∷ [] = (seen.0.knows.sending (λ (is : place ≡ own). absurd (omega (arith, is, above)))).numbers in
+      λ i. holds i ++ numbers_above (own + 1) crew seen.1 (omega (arith, above)) i
+
+  numbers_from : (own k : ℕ) (crew : List Shared) → AreSeen problem count place own crew → place ≡ own + k → k < length crew
+      → numbers_at place crew ≡ range_with_len (own + 1) k ++ range_with_len (place + 2) (length crew - (k + 1))
+  numbers_from own k [] seen at within = absurd (omega (arith, within))
+  numbers_from own zero (shared ∷ crew) seen at within =
+      let none : (seen_at place shared).numbers ≡ [] = (seen.0.knows.taking (omega (arith, at))).numbers in
+      let from : own + 1 + 1 ≡ place + 2 = omega (arith, at) in
+      let left : length crew ≡ length (shared ∷ crew) - (0 + 1) = omega arith in
+      (λ i. none i ++ numbers_at place crew) ∙ numbers_above (own + 1) crew seen.1 (omega (arith, at)) ∙ (λ i. range_with_len (from i) (left i))
+  numbers_from own (suc k) (shared ∷ crew) seen at within =
+      let holds : (seen_at place shared).numbers ≡ (own + 1) ∷ [] = (seen.0.knows.sending (λ (is : place ≡ own). absurd (omega (arith, is, at)))).numbers in
+      let left : length crew - (k + 1) ≡ length (shared ∷ crew) - (suc k + 1) = omega arith in
+      (λ i. holds i ++ numbers_at place crew)
+      ∙ ap (λ (ns : List ℕ). (own + 1) ∷ ns)
+      (numbers_from (own + 1) k crew seen.1 (omega (arith, at)) (omega (arith, within)) ∙ ap (λ (n : ℕ). range_with_len (own + 1 + 1) k ++ range_with_len (place + 2) n) left)
+
+  pub others_at : (crew : List Shared) → AreSeen problem count place 0 crew → count ≡ length crew → place < count → numbers_at place crew ≡ others count place
+  others_at crew seen counted within =
+      numbers_from 0 place crew seen (omega arith) (omega (arith, within, counted)) ∙ ap (λ (n : ℕ). range_with_len 1 place ++ range_with_len (place + 2) (n - (place + 1))) (sym counted)
+
   -- one of them may take
   pub one_takes : (own k : ℕ) (crew : List Shared) → AreSeen problem count place own crew → place ≡ own + k → k < length crew → takes_at place crew ≡ true
   one_takes own k [] seen at within = absurd (omega (arith, within))
@@ -190,8 +216,8 @@ module _ (problem : Problem) (count place : ℕ) where
   pub all_taken : (own k : ℕ) (crew : List Shared) (one : WorkerRecord) → AreSeen problem count place own crew → place ≡ own + k → slice_get (map (λ (shared : Shared). shared.worked.record) crew) k ≡ Some one
       → map taken_entry (taken_at place crew) ≡ taken_entries one.log
   all_taken own zero (shared ∷ crew) one seen at got =
-      let others : taken_at place crew ≡ [] = none_taken (own + 1) crew seen.1 (omega (arith, at)) in
-      ap (λ (ss : List SharedClause). map taken_entry ss) ((λ i. (seen_at place shared).taken ++ others i) ∙ append-nil (seen_at place shared).taken)
+      let behind : taken_at place crew ≡ [] = none_taken (own + 1) crew seen.1 (omega (arith, at)) in
+      ap (λ (ss : List SharedClause). map taken_entry ss) ((λ i. (seen_at place shared).taken ++ behind i) ∙ append-nil (seen_at place shared).taken)
       ∙ seen.0.taken (omega (arith, at))
       ∙ ap (λ (r : WorkerRecord). taken_entries r.log) (same_Some shared.worked.record one got)
   all_taken own (suc k) (shared ∷ crew) one seen at got =

@@ -18,12 +18,16 @@ use Rattle.gp_workers.specs.declared.crew.Shared.{Shared}
 use Rattle.gp_workers.specs.declared.crew.Worked.{Worked}
 use Rattle.gp_tickets.specs.declared.tickets.Tickets.{Tickets}
 use Rattle.gp_workers.specs.declared.work.WindowWork.{WindowWork}
+use Rattle.gp_workers.specs.declared.work.WorkAnswer.{WorkAnswer}
 use Rattle.gp_workers.specs.Crew.{AreDone}
-use Rattle.gp_workers.specs.Desk.{Knows, taken_by}
+use Rattle.gp_workers.specs.Desk.{Knows, PassesAre, taken_by}
+use Rattle.gp_workers.specs.Post.{IsWholeOf}
 use Rattle.gp_workers.specs.SharedCrew.{AreHandedBack, IsHandedBack, Drains}
 use Rattle.gp_workers.specs.Inboxes.{AreJoined, AreRows, DrainsAt, IsOfEach}
+use Rattle.gp_workers.specs.Record.{EachOnce, IsWorkerRecord}
+use Rattle.gp_workers.specs.Work.{AnswerEach, IsWork}
 use Rattle.gp_workers.specs.Sharing.{AllShared, IsHandedOut, OffersAll, others, pushed_to}
-use Rattle.gp_workers.proofs.SharedViews.{all_numbers, all_sent, all_taken, AreSeen, joined_with, numbers_at, one_takes, pushed_at, seen_at, seen_by, SeenBy, taken_at, takes_at, with_all}
+use Rattle.gp_workers.proofs.SharedViews.{all_numbers, all_sent, all_taken, AreSeen, joined_with, numbers_at, one_takes, others_at, pushed_at, seen_at, seen_by, SeenBy, taken_at, takes_at, with_all}
 
 -- a place within a list has an element
 pub some_at : {X : Type 0} (xs : List X) (place : ℕ) → place < length xs → (x : X) × (slice_get xs place ≡ Some x)
@@ -124,6 +128,21 @@ is_handed_out problem count place crew before now counted seen all drains = reco
   );
 }
 
+-- and it can be renewed
+is_whole : (problem : Problem) (count place : ℕ) (crew : List Shared) (before now : View) → count ≡ length crew → place < count → AreSeen problem count place 0 crew → IsTogether problem count place crew before → Drains before now
+    → IsWholeOf count place now
+is_whole problem count place crew before now counted within seen all drains = record {
+  whole = record {
+    numbers = λ number. ap (λ (ns : List ℕ). count_by (◌==◌ number) ns) (ap (λ (v : View). v.numbers) drains.is ∙ all.numbers ∙ others_at problem count place crew seen counted within ∙ sym senders);
+    takes = ap (λ (v : View). v.takes) drains.is ∙ all.takes ∙ one_takes problem count place 0 place crew seen (omega arith) (omega (arith, within, counted));
+    drained = drains.drained;
+  };
+  senders = senders;
+}
+  where
+    senders : now.senders ≡ others count place
+    senders = ap (λ (v : View). v.senders) drains.is ∙ all.senders
+
 -- the joined passes are of the inboxes
 pub own_of : (inboxes : List Inbox) (rows : List (Vec (Pass SharedClause View))) (passes : List (Pass SharedClause View)) → AreJoined inboxes rows passes → IsOfEach inboxes passes
 own_of inboxes [] passes are = absurd are
@@ -134,27 +153,48 @@ module _ (tickets : Tickets) (problem : Problem) (queries : List Query) (budget 
   within : (place : ℕ) (pass : Pass SharedClause View) → slice_get joined place ≡ Some pass → place < length inboxes
   within place pass got = omega (arith, slice_get_within joined place pass got, (own_of inboxes (map (λ (shared : Shared). shared.passes) crew) joined are).len)
 
+  -- what each worker's pass of the inbox at a place knows, where a joined pass stands at the place
+  seen_there : (place : ℕ) (pass : Pass SharedClause View) → slice_get joined place ≡ Some pass → AreSeen problem (length inboxes) place 0 crew
+  seen_there place pass got = are_seen tickets problem queries budget inboxes place 0 crew back (within place pass got)
+
   together : (place : ℕ) (pass : Pass SharedClause View) → slice_get joined place ≡ Some pass → IsTogether problem (length inboxes) place crew (view pass)
-  together place pass got =
-      is_together problem (length inboxes) place inboxes crew joined pass (are_seen tickets problem queries budget inboxes place 0 crew back (within place pass got)) are got
+  together place pass got = is_together problem (length inboxes) place inboxes crew joined pass (seen_there place pass got) are got
 
   -- each joined pass may take
   pub all_take : (place : ℕ) (pass : Pass SharedClause View) → slice_get joined place ≡ Some pass → (view pass).takes ≡ true
   all_take place pass got =
-      (together place pass got).takes
-      ∙ one_takes problem (length inboxes) place 0 place crew (are_seen tickets problem queries budget inboxes place 0 crew back (within place pass got)) (omega arith) (omega (arith, within place pass got, counted))
+      (together place pass got).takes ∙ one_takes problem (length inboxes) place 0 place crew (seen_there place pass got) (omega arith) (omega (arith, within place pass got, counted))
 
-  -- then all is shared
-  pub all_shared : (passes : List (Pass SharedClause View)) (work : WindowWork) → IsOfEach inboxes passes → ((place : ℕ) (pass : Pass SharedClause View) → slice_get passes place ≡ Some pass → DrainsAt joined place pass)
-      → work.records ≡ map (λ (worked : Worked). worked.record) (map (λ (shared : Shared). shared.worked) crew) → work.passes ≡ passes → AllShared problem (length inboxes) work
-  all_shared passes work own each records_are passes_are = record {
-    workers = ap (λ (rs : List WorkerRecord). length rs) (records_are ∙ records_of crew) ∙ length-map crew (λ (shared : Shared). shared.worked.record) ∙ counted;
-    offers = subst (All (OffersAll problem (length inboxes))) (sym records_are) (all_offer tickets problem queries budget inboxes 0 crew back);
-    passes = ap (λ (ps : List (Pass SharedClause View)). length ps) passes_are ∙ own.len;
-    each = λ place pass got.
-        let drains : DrainsAt joined place pass = each place pass (sym (ap (λ (ps : List (Pass SharedClause View)). slice_get ps place) passes_are) ∙ got) in
-        let before = drains.is in
-        subst (λ (rs : List WorkerRecord). IsHandedOut problem (length inboxes) rs place (view pass)) (sym (records_are ∙ records_of crew))
-        (is_handed_out problem (length inboxes) place crew (view drains.before) (view pass) (sym counted) (are_seen tickets problem queries budget inboxes place 0 crew back (within place drains.before before))
-        (together place drains.before before) drains.drains);
-  }
+  module _ (passes : List (Pass SharedClause View)) (own : IsOfEach inboxes passes) (each : (place : ℕ) (pass : Pass SharedClause View) → slice_get passes place ≡ Some pass → DrainsAt joined place pass) where
+    -- then all is shared
+    pub all_shared : (records : List WorkerRecord) → records ≡ map (λ (worked : Worked). worked.record) (map (λ (shared : Shared). shared.worked) crew) → AllShared problem (length inboxes) records passes
+    all_shared records records_are = record {
+      workers = ap (λ (rs : List WorkerRecord). length rs) (records_are ∙ records_of crew) ∙ length-map crew (λ (shared : Shared). shared.worked.record) ∙ counted;
+      offers = subst (All (OffersAll problem (length inboxes))) (sym records_are) (all_offer tickets problem queries budget inboxes 0 crew back);
+      inboxes = own.len;
+      each = λ place pass got.
+          let drains : DrainsAt joined place pass = each place pass got in
+          subst (λ (rs : List WorkerRecord). IsHandedOut problem (length inboxes) rs place (view pass)) (sym (records_are ∙ records_of crew))
+          (is_handed_out problem (length inboxes) place crew (view drains.before) (view pass) (sym counted) (seen_there place drains.before drains.is) (together place drains.before drains.is) drains.drains);
+    }
+
+    -- and each inbox can be renewed
+    pub all_whole : PassesAre inboxes (IsWholeOf (length inboxes)) passes
+    all_whole = record {
+      len = own.len;
+      each = λ place inbox pass got_inbox got. (
+        own.each place inbox pass got_inbox got,
+        let drains : DrainsAt joined place pass = each place pass got in
+            is_whole problem (length inboxes) place crew (view drains.before) (view pass) (sym counted) (within place drains.before drains.is) (seen_there place drains.before drains.is) (together place drains.before drains.is)
+            drains.drains,
+      );
+    }
+
+-- work is the same work with whatever passes
+pub still_work : (problem : Problem) (queries : List Query) (count budget : ℕ) (old new : WindowWork) → new.answers ≡ old.answers → new.records ≡ old.records → IsWork problem queries count budget old → IsWork problem queries count budget new
+still_work problem queries count budget old new answers records is = record {
+  answers = subst (λ (p : List WorkerRecord × List WorkAnswer). AnswerEach problem budget p.0 0 queries p.1) (λ i. (sym records i, sym answers i)) is.answers;
+  workers = ap (λ (rs : List WorkerRecord). length rs) records ∙ is.workers;
+  records = subst (All (IsWorkerRecord problem)) (sym records) is.records;
+  once = subst (EachOnce (length queries)) (sym records) is.once;
+}

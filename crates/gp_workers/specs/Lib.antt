@@ -7,4 +7,5 @@ pub mod Sharing
 pub mod Desk
 pub mod SharedCrew
 pub mod Inboxes
+pub mod Post
 pub mod Prefixes

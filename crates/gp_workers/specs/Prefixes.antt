@@ -1,12 +1,14 @@
 -- What the records of workers tell of what one pushed and another took.
 use Rattle.std.specs.Prelude.{ℕ, ◌≡◌, ◌+◌, ◌==◌, Bool, false, Some, List, ◌++◌, map, filter, slice_get, All}
+use Rattle.crossbeam_queue.specs.Passes.{Pass}
 use Rattle.gp_clause.specs.declared.lit.Lit.{Lit}
 use Rattle.gp_clause.specs.declared.problem.Problem.{Problem}
 use Rattle.gp_derivation.specs.declared.log.LogEntry.{LogEntry}
 use Rattle.gp_derivation.specs.declared.log.Origin.{Origin}
 use Rattle.gp_derivation.specs.declared.log.Origin.TheVariants.{Learned, Taken}
+use Rattle.gp_derivation.specs.declared.exchange.SharedClause.{SharedClause}
 use Rattle.gp_derivation.specs.declared.record.WorkerRecord.{WorkerRecord}
-use Rattle.gp_workers.specs.declared.work.WindowWork.{WindowWork}
+use Rattle.gp_inbox.specs.declared.rule.View.{View}
 use Rattle.gp_workers.specs.Sharing.{AllShared, OffersAll, pushed_to}
 
 -- whether an origin is that of an entry that was taken from the worker of a number
@@ -31,4 +33,4 @@ pub record AreSharing (problem : Problem) (count : ℕ) (records : List WorkerRe
 
 -- the records of workers that shared all tell so
 abbrev pub TakesPrefixes : Type 0
-TakesPrefixes = (problem : Problem) (count : ℕ) (work : WindowWork) → AllShared problem count work → AreSharing problem count work.records
+TakesPrefixes = (problem : Problem) (count : ℕ) (records : List WorkerRecord) (passes : List (Pass SharedClause View)) → AllShared problem count records passes → AreSharing problem count records

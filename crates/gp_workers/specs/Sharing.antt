@@ -62,12 +62,12 @@ pub record IsHandedOut (problem : Problem) (count : ℕ) (records : List WorkerR
   pub first : (own : WorkerRecord) → slice_get records place ≡ Some own
       → (front : List SharedClause) × (more : List SharedClause) × (seen.taken ≡ front ++ more) × (map taken_entry front ≡ taken_entries own.log)
 
--- so many workers, two or more, offered all that is fit to share, and the pass of each inbox is handed out
-pub record AllShared (problem : Problem) (count : ℕ) (work : WindowWork) : Type 0 where
-  pub workers : length work.records ≡ count
-  pub offers : All (OffersAll problem count) work.records
-  pub passes : length work.passes ≡ count
-  pub each : (place : ℕ) (pass : Pass SharedClause View) → slice_get work.passes place ≡ Some pass → IsHandedOut problem count work.records place (view pass)
+-- so many workers, two or more, offered all that is fit to share by their records, and the pass of each inbox is handed out
+pub record AllShared (problem : Problem) (count : ℕ) (records : List WorkerRecord) (passes : List (Pass SharedClause View)) : Type 0 where
+  pub workers : length records ≡ count
+  pub offers : All (OffersAll problem count) records
+  pub inboxes : length passes ≡ count
+  pub each : (place : ℕ) (pass : Pass SharedClause View) → slice_get passes place ≡ Some pass → IsHandedOut problem count records place (view pass)
 
 -- nothing was offered, and nothing was taken
 pub record WorksAlone (work : WindowWork) : Type 0 where

@@ -119,14 +119,10 @@ impl Gathered {
         Ok(())
     }
 
-    // The answers in the order of their tickets, beside the passes that are handed out.
-    pub(crate) fn into_work(
-        self,
-        alloc: Global,
-        passes: Vec<Pass>,
-    ) -> Result<WindowWork, AllocError>
+    // The answers in the order of their tickets, beside no passes.
+    pub(crate) fn into_work(self, alloc: Global) -> Result<WindowWork, AllocError>
         ensures records { IfOk result (λ work. work.records ≡ self.records.items) }
-        ensures passes { IfOk result (λ work. work.passes ≡ passes.items) }
+        ensures passes { IfOk result (λ work. work.passes ≡ []) }
         ensures work { (tickets : Tickets) (problem : Problem) (queries : List Query) (budget : ℕ) → IsGathered tickets problem queries budget self → length self.records.items ≡ tickets.crew → tickets.count ≡ length queries → IfOk result (IsWork problem queries tickets.crew budget) }
     {
         let Gathered { drawn, records } = self;
@@ -134,7 +130,7 @@ impl Gathered {
         Ok(WindowWork {
             answers: Row::from_vec(answers),
             records: Row::from_vec(records),
-            passes: Row::from_vec(passes),
+            passes: Row::new(alloc),
         })
     }
 }

@@ -1,4 +1,5 @@
 ghost use Rattle.std.specs.Prelude.{◌≡◌, ◌+◌, ◌-◌, ◌<◌, ◌≤◌, ◌++◌, ◌∷◌, [], ℕ, Some, IfOk, OnOk, length, slice_get, true};
+ghost use Rattle.gp_workers.specs.Post.{IsPost};
 ghost use Rattle.gp_workers.specs.Sharing.{others};
 ghost use Rattle.gp_workers.specs.SharedCrew.{AreHired, AreSharingJobs, IsRow, Drains, JoinsAt};
 ghost use Rattle.gp_workers.specs.Inboxes.{AreColumns, IsDealt, AreJoined, AreRows, DrainsAt, IsOfEach};
@@ -6,6 +7,7 @@ ghost use Rattle.crossbeam_queue.specs.Passes.{view};
 ghost use Rattle.gp_inbox.specs.Passes.{IsOf};
 
 use crate::crew::{Hired, Job, SharingJob};
+use crate::post::Post;
 use gp_clause::Problem;
 use gp_inbox::{Inbox, Pass};
 use gp_tickets::Tickets;
@@ -13,18 +15,20 @@ use std::alloc::{AllocError, Global};
 use std::collections::VecDeque;
 use std::sync::Wait;
 
-// So many workers that share, with an inbox of each and so many tickets.
+// So many workers that share so many tickets, each with an inbox of this post.
 pub(crate) fn hire(
     alloc: Global,
     problem: &Problem,
     count: u64,
     workers: u32,
+    post: Post,
 ) -> Result<Hired, AllocError>
     requires count { count ≤ 1000000 }
     requires workers { (2 ≤ workers) × (workers ≤ 16) }
+    requires post { IsPost workers post }
     ensures { IfOk result (AreHired problem.now count workers) }
 {
-    let (inboxes, columns) = open_inboxes(alloc, problem, workers)?;
+    let (inboxes, columns) = post.open(alloc, problem, workers)?;
     let (tickets, jobs) = hire_sharing(alloc, count, workers, columns)?;
     Ok(Hired {
         inboxes,
@@ -34,7 +38,7 @@ pub(crate) fn hire(
 }
 
 // An inbox for each of so many workers, and the passes of each worker.
-fn open_inboxes(
+pub(crate) fn open_inboxes(
     alloc: Global,
     problem: &Problem,
     workers: u32,
@@ -54,7 +58,7 @@ fn open_inboxes(
 }
 
 // No pass yet for each of so many workers.
-fn empty_columns(alloc: Global, workers: u32) -> Result<VecDeque<Vec<Pass>>, AllocError>
+pub(crate) fn empty_columns(alloc: Global, workers: u32) -> Result<VecDeque<Vec<Pass>>, AllocError>
     ensures { (problem : _) → IfOk result (λ columns. AreColumns problem workers [] columns.items) }
 {
     let mut columns = VecDeque::new(alloc);
@@ -82,7 +86,7 @@ fn open_inbox(
 }
 
 // The numbers of the other workers.
-fn others_of(alloc: Global, workers: u32, taker: u32) -> Result<Vec<u32>, AllocError>
+pub(crate) fn others_of(alloc: Global, workers: u32, taker: u32) -> Result<Vec<u32>, AllocError>
     requires { (taker < workers) × (workers ≤ 16) }
     ensures { IfOk result (λ numbers. numbers.items ≡ others workers taker) }
 {
@@ -97,7 +101,7 @@ fn others_of(alloc: Global, workers: u32, taker: u32) -> Result<Vec<u32>, AllocE
 }
 
 // Each worker gets its pass of one inbox more.
-fn deal(columns: &mut VecDeque<Vec<Pass>>, mut row: Vec<Pass>) -> Result<(), AllocError>
+pub(crate) fn deal(columns: &mut VecDeque<Vec<Pass>>, mut row: Vec<Pass>) -> Result<(), AllocError>
     requires { length row.items ≡ length columns.old.items }
     ensures len { length columns.new.items ≡ length columns.old.items }
     ensures dealt { OnOk result ((place : ℕ) (column : _) → slice_get columns.new.items place ≡ Some column → IsDealt columns.old.items row.items place column) }

@@ -11,10 +11,12 @@ mod crew;
 mod desk;
 mod inboxes;
 mod mail;
+mod post;
 mod sharing;
 mod window;
 mod work;
 mod worker;
 
+pub use post::Post;
 pub use window::{work_all, work_in_turn, work_one};
 pub use work::{WindowWork, WorkAnswer, takes_prefixes};

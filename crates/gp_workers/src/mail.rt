@@ -20,14 +20,14 @@ impl<'a> BoundedMail for NoMail<'a> {
 }
 
 // The inboxes of the workers, which are the same as long as they work.
-pub(crate) trait Post {
+pub(crate) trait Naming {
     ghost use Rattle.std.specs.Prelude.{List};
     ghost use Rattle.gp_inbox.specs.declared.inbox.Inbox.{Inbox};
 
     ghost inboxes: { List Inbox };
 }
 
-impl Post for Brand {
+impl Naming for Brand {
     ghost use Rattle.std.specs.Prelude.{[]};
 
     ghost inboxes = { [] };
@@ -35,13 +35,13 @@ impl Post for Brand {
 
 // The mail of a worker among others.
 #[derive(Drop)]
-pub(crate) struct WorkerMail<'a, R: Wait, P: Post> {
+pub(crate) struct WorkerMail<'a, R: Wait, N: Naming> {
     rt: &'a R,
     desk: Desk<'a>,
-    post: PhantomData<P>,
+    naming: PhantomData<N>,
 }
 
-impl<'a, R: Wait, P: Post> Model for WorkerMail<'a, R, P> {
+impl<'a, R: Wait, N: Naming> Model for WorkerMail<'a, R, N> {
     ghost use Rattle.std.specs.Prelude.{◌≡◌};
     ghost use Rattle.gp_workers.specs.declared.desk.Desk.{Desk};
 
@@ -51,40 +51,40 @@ impl<'a, R: Wait, P: Post> Model for WorkerMail<'a, R, P> {
 
     ghost view = { λ mail. mail.desk };
 
-    ghost invariant = { λ mail. IsDesk mail.desk × (mail.desk.inboxes.now ≡ P.inboxes) };
+    ghost invariant = { λ mail. IsDesk mail.desk × (mail.desk.inboxes.now ≡ N.inboxes) };
 }
 
-impl<'a, R: Wait, P: Post> WorkerMail<'a, R, P> {
+impl<'a, R: Wait, N: Naming> WorkerMail<'a, R, N> {
     ghost use Rattle.std.specs.Prelude.{◌≡◌};
     ghost use Rattle.gp_workers.specs.Desk.{IsDesk};
 
-    pub(crate) fn new(rt: &'a R, desk: Desk<'a>) -> WorkerMail<'a, R, P>
+    pub(crate) fn new(rt: &'a R, desk: Desk<'a>) -> WorkerMail<'a, R, N>
         requires desk { IsDesk desk }
-        requires post { desk.inboxes.now ≡ P.inboxes }
+        requires named { desk.inboxes.now ≡ N.inboxes }
         ensures { result ≡ desk.entry }
     {
         WorkerMail {
             rt,
             desk,
-            post: PhantomData,
+            naming: PhantomData,
         }
     }
 
     pub(crate) fn into_desk(self) -> Desk<'a>
         ensures same { result ≡ self.entry }
         ensures desk { IsDesk result }
-        ensures post { result.inboxes.now ≡ P.inboxes }
+        ensures named { result.inboxes.now ≡ N.inboxes }
     {
         let WorkerMail {
             rt: _,
             desk,
-            post: _,
+            naming: _,
         } = self;
         desk
     }
 }
 
-impl<'a, R: Wait, P: Post> Mail for WorkerMail<'a, R, P> {
+impl<'a, R: Wait, N: Naming> Mail for WorkerMail<'a, R, N> {
     ghost use Rattle.std.specs.Prelude.{◌+◌, Some, true};
     ghost use Rattle.gp_workers.specs.Desk.{told_by};
 
@@ -109,7 +109,7 @@ impl<'a, R: Wait, P: Post> Mail for WorkerMail<'a, R, P> {
     }
 }
 
-impl<'a, R: Wait, P: Post> BoundedMail for WorkerMail<'a, R, P> {
+impl<'a, R: Wait, N: Naming> BoundedMail for WorkerMail<'a, R, N> {
     fn gives_few(&self) {
         let _desk = &self.desk;
     }

@@ -1,7 +1,8 @@
-ghost use Rattle.std.specs.Prelude.{◌≡◌, ◌-◌, ◌<◌, ◌≤◌, Some, IfOk, length, map};
+ghost use Rattle.std.specs.Prelude.{◌≡◌, ◌-◌, ◌<◌, ◌≤◌, [], Some, IfOk, length, map};
 ghost use Rattle.gp_workers.specs.Crew.{IsDone};
-ghost use Rattle.gp_workers.specs.Desk.{IsDesk, offers_of, told_by};
+ghost use Rattle.gp_workers.specs.Desk.{IsDesk, PassesAre, offers_of, told_by};
 ghost use Rattle.gp_workers.specs.Mail.{SharesSoFar};
+ghost use Rattle.gp_workers.specs.Post.{IsWholeOf};
 ghost use Rattle.gp_workers.specs.SharedCrew.{IsShared, IsSharingJob, SameButOffers, AreHandedBack};
 ghost use Rattle.gp_workers.specs.Work.{CanBeAsked, IsWork};
 ghost use Rattle.gp_workers.specs.Sharing.{AllShared};
@@ -9,7 +10,7 @@ ghost use Rattle.gp_workers.specs.Sharing.{AllShared};
 use crate::crew::{Shared, SharingJob, Worked, Workload, gather};
 use crate::desk::{Desk, Outgoing};
 use crate::inboxes::{drain_all, join_all};
-use crate::mail::{Post, WorkerMail};
+use crate::mail::{Naming, WorkerMail};
 use crate::work::WindowWork;
 use crate::worker::work;
 use gp_base::Row;
@@ -37,18 +38,18 @@ pub(crate) fn work_beside<R: Wait, G: Gate>(
     ensures done { IfOk result (λ shared. IsDone load.now.tickets.now load.now.problem.now load.now.queries.now load.now.budget sharing.job.number shared.worked) }
     ensures shared { IfOk result (λ shared. IsShared load.now.problem.now inboxes.now (sharing.job.number - 1) shared.worked.record shared.passes.items) }
 {
-    work_posted::<R, G, Brand>(rt, alloc, load, inboxes, sharing)
+    work_named::<R, G, Brand>(rt, alloc, load, inboxes, sharing)
 }
 
-// The same, where the post names the inboxes.
-fn work_posted<R: Wait, G: Gate, P: Post>(
+// The same, where the inboxes have a name.
+fn work_named<R: Wait, G: Gate, N: Naming>(
     rt: &R,
     alloc: Global,
     load: &Workload<'_, G>,
     inboxes: &[Inbox],
     sharing: SharingJob,
 ) -> Result<Shared, AllocError>
-    requires post { inboxes.now ≡ P.inboxes }
+    requires named { inboxes.now ≡ N.inboxes }
     requires asked { CanBeAsked load.now.problem.now load.now.queries.now load.now.budget }
     requires count { load.now.tickets.now.count ≡ length load.now.queries.now }
     requires few { length inboxes.now ≤ 16 }
@@ -66,7 +67,7 @@ fn work_posted<R: Wait, G: Gate, P: Post>(
         outgoing: Vec::new(alloc),
         empty: 0,
     };
-    let mut mail: WorkerMail<R, P> = WorkerMail::new(rt, desk);
+    let mut mail: WorkerMail<R, N> = WorkerMail::new(rt, desk);
     let worked = work(alloc, load, job, &mut mail)?;
     mail.into_desk().hand_back(alloc, worked)
 }
@@ -104,25 +105,29 @@ fn offers_of(alloc: Global, outgoing: Vec<Outgoing>) -> Result<Vec<Offered>, All
     outgoing.into_iter().map(|one| one.offered).collect(alloc)
 }
 
-// What the workers handed back, put together: the passes of each inbox are joined, and what is left is taken.
+// What the workers handed back, put together, and the pass of each inbox: the passes of all are joined, and what is left is
+// taken.
 pub(crate) fn finish<R: Wait, G: Gate>(
     rt: &R,
     alloc: Global,
     load: &Workload<'_, G>,
     inboxes: &[Inbox],
     crew: VecDeque<Shared>,
-) -> Result<WindowWork, AllocError>
+) -> Result<(WindowWork, Vec<Pass>), AllocError>
     requires some { (1 ≤ length crew.items) × (length crew.items ≡ length inboxes.now) }
     requires crew { load.now.tickets.now.crew ≡ length inboxes.now }
     requires count { load.now.tickets.now.count ≡ length load.now.queries.now }
     requires back { AreHandedBack load.now.tickets.now load.now.problem.now load.now.queries.now load.now.budget inboxes.now 0 crew.items }
-    ensures work { IfOk result (IsWork load.now.problem.now load.now.queries.now (length inboxes.now) load.now.budget) }
-    ensures shared { IfOk result (AllShared load.now.problem.now (length inboxes.now)) }
+    ensures work { IfOk result (λ made. IsWork load.now.problem.now load.now.queries.now (length inboxes.now) load.now.budget made.0) }
+    ensures none { IfOk result (λ made. made.0.passes ≡ []) }
+    ensures shared { IfOk result (λ made. AllShared load.now.problem.now (length inboxes.now) made.0.records made.1.items) }
+    ensures whole { IfOk result (λ made. PassesAre inboxes.now (IsWholeOf (length inboxes.now)) made.1.items) }
 {
     let (crew, rows) = parted(alloc, crew)?;
     let mut passes = join_all(inboxes, rows);
     drain_all(rt, inboxes, &mut passes);
-    gather(alloc, load.tickets, crew)?.into_work(alloc, passes)
+    let work = gather(alloc, load.tickets, crew)?.into_work(alloc)?;
+    Ok((work, passes))
 }
 
 // The work of each worker, and its passes.

@@ -1,13 +1,16 @@
-ghost use Rattle.std.specs.Prelude.{◌≡◌, ◌≤◌, ◌<◌, ◌-◌, ℕ, IfOk, Ok, length, map, slice_index_or};
+ghost use Rattle.std.specs.Prelude.{◌≡◌, ◌≤◌, ◌<◌, ◌-◌, ℕ, [], IfOk, Ok, length, map, slice_index_or};
+ghost use Rattle.gp_workers.specs.Post.{IsPost};
 ghost use Rattle.gp_workers.specs.SharedCrew.{AreHandedBack, AreSharingJobs, IsHandedBack, IsSharingJob};
 ghost use Rattle.gp_workers.specs.Sharing.{AllShared, WorksAlone};
 ghost use Rattle.gp_workers.specs.Work.{CanBeAsked, IsWork};
 
 use crate::crew::{Gathered, Hired, Job, Shared, SharingJob, Workload};
 use crate::inboxes::hire;
+use crate::post::Post;
 use crate::sharing::{finish, work_beside};
 use crate::work::WindowWork;
 use crate::worker::work;
+use gp_base::Row;
 use gp_clause::{Problem, Query};
 use gp_inbox::Inbox;
 use gp_outside::Gate;
@@ -35,7 +38,7 @@ pub fn work_all<R: Threads + Wait + Sync, G: Gate + Sync>(
     requires asked { CanBeAsked problem.now queries.now budget }
     ensures work { IfOk result (IsWork problem.now queries.now workers budget) }
     ensures alone { workers ≡ 1 → IfOk result WorksAlone }
-    ensures shared { 2 ≤ workers → IfOk result (AllShared problem.now workers) }
+    ensures shared { 2 ≤ workers → IfOk result (λ work. AllShared problem.now workers work.records work.passes) }
 {
     if workers == 1 {
         return work_one(alloc, problem, queries, budget, gate);
@@ -56,13 +59,19 @@ fn work_together<R: Threads + Wait + Sync, G: Gate + Sync>(
     requires workers { (2 ≤ workers) × (workers ≤ 16) }
     requires asked { CanBeAsked problem.now queries.now budget }
     ensures work { IfOk result (IsWork problem.now queries.now workers budget) }
-    ensures shared { IfOk result (AllShared problem.now workers) }
+    ensures shared { IfOk result (λ work. AllShared problem.now workers work.records work.passes) }
 {
     let Hired {
         inboxes,
         tickets,
         jobs,
-    } = hire(alloc, problem, queries.len() as u64, workers)?;
+    } = hire(
+        alloc,
+        problem,
+        queries.len() as u64,
+        workers,
+        Post::none(alloc),
+    )?;
     let inboxes = inboxes.as_slice();
     let load = Workload {
         tickets: &tickets,
@@ -72,7 +81,9 @@ fn work_together<R: Threads + Wait + Sync, G: Gate + Sync>(
         gate,
     };
     let crew = run_side_by_side(rt, alloc, &load, inboxes, jobs)?;
-    finish(rt, alloc, &load, inboxes, crew)
+    let (work, passes) = finish(rt, alloc, &load, inboxes, crew)?;
+    let passes = Row::from_vec(passes);
+    Ok(WindowWork { passes, ..work })
 }
 
 // What each worker hands back, by number, where they work side by side.
@@ -135,7 +146,8 @@ fn in_order(
 
 /// Answers the queries by so many workers, numbered from 1, one after another in the calling thread, for windows of few
 /// queries that are worked on side by side. Each draws tickets until none is left, passes the gate after each, and passes to
-/// the others what it learns and is fit to share. So the first answers all queries, and the others make no search.
+/// the others what it learns and is fit to share. So the first answers all queries, and the others make no search. Beside the
+/// work comes the post for the next window, which has the passes of this one.
 pub fn work_in_turn<R: Wait, G: Gate>(
     rt: &R,
     alloc: Global,
@@ -144,17 +156,22 @@ pub fn work_in_turn<R: Wait, G: Gate>(
     workers: u32,
     budget: u64,
     gate: &G,
-) -> Result<WindowWork, AllocError>
+    post: Post,
+) -> Result<(WindowWork, Post), AllocError>
     requires workers { (1 ≤ workers) × (workers ≤ 16) }
     requires asked { CanBeAsked problem.now queries.now budget }
-    ensures work { IfOk result (IsWork problem.now queries.now workers budget) }
-    ensures alone { workers ≡ 1 → IfOk result WorksAlone }
-    ensures shared { 2 ≤ workers → IfOk result (AllShared problem.now workers) }
+    requires post { IsPost workers post }
+    ensures work { IfOk result (λ made. IsWork problem.now queries.now workers budget made.0) }
+    ensures none { IfOk result (λ made. made.0.passes ≡ []) }
+    ensures post { IfOk result (λ made. IsPost workers made.1) }
+    ensures alone { workers ≡ 1 → IfOk result (λ made. WorksAlone made.0 × (made.1 ≡ post)) }
+    ensures shared { 2 ≤ workers → IfOk result (λ made. AllShared problem.now workers made.0.records made.1.passes.items) }
 {
     if workers == 1 {
-        return work_one(alloc, problem, queries, budget, gate);
+        let work = work_one(alloc, problem, queries, budget, gate)?;
+        return Ok((work, post));
     }
-    work_one_by_one(rt, alloc, problem, queries, workers, budget, gate)
+    work_one_by_one(rt, alloc, problem, queries, workers, budget, gate, post)
 }
 
 // Two workers or more, one after another.
@@ -166,18 +183,21 @@ fn work_one_by_one<R: Wait, G: Gate>(
     workers: u32,
     budget: u64,
     gate: &G,
-) -> Result<WindowWork, AllocError>
+    post: Post,
+) -> Result<(WindowWork, Post), AllocError>
     requires workers { (2 ≤ workers) × (workers ≤ 16) }
     requires asked { CanBeAsked problem.now queries.now budget }
-    ensures work { IfOk result (IsWork problem.now queries.now workers budget) }
-    ensures shared { IfOk result (AllShared problem.now workers) }
+    requires post { IsPost workers post }
+    ensures work { IfOk result (λ made. IsWork problem.now queries.now workers budget made.0) }
+    ensures none { IfOk result (λ made. made.0.passes ≡ []) }
+    ensures post { IfOk result (λ made. IsPost workers made.1) }
+    ensures shared { IfOk result (λ made. AllShared problem.now workers made.0.records made.1.passes.items) }
 {
     let Hired {
         inboxes,
         tickets,
         jobs,
-    } = hire(alloc, problem, queries.len() as u64, workers)?;
-    let inboxes = inboxes.as_slice();
+    } = hire(alloc, problem, queries.len() as u64, workers, post)?;
     let load = Workload {
         tickets: &tickets,
         problem,
@@ -185,8 +205,10 @@ fn work_one_by_one<R: Wait, G: Gate>(
         budget,
         gate,
     };
-    let crew = run_in_turn(rt, alloc, &load, inboxes, jobs)?;
-    finish(rt, alloc, &load, inboxes, crew)
+    let opened = inboxes.as_slice();
+    let crew = run_in_turn(rt, alloc, &load, opened, jobs)?;
+    let (work, passes) = finish(rt, alloc, &load, opened, crew)?;
+    Ok((work, Post { inboxes, passes }))
 }
 
 // What each worker hands back, by number, where one works after another.
@@ -238,5 +260,5 @@ pub fn work_one<G: Gate>(
         gate,
     };
     let worked = work(alloc, &load, job, &mut mail)?;
-    Gathered::of(alloc, worked)?.into_work(alloc, Vec::new(alloc))
+    Gathered::of(alloc, worked)?.into_work(alloc)
 }

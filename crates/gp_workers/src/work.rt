@@ -17,8 +17,8 @@ pub enum WorkAnswer {
 
 /// What the workers of a window answer, query by query in order, and what each of them did.
 ///
-/// Where two workers or more share, there is a pass of each worker's inbox, by worker, to which the passes of all were
-/// joined, and through which all was taken that was left.
+/// Where two workers or more share side by side, there is a pass of each worker's inbox, by worker, to which the passes of all
+/// were joined, and through which all was taken that was left.
 #[derive(Drop)]
 pub struct WindowWork {
     pub answers: Row<WorkAnswer>,

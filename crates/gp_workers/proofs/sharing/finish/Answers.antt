@@ -1,6 +1,5 @@
 -- The parts of what the workers handed back are put together again.
 use Rattle.std.proofs.Common.{◌≡◌, ◌∙◌, sym, ap, subst, ℕ, List, length, map, All}
-use Rattle.std.specs.Prelude.{IfOk}
 use Rattle.std.specs.Global.{Vec}
 use Rattle.std.proofs.lemmas.List.{length-map}
 use Rattle.crossbeam_queue.specs.Passes.{Pass}
@@ -8,14 +7,11 @@ use Rattle.gp_derivation.specs.declared.exchange.SharedClause.{SharedClause}
 use Rattle.gp_inbox.specs.declared.rule.View.{View}
 use Rattle.gp_workers.specs.declared.crew.Shared.{Shared}
 use Rattle.gp_workers.specs.declared.crew.Worked.{Worked}
-use Rattle.gp_workers.specs.declared.work.WindowWork.{WindowWork}
 use Rattle.gp_workers.specs.Crew.{AreDone}
 use Rattle.gp_tickets.specs.Drawn.{HasDrawn}
 use Rattle.gp_workers.specs.Inboxes.{AreJoined, AreRows}
-use Rattle.gp_workers.specs.Sharing.{AllShared}
 use Rattle.gp_workers.specs.Work.{IsWork}
-use Rattle.gp_workers.proofs.SharedWork.{all_shared, all_take, are_done, are_rows}
-use Rattle.gp_workers.proofs.CrewAlone.{both_if_ok}
+use Rattle.gp_workers.proofs.SharedWork.{all_shared, all_take, all_whole, are_done, are_rows}
 use Rattle.gp_workers.proofs.CrewJobs.{all_drawn}
 use Rattle.gp_workers.proofs.sharing.finish.Goals as goal
 
@@ -48,16 +44,20 @@ returns-clause-work g c =
     ∙ length-map c.args.crew.items (λ (shared : Shared). shared.worked)
     ∙ c.requires.some.1
     ∙ sym c.requires.crew in
-    subst (λ (n : ℕ). IfOk c.into_work.result (IsWork load.problem.now load.queries.now n load.budget)) c.requires.crew
-    (c.into_work.ensures.work load.tickets.now load.problem.now load.queries.now load.budget (c.in_ok-gather.ensures.gathered load.problem.now load.queries.now load.budget done) all c.requires.count)
+    subst (λ (n : ℕ). IsWork load.problem.now load.queries.now n load.budget c.in_ok-work.work) c.requires.crew
+    (c.in_ok-work.ensures.work load.tickets.now load.problem.now load.queries.now load.budget (c.in_ok-gather.ensures.gathered load.problem.now load.queries.now load.budget done) all c.requires.count)
 
 pub returns-clause-shared : goal.returns-clause-shared
 returns-clause-shared g c =
     let load = c.args.load.now in
     let joined = subst (λ (rows : List (Vec (Pass SharedClause View))). AreJoined c.args.inboxes.now rows c.join_all-passes.result.items) c.in_ok-crew.ensures.passes c.join_all-passes.ensures in
-    let records = c.in_ok-gather.ensures.records ∙ ap (λ (ws : List Worked). map (λ (worked : Worked). worked.record) ws) c.in_ok-crew.ensures.worked in
-    both_if_ok (λ (work : WindowWork). work.records ≡ c.in_ok-gather.field-0.records.items) (λ (work : WindowWork). work.passes ≡ c.drain_all.new.passes.items) (AllShared load.problem.now (length c.args.inboxes.now)) c.into_work.result
-    (λ work records_are passes_are.
+    let records = c.in_ok-work.ensures.records ∙ c.in_ok-gather.ensures.records ∙ ap (λ (ws : List Worked). map (λ (worked : Worked). worked.record) ws) c.in_ok-crew.ensures.worked in
     all_shared load.tickets.now load.problem.now load.queries.now load.budget c.args.inboxes.now c.args.crew.items c.requires.back c.requires.some.1 c.join_all-passes.result.items joined
-    c.drain_all.new.passes.items work c.drain_all.ensures.own c.drain_all.ensures.each (records_are ∙ records) passes_are)
-    c.into_work.ensures.records c.into_work.ensures.passes
+    c.drain_all.new.passes.items c.drain_all.ensures.own c.drain_all.ensures.each c.in_ok-work.work.records records
+
+pub returns-clause-whole : goal.returns-clause-whole
+returns-clause-whole g c =
+    let load = c.args.load.now in
+    let joined = subst (λ (rows : List (Vec (Pass SharedClause View))). AreJoined c.args.inboxes.now rows c.join_all-passes.result.items) c.in_ok-crew.ensures.passes c.join_all-passes.ensures in
+    all_whole load.tickets.now load.problem.now load.queries.now load.budget c.args.inboxes.now c.args.crew.items c.requires.back c.requires.some.1 c.join_all-passes.result.items joined
+    c.drain_all.new.passes.items c.drain_all.ensures.own c.drain_all.ensures.each

@@ -20,4 +20,4 @@ returns-clause-alone g c =
     let own = c.in_ok-worked.worked.record in
     nothing_shared own c.into_work.result c.in_ok-worked.ensures.none_offered c.in_ok-worked.ensures.shares
     (same_if_ok (λ (work : WindowWork). work.records ≡ c.in_ok-of.field-0.records.items) (λ work. work.records ≡ own ∷ []) c.into_work.result (λ work is. is ∙ c.in_ok-of.ensures.records) c.into_work.ensures.records)
-    (same_if_ok (λ (work : WindowWork). work.passes ≡ c.new-2.result.items) (λ work. work.passes ≡ []) c.into_work.result (λ work is. is ∙ c.new-2.ensures.items) c.into_work.ensures.passes)
+    c.into_work.ensures.passes

@@ -1,10 +1,13 @@
 -- What all workers handed back is the work.
-use Rattle.std.proofs.Common.{◌≡◌, ◌∙◌, sym, ap, subst, ℕ, List, length}
-use Rattle.std.specs.Prelude.{IfOk}
+use Rattle.std.proofs.Common.{◌≡◌, refl, ◌∙◌, sym, ap, subst, ℕ, List, length}
+use Rattle.crossbeam_queue.specs.Passes.{Pass}
+use Rattle.gp_derivation.specs.declared.exchange.SharedClause.{SharedClause}
 use Rattle.gp_inbox.specs.declared.inbox.Inbox.{Inbox}
+use Rattle.gp_inbox.specs.declared.rule.View.{View}
 use Rattle.gp_workers.specs.Sharing.{AllShared}
 use Rattle.gp_workers.specs.SharedCrew.{AreSharingJobs}
 use Rattle.gp_workers.specs.Work.{IsWork}
+use Rattle.gp_workers.proofs.SharedWork.{still_work}
 use Rattle.gp_workers.proofs.window.work_together.Goals as goal
 
 pub run_side_by_side-requires-clause-jobs : goal.run_side_by_side-requires-clause-jobs
@@ -15,9 +18,10 @@ run_side_by_side-requires-clause-jobs g c κs within =
 pub returns-clause-work : goal.returns-clause-work
 returns-clause-work g c =
     let all : length c.as_slice-inboxes.result.now ≡ c.args.workers = ap (λ (inboxes : List Inbox). length inboxes) c.as_slice-inboxes.ensures.value ∙ c.in_ok-inboxes.ensures.own_inboxes in
-    subst (λ (n : ℕ). IfOk c.finish.result (IsWork c.args.problem.now c.args.queries.now n c.args.budget)) all c.finish.ensures.work
+    still_work c.args.problem.now c.args.queries.now c.args.workers c.args.budget c.in_ok-work.work _ refl refl (subst (λ (n : ℕ). IsWork c.args.problem.now c.args.queries.now n c.args.budget c.in_ok-work.work) all c.in_ok-work.ensures.work)
 
 pub returns-clause-shared : goal.returns-clause-shared
 returns-clause-shared g c =
     let all : length c.as_slice-inboxes.result.now ≡ c.args.workers = ap (λ (inboxes : List Inbox). length inboxes) c.as_slice-inboxes.ensures.value ∙ c.in_ok-inboxes.ensures.own_inboxes in
-    subst (λ (n : ℕ). IfOk c.finish.result (AllShared c.args.problem.now n)) all c.finish.ensures.shared
+    let passes = c.from_vec-passes.ensures in
+    subst (λ (p : ℕ × List (Pass SharedClause View)). AllShared c.args.problem.now p.0 c.in_ok-work.work.records p.1) (λ i. (all i, sym passes i)) c.in_ok-work.ensures.shared

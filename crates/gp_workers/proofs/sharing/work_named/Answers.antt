@@ -6,7 +6,7 @@ use Rattle.gp_workers.specs.Crew.{IsDone}
 use Rattle.gp_workers.specs.SharedCrew.{SameButOffers}
 use Rattle.gp_workers.proofs.SharedCrew.{new_desk, shared_among, silent_yet, still_done}
 use Rattle.gp_workers.proofs.CrewAlone.{same_if_ok}
-use Rattle.gp_workers.proofs.sharing.work_posted.Goals as goal
+use Rattle.gp_workers.proofs.sharing.work_named.Goals as goal
 
 pub new-mail-requires-clause-desk : goal.new-mail-requires-clause-desk
 new-mail-requires-clause-desk g c = new_desk _ (omega (arith, c.requires.number)) c.requires.few c.requires.job.1 c.new.ensures.items
@@ -26,4 +26,4 @@ returns-clause-shared g c =
     let kept : c.into_desk.result.place ≡ c.work.new.mail.place = ap (λ (desk : Desk). desk.place) c.into_desk.ensures.same in
     let number = c.work.ensures.number in
     shared_among c.hand_back.result c.into_desk.result.problem.now c.args.load.now.problem.now c.into_desk.result.inboxes.now c.args.inboxes.now c.into_desk.result.place (c.args.sharing.job.number - 1)
-    (ap (λ (desk : Desk). desk.problem.now) c.into_desk.ensures.same ∙ c.in_ok-worked.ensures.problem) (c.into_desk.ensures.post ∙ sym c.requires.post) (omega (arith, begun, kept, number)) c.hand_back.ensures.shared
+    (ap (λ (desk : Desk). desk.problem.now) c.into_desk.ensures.same ∙ c.in_ok-worked.ensures.problem) (c.into_desk.ensures.named ∙ sym c.requires.named) (omega (arith, begun, kept, number)) c.hand_back.ensures.shared

@@ -13,7 +13,7 @@ use Rattle.gp_instance.specs.declared.instance.InstancesFault.TheVariants.{TooMa
 use Rattle.gp_instance.specs.Instances.{due_instances}
 use Rattle.gp_patterns.specs.Tickets.{properties_count}
 use Rattle.gp_predict.specs.declared.reply.Reply.{Reply}
-use Rattle.gp_predict.specs.declared.listing.Listed.{Listed}
+use Rattle.gp_predict.specs.declared.listing.ToList.{ToList}
 use Rattle.gp_predict.specs.declared.listing.Listing.{Listing}
 use Rattle.gp_predict.specs.Content.{content_at, recording_at}
 use Rattle.gp_predict.specs.Lines.{instance_line, property_line, total_line, window_line}
@@ -81,5 +81,5 @@ abbrev pub list_at : List File → List ℕ → Result Reply Reply
 list_at files folder = and_then (listing_at files folder) (λ listing. Ok (answer_of_listing listing))
 
 -- what the result of task list tells: the answer that its listing is
-abbrev pub of_listed : Listed → Told
-of_listed listed = of_reply (answer_of_listing listed.listing)
+abbrev pub of_to_list : ToList → Told
+of_to_list whole = of_reply (answer_of_listing whole.listing)

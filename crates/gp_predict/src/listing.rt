@@ -4,7 +4,7 @@ ghost use Rattle.gp_instance.specs.Instances.{due_instances};
 ghost use Rattle.gp_property.specs.Property.{IsProperty};
 ghost use Rattle.gp_property.specs.Reading.{properties_of};
 ghost use Rattle.gp_patterns.specs.Tickets.{listed_count, properties_count};
-ghost use Rattle.gp_predict.specs.Listing.{instance_lines, list_at, listing_at, of_listed, properties_at, properties_lines, property_lines, window_count, window_lines};
+ghost use Rattle.gp_predict.specs.Listing.{instance_lines, list_at, listing_at, of_to_list, properties_at, properties_lines, property_lines, window_count, window_lines};
 ghost use Rattle.gp_predict.specs.Tasks.{as_text, either_expected};
 ghost use Rattle.gp_predict.specs.Finished.{CameTo, told_by};
 ghost use Rattle.gp_predict.specs.Refusal.{properties_refusal};
@@ -38,15 +38,15 @@ pub struct Listing {
 
 /// What is to be listed. Its text is made window by window while it is written.
 #[derive(Debug, Drop)]
-pub struct Listed {
+pub struct ToList {
     pub listing: Listing,
     ghost few: { length listing.properties ≤ 64 },
 }
 
-impl Tells for Listed {
-    ghost use Rattle.gp_predict.specs.Listing.{of_listed};
+impl Tells for ToList {
+    ghost use Rattle.gp_predict.specs.Listing.{of_to_list};
 
-    ghost told = { of_listed };
+    ghost told = { of_to_list };
 
     fn put<S: Sink>(&self, alloc: Global, sink: &mut S) -> Result<(), PutFault> {
         put_listing(alloc, sink, &self.listing)
@@ -62,11 +62,11 @@ pub fn listed<R: AllocGlobal + Threads + Sync, F: Folder>(
     rt: &R,
     folder: &mut F,
     directory: &str,
-) -> Result<Listed, Stop>
-    ensures { IsStage result (λ files. CameTo (told_by of_listed result) (either_expected (as_text (list_at files directory.now)))) (F.files folder.old) (F.files folder.new) (F.faults folder.old) (F.faults folder.new) }
+) -> Result<ToList, Stop>
+    ensures { IsStage result (λ files. CameTo (told_by of_to_list result) (either_expected (as_text (list_at files directory.now)))) (F.files folder.old) (F.files folder.new) (F.faults folder.old) (F.faults folder.new) }
 {
     let listing = listing_at(rt, folder, directory)?;
-    Ok(Listed { listing })
+    Ok(ToList { listing })
 }
 
 /// Reads the recording and the properties in a folder.

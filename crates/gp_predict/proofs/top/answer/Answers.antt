@@ -5,7 +5,7 @@ use Rattle.gp_words.specs.declared.task.Task.TheVariants as task
 use Rattle.gp_predict.specs.declared.analysing.Asked.{Asked}
 use Rattle.gp_predict.specs.Analysing.{analysing_at, of_report}
 use Rattle.gp_predict.specs.Compacting.{of_compact_form}
-use Rattle.gp_predict.specs.Listing.{of_listed}
+use Rattle.gp_predict.specs.Listing.{of_to_list}
 use Rattle.gp_predict.specs.Tasks.{as_analysis, either_expected}
 use Rattle.gp_predict.specs.Telling.{of_answer}
 use Rattle.gp_predict.specs.Finished.{CameTo, told_by}
@@ -19,7 +19,7 @@ returns-in-Replay-clause-run g c =
 
 pub returns-in-List-clause-run : goal.returns-in-List-clause-run
 returns-in-List-clause-run g c =
-    ran_stage of_listed c.listed-made.result (form_of c.args.command.now) task.List _ _ _ _ _ _ _ _ _ c.in-List.is refl c.listed-made.ensures c.finish-in-List.ensures.finished
+    ran_stage of_to_list c.listed-made.result (form_of c.args.command.now) task.List _ _ _ _ _ _ _ _ _ c.in-List.is refl c.listed-made.ensures c.finish-in-List.ensures.finished
 
 pub returns-in-Analyse-clause-run : goal.returns-in-Analyse-clause-run
 returns-in-Analyse-clause-run g c =

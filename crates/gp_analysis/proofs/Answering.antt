@@ -1,5 +1,5 @@
 -- How far the subjects of a window are answered.
-use Rattle.std.proofs.Common.{◌≡◌, ◌∙◌, sym, subst, ap, refl, ℕ, ◌+◌, ◌*◌, ◌≤◌, List, [], ◌∷◌, ◌++◌, length, Option, Some, None, Result, Ok, Err, append-nil, append_assoc, length-append, All, arith}
+use Rattle.std.proofs.Common.{◌≡◌, ◌∙◌, sym, subst, ap, refl, ℕ, ◌+◌, ◌*◌, ◌≤◌, List, [], ◌∷◌, ◌++◌, length, Option, Some, None, Result, Ok, Err, append-nil, append_assoc, length-append, arith}
 use Rattle.std.proofs.lemmas.List.Elements.{All-from_recursion}
 use Rattle.std.specs.List.{AllByRecursion}
 use Rattle.gp_clause.specs.declared.problem.Problem.{Problem}
@@ -18,7 +18,7 @@ use Rattle.gp_workers.specs.Work.{AnswerEach, CanBeAsked}
 use Rattle.gp_analysis.specs.declared.listing.Asked.{Asked}
 use Rattle.gp_analysis.specs.Answered.{AnswersSubjects}
 use Rattle.gp_analysis.specs.Listed.{listed_from, listed_of, queries_each, queries_from, queries_of, query_for}
-use Rattle.gp_analysis.specs.Question.{IsLawful, ListsAsks, QuestionForm}
+use Rattle.gp_analysis.specs.Question.{ListsAsks, QuestionForm}
 use Rattle.gp_analysis.specs.Recorded.{CanBeAnswered}
 use Rattle.gp_analysis.specs.Recording.{CanRecord, RecordsListed}
 use Rattle.gp_analysis.specs.Tickets.{asked_of, subjects_tickets, tickets_in, tickets_listed, tickets_of}

@@ -1,5 +1,5 @@
 -- What is recorded of an ask by an answer to its query has the evidence of the answer.
-use Rattle.std.proofs.Common.{◌≡◌, sym, ◌∙◌, subst, refl, ℕ, ◌+◌, List, [], ◌∷◌, ◌++◌, map, Option, Some, None, Result, Ok, Err, add-zero, add_assoc, append_assoc}
+use Rattle.std.proofs.Common.{◌≡◌, sym, subst, refl, ℕ, ◌+◌, List, [], ◌∷◌, ◌++◌, map, Option, Some, None, Result, Ok, Err, add-zero, add_assoc, append_assoc}
 use Rattle.std.specs.List.{AllByRecursion}
 use Rattle.gp_certificate.specs.declared.certificate.Certificate.{Certificate}
 use Rattle.gp_certificate.specs.Certificate.{RefutedMeans, Refutes}
@@ -20,7 +20,6 @@ use Rattle.gp_window.specs.declared.schedule.EventId.{EventId}
 use Rattle.gp_window.specs.WindowForm.{IsWindow, WindowForm}
 use Rattle.gp_workers.specs.declared.work.WorkAnswer.{WorkAnswer}
 use Rattle.gp_workers.specs.declared.work.WorkAnswer.TheVariants.{Model, Refuted, Spent}
-use Rattle.gp_workers.specs.Prefixes.{TakesPrefixes}
 use Rattle.gp_workers.specs.Work.{AnswerEach, IsSpentBy}
 use Rattle.gp_workers.specs.Work.{IsAnswerTo as IsWorkAnswer}
 use Rattle.gp_analysis.specs.Answered.{AnswersEach, AnswersListed, Evidence, IsAnswer, IsAnswerTo}
@@ -40,7 +39,6 @@ pub record CanAnswer {Subject Shown : Type 0} (question : QuestionForm Subject S
   pub fits : question.too_large window ≡ None
   pub refuted : RefutedMeans
   pub alone : SharesNothing
-  pub sharing : TakesPrefixes
 
 is_sound : (problem : Problem) (query : Query) (budget : ℕ) (workers : List WorkerRecord) (ticket : ℕ) (answer : WorkAnswer) → IsWorkAnswer problem query budget workers ticket answer → IsSound problem query answer
 is_sound problem query budget workers ticket (Model valuation) is = is

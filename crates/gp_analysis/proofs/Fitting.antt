@@ -23,13 +23,12 @@ use Rattle.gp_report.specs.declared.record.PropertyBodyOf.{PropertyBodyOf}
 use Rattle.gp_report.specs.declared.record.PropertyBodyOf.TheVariants as body
 use Rattle.gp_report.specs.declared.record.PropertyRecordOf.{PropertyRecordOf}
 use Rattle.gp_report.specs.declared.record.WindowBodyOf.TheVariants as recorded
-use Rattle.gp_report.specs.declared.record.WindowRecordOf.{WindowRecordOf}
-use Rattle.gp_report.specs.Report.{IsEntry, IsPropertyBody, IsPropertyRecord, IsPrintableAnswer, IsPrintableStep, IsWindowRecord}
+use Rattle.gp_report.specs.Report.{IsEntry, IsPropertyBody, IsPropertyRecord, IsPrintableAnswer, IsPrintableStep}
 use Rattle.gp_window.specs.declared.schedule.EventId.{EventId}
 use Rattle.gp_window.specs.WindowForm.{WindowForm}
 use Rattle.gp_workers.specs.declared.work.WindowWork.{WindowWork}
 use Rattle.gp_workers.specs.Record.{EachOnce}
-use Rattle.gp_workers.specs.Sharing.{AllShared}
+use Rattle.gp_workers.specs.Prefixes.{AreSharing}
 use Rattle.gp_workers.specs.Work.{IsWork}
 use Rattle.gp_clause.specs.declared.problem.Problem.{Problem}
 use Rattle.gp_analysis.specs.declared.question.TooLarge.{TooLarge}
@@ -126,7 +125,7 @@ module _ {Subject Shown : Type 0} (question : QuestionForm Subject Shown) (lists
 -- what is recorded of a window that is not too large, once all its subjects are answered
 pub is_recorded : {Subject Shown : Type 0} (question : QuestionForm Subject Shown) (lists : WindowForm → Subject → List EventId → Type 0) (window : WindowForm) → CanAnswer question lists window
     → (count budget number : ℕ) → count ≤ 16 → (problem : Problem) (queries : List Query) (work : WindowWork) (shared : List Step) (records : List (PropertyRecordOf Shown))
-    → number ≡ window.number → problem ≡ question.problem window → queries ≡ queries_from question window 0 question.subjects → IsWork problem queries count budget work → (2 ≤ count → AllShared problem count work) → shared ≡ []
+    → number ≡ window.number → problem ≡ question.problem window → queries ≡ queries_from question window 0 question.subjects → IsWork problem queries count budget work → (2 ≤ count → AreSharing problem count work.records) → shared ≡ []
     → AnswersSubjects question window (unshared budget work.records) 0 0 question.subjects records
     → RecordsWindow question count budget window (record { number = number; shared = shared; body = recorded.Answers records; records = work.records })
 is_recorded {Subject} {Shown} question lists window can count budget number most problem queries work shared records at same are is sharing none answers =
@@ -140,7 +139,7 @@ is_recorded {Subject} {Shown} question lists window can count budget number most
       counted = asked.workers;
       each = asked.records;
       once = subst (λ n. EachOnce n work.records) (queries_count question window 0 question.subjects) asked.once;
-      shared = λ two. can.sharing (question.problem window) count work (subst (λ (p : Problem). AllShared p count work) same (sharing two));
+      shared = λ two. subst (λ (p : Problem). AreSharing p count work.records) same (sharing two);
     }
 
     done : RecordsWindow question count budget window (record { number = number; shared = []; body = recorded.Answers records; records = work.records })

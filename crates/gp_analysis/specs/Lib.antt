@@ -6,4 +6,5 @@ pub mod Listed
 pub mod Recording
 pub mod Recorded
 pub mod Drawn
+pub mod Task
 pub mod Ahead

@@ -3,7 +3,6 @@ use Rattle.std.specs.Prelude.{◌≡◌, List, [], ◌∷◌, Option, Some, None
 use Rattle.gp_clause.specs.declared.problem.Problem.{Problem}
 use Rattle.gp_clause.specs.declared.problem.Query.{Query}
 use Rattle.gp_clause.specs.Valuation.{Meets}
-use Rattle.gp_instance.specs.declared.instance.Instance.{Instance}
 use Rattle.gp_report.specs.declared.record.AnswerOf.{AnswerOf}
 use Rattle.gp_report.specs.declared.record.AnswerOf.TheVariants.{Found, Impossible, Undecided}
 use Rattle.gp_report.specs.declared.record.EntryOf.{EntryOf}

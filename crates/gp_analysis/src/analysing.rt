@@ -91,7 +91,8 @@ fn recorded_run<R: Threads + Wait + Sync, G: Gate + Sync, Q: Question>(
     let mut records = Vec::new(alloc);
     let mut windows = Windows::from(alloc, recording, run.first, run.count)?;
     while let Some(window) = windows.next(alloc)? {
-        records.push(window_record(rt, alloc, window, task, Order::SideBySide)?)?;
+        let (own, _) = window_record(rt, alloc, window, task, Order::SideBySide)?;
+        records.push(own)?;
     }
     Ok(records)
 }

@@ -5,6 +5,7 @@ ghost use Rattle.gp_tickets.specs.Tickets.{IsSingle, IsUnused, hand_of};
 ghost use Rattle.gp_analysis.specs.Ahead.{AreAhead};
 ghost use Rattle.gp_analysis.specs.Drawn.{RecordsDrawn, RecordsOwn};
 ghost use Rattle.gp_analysis.specs.Recorded.{CanBeAnalysed, RecordsWindow};
+ghost use Rattle.gp_analysis.specs.Task.{IsOrder};
 
 use crate::question::Question;
 use crate::task::{Instructions, Order};
@@ -14,6 +15,7 @@ use gp_outside::Gate;
 use gp_report::WindowRecordOf;
 use gp_tickets::{Drawer, Drawn, Made, Tickets};
 use gp_window::Recording;
+use gp_workers::Post;
 use std::alloc::{AllocError, Global};
 use std::sync::Wait;
 use std::thread::Threads;
@@ -54,9 +56,11 @@ fn recorded_as_drawn<R: Threads + Wait + Sync, G: Gate + Sync, Q: Question>(
 {
     let mut made = Vec::new(alloc);
     let mut ahead = WindowsAhead::new(alloc, recording)?;
+    let mut order = Order::InTurn(Post::none(alloc));
     while let Some(number) = tickets.draw(drawer) {
         let k = window_number(recording, number);
-        let value = recorded_next(rt, alloc, recording, task, &mut ahead, k)?;
+        let (value, next) = recorded_next(rt, alloc, recording, task, &mut ahead, k, order)?;
+        order = next;
         made.push(Made { number, value })?;
     }
     Ok(made)
@@ -72,7 +76,7 @@ fn window_number(recording: &Recording, ticket: u64) -> u32
     ticket as u32 + 1
 }
 
-// What is recorded of window `k`.
+// What is recorded of window `k`, and the order for the next window.
 fn recorded_next<'a, R: Threads + Wait + Sync, G: Gate + Sync, Q: Question>(
     rt: &R,
     alloc: Global,
@@ -80,15 +84,18 @@ fn recorded_next<'a, R: Threads + Wait + Sync, G: Gate + Sync, Q: Question>(
     task: &Instructions<'_, Q, G>,
     ahead: &mut WindowsAhead<'a>,
     k: u32,
-) -> Result<WindowRecordOf<Q::Shown>, AllocError>
+    order: Order,
+) -> Result<(WindowRecordOf<Q::Shown>, Order), AllocError>
     requires can { CanBeAnalysed (Q.form task.now.question.now) recording.now task.now.workers task.now.budget }
     requires ahead { AreAhead recording.now ahead.old }
     requires k { (1 ≤ k) × (k ≤ recording.now.manifest.epochs) }
-    ensures ahead { IfOk result (λ own. AreAhead recording.now ahead.new) }
-    ensures records { IfOk result (RecordsWindow (Q.form task.now.question.now) task.now.workers task.now.budget (window_of recording.now k)) }
+    requires order { IsOrder task.now.workers order }
+    ensures ahead { IfOk result (λ made. AreAhead recording.now ahead.new) }
+    ensures records { IfOk result (λ made. RecordsWindow (Q.form task.now.question.now) task.now.workers task.now.budget (window_of recording.now k) made.0) }
+    ensures order { IfOk result (λ made. IsOrder task.now.workers made.1) }
 {
     let window = ahead.window(alloc, recording, k)?;
-    window_record(rt, alloc, window, task, Order::InTurn)
+    window_record(rt, alloc, window, task, order)
 }
 
 // All that was drawn of a recording for this task. One drawer takes in the others.

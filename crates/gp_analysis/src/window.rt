@@ -1,9 +1,10 @@
 ghost use Rattle.std.specs.Prelude.{◌≡◌, ◌*◌, ◌≤◌, All, IfOk, None};
 ghost use Rattle.gp_clause.specs.Edge.{IsSolvable};
 ghost use Rattle.gp_clause.specs.Problem.{IsValidProblem, IsValidQuery};
-ghost use Rattle.gp_workers.specs.Sharing.{AllShared};
+ghost use Rattle.gp_workers.specs.Prefixes.{AreSharing};
 ghost use Rattle.gp_workers.specs.Work.{CanBeAsked, IsWork};
 ghost use Rattle.gp_analysis.specs.Recorded.{CanBeAnswered, RecordsWindow};
+ghost use Rattle.gp_analysis.specs.Task.{IsOrder};
 
 use crate::entries::subject_record;
 use crate::left::Left;
@@ -21,27 +22,33 @@ use std::alloc::{AllocError, Global};
 use std::sync::Wait;
 use std::thread::Threads;
 
-// What is recorded of a window: its constraints are too large, or each of its asks is answered.
+// What is recorded of a window: its constraints are too large, or each of its asks is answered. Beside it comes the order for
+// the next window.
 pub(crate) fn window_record<R: Threads + Wait + Sync, G: Gate + Sync, Q: Question>(
     rt: &R,
     alloc: Global,
     window: Window,
     task: &Instructions<'_, Q, G>,
     order: Order,
-) -> Result<WindowRecordOf<Q::Shown>, AllocError>
+) -> Result<(WindowRecordOf<Q::Shown>, Order), AllocError>
     requires workers { (1 ≤ task.now.workers) × (task.now.workers ≤ 16) }
     requires can { CanBeAnswered (Q.form task.now.question.now) task.now.budget window }
-    ensures { IfOk result (RecordsWindow (Q.form task.now.question.now) task.now.workers task.now.budget window) }
+    requires order { IsOrder task.now.workers order }
+    ensures records { IfOk result (λ made. RecordsWindow (Q.form task.now.question.now) task.now.workers task.now.budget window made.0) }
+    ensures order { IfOk result (λ made. IsOrder task.now.workers made.1) }
 {
     let number = window.number();
     match task.question.encode(alloc, window) {
         Ok(encoded) => answered_record(rt, alloc, &encoded, task, order),
-        Err(EncodeFault::TooLarge(TooLarge { events, clauses })) => Ok(WindowRecordOf {
-            number,
-            shared: Row::new(alloc),
-            body: WindowBodyOf::TooLarge { events, clauses },
-            records: Row::new(alloc),
-        }),
+        Err(EncodeFault::TooLarge(TooLarge { events, clauses })) => {
+            let own = WindowRecordOf {
+                number,
+                shared: Row::new(alloc),
+                body: WindowBodyOf::TooLarge { events, clauses },
+                records: Row::new(alloc),
+            };
+            Ok((own, order))
+        }
         Err(EncodeFault::Memory) => Err(AllocError),
     }
 }
@@ -54,25 +61,27 @@ fn answered_record<R: Threads + Wait + Sync, G: Gate + Sync, Q: Question>(
     encoded: &Q::Encoded,
     task: &Instructions<'_, Q, G>,
     order: Order,
-) -> Result<WindowRecordOf<Q::Shown>, AllocError>
+) -> Result<(WindowRecordOf<Q::Shown>, Order), AllocError>
     requires fits { (Q.form task.now.question.now).too_large (Q.window_in encoded.now) ≡ None }
     requires workers { (1 ≤ task.now.workers) × (task.now.workers ≤ 16) }
     requires can { CanBeAnswered (Q.form task.now.question.now) task.now.budget (Q.window_in encoded.now) }
-    ensures { IfOk result (RecordsWindow (Q.form task.now.question.now) task.now.workers task.now.budget (Q.window_in encoded.now)) }
+    requires order { IsOrder task.now.workers order }
+    ensures records { IfOk result (λ made. RecordsWindow (Q.form task.now.question.now) task.now.workers task.now.budget (Q.window_in encoded.now) made.0) }
+    ensures order { IfOk result (λ made. IsOrder task.now.workers made.1) }
 {
     refuted_means();
     shares_nothing();
-    takes_prefixes();
     let question = task.question;
     question.laws();
     let number = question.window_of(encoded).number();
     let Listing { listed, queries } = listing_of(alloc, question, encoded)?;
     let problem = question.problem(encoded);
+    let (done, next) = work(rt, alloc, problem, queries.as_slice(), task, order)?;
     let WindowWork {
         answers,
         records,
         ..
-    } = work(rt, alloc, problem, queries.as_slice(), task, order)?;
+    } = done;
     let mut listed = Left::of(listed);
     let mut answers = Left::of(answers);
     let mut own = Row::new(alloc);
@@ -82,15 +91,16 @@ fn answered_record<R: Threads + Wait + Sync, G: Gate + Sync, Q: Question>(
         own.push(subject_record(alloc, question, encoded, subject, asked, &mut answers)?)?;
         left = more;
     }
-    Ok(WindowRecordOf {
+    let own = WindowRecordOf {
         number,
         shared: Row::new(alloc),
         body: WindowBodyOf::Answers(own),
         records,
-    })
+    };
+    Ok((own, next))
 }
 
-// What the workers answer to these queries.
+// What the workers answer to these queries, and the order for the next window.
 fn work<R: Threads + Wait + Sync, G: Gate + Sync, Q>(
     rt: &R,
     alloc: Global,
@@ -98,16 +108,27 @@ fn work<R: Threads + Wait + Sync, G: Gate + Sync, Q>(
     queries: &[Query],
     task: &Instructions<'_, Q, G>,
     order: Order,
-) -> Result<WindowWork, AllocError>
+) -> Result<(WindowWork, Order), AllocError>
     requires workers { (1 ≤ task.now.workers) × (task.now.workers ≤ 16) }
     requires asked { CanBeAsked problem.now queries.now task.now.budget }
-    ensures work { IfOk result (IsWork problem.now queries.now task.now.workers task.now.budget) }
-    ensures shared { 2 ≤ task.now.workers → IfOk result (AllShared problem.now task.now.workers) }
+    requires order { IsOrder task.now.workers order }
+    ensures work { IfOk result (λ made. IsWork problem.now queries.now task.now.workers task.now.budget made.0) }
+    ensures shared { IfOk result (λ made. 2 ≤ task.now.workers → AreSharing problem.now task.now.workers made.0.records) }
+    ensures order { IfOk result (λ made. IsOrder task.now.workers made.1) }
 {
+    takes_prefixes();
     let workers = task.workers;
     let budget = task.budget;
     match order {
-        Order::SideBySide => work_all(rt, alloc, problem, queries, workers, budget, task.gate),
-        Order::InTurn => work_in_turn(rt, alloc, problem, queries, workers, budget, task.gate),
+        Order::SideBySide => {
+            let done = work_all(rt, alloc, problem, queries, workers, budget, task.gate)?;
+            Ok((done, Order::SideBySide))
+        }
+        Order::InTurn(post) => {
+            let (done, post) = work_in_turn(
+                rt, alloc, problem, queries, workers, budget, task.gate, post,
+            )?;
+            Ok((done, Order::InTurn(post)))
+        }
     }
 }

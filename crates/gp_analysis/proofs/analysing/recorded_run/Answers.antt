@@ -21,7 +21,7 @@ loop-windows-preserved g c =
     let task = c.args.task.now in
     let first : c.loop-windows.windows ≡ c.in-Some.window ∷ c.next.new.self = subst (λ window. TakesFirst c.loop-windows.windows window c.next.new.self) c.in-Some.is c.in_ok-window.ensures in
     one_recorded (g.Q.Question.form task.question.now) task.workers task.budget (run_windows c.args.recording.now c.args.run) c.loop-windows.windows c.next.new.self c.in-Some.window c.loop-windows.records.items c.push.new.self.items
-    c.in_ok-window_record.field-0 first c.loop-windows.invariant c.in_ok-window_record.ensures c.in_ok-push.ensures.items
+    c.in_ok-own.own first c.loop-windows.invariant c.in_ok-own.ensures.records c.in_ok-push.ensures.items
 
 pub returns : goal.returns
 returns g c =

@@ -22,6 +22,7 @@ loop-number-preserved g c =
     (ap (λ (h : Hand). h.drawn) hands) c.in_ok-push.ensures.items in
     record {
       ahead = c.in_ok-value.ensures.ahead;
+      order = c.in_ok-value.ensures.order;
       single = still_single tickets old c.draw.new.drawer number single c.in-Some.ensures.drawer hands;
       numbers = next.0;
       records = next.1;

@@ -9,7 +9,7 @@ answered_record-requires-clause-can g c _ _ =
     let task = c.args.task.now in
     subst (CanBeAnswered (g.Q.Question.form task.question.now) task.budget) (sym c.in-Ok.ensures.window) c.requires.can
 
-pub returns-in-Ok : goal.returns-in-Ok
-returns-in-Ok g c =
+pub returns-in-Ok-clause-records : goal.returns-in-Ok-clause-records
+returns-in-Ok-clause-records g c =
     let task = c.args.task.now in
-    subst (λ (w : WindowForm). IfOk c.answered_record.result (RecordsWindow (g.Q.Question.form task.question.now) task.workers task.budget w)) c.in-Ok.ensures.window c.answered_record.ensures
+    subst (λ (w : WindowForm). IfOk c.answered_record.result (λ made. RecordsWindow (g.Q.Question.form task.question.now) task.workers task.budget w made.0)) c.in-Ok.ensures.window c.answered_record.ensures.records

@@ -18,7 +18,7 @@ use Rattle.gp_window.specs.Windows.{all_windows}
 use Rattle.gp_compact.specs.declared.moving.Sizes.{Sizes}
 use Rattle.gp_checker.specs.FrontLaws.{front_passes}
 use Rattle.gp_checker.specs.Accepted.{AcceptsBody, AcceptsProperty, AcceptsWindow}
-use Rattle.gp_compact.specs.Compact.{CompactKeepsAcceptance, IsSameWindow, are_few, body_by, compacted_over, compacted_window, compacted_windows, entries_in_body, over_list, property_by, sizes_of, steps_in, with_entries}
+use Rattle.gp_compact.specs.Compact.{CompactKeepsAcceptance, are_few, body_by, compacted_over, compacted_window, compacted_windows, entries_in_body, over_list, property_by, sizes_of, steps_in, with_entries}
 use Rattle.gp_compact.specs.Moving.{compacted_steps, first_own}
 use Rattle.gp_constraint.specs.EncodedLaws.{is_encoded, is_valid}
 use Rattle.gp_compact.proofs.Gathered.{begins_itself}
@@ -122,34 +122,5 @@ module _ (valid : ProblemsAreValid) (budget : ℕ) (properties : List PropertyFo
       let rest = windows_kept windows records in
       (λ h. (first.0 h.0, rest.0 h.1), λ h. (first.1 h.0, rest.1 h.1))
 
--- windows that are told alike are accepted alike
-same_window : (properties : List PropertyForm) (budget : ℕ) (window : WindowForm) (one other : WindowRecord) → IsSameWindow one other → AcceptsWindow properties budget window other ↔ AcceptsWindow properties budget window one
-same_window properties budget window one other same =
-    let P : List Step → WindowBody → Type 0 = λ shared body. AcceptsBody window budget properties shared (base_due window) body in (
-      λ h. subst (P one.shared) same.body (subst (λ (shared : List Step). P shared other.body) same.shared h),
-      λ h. subst (λ (shared : List Step). P shared other.body) (sym same.shared) (subst (P one.shared) (sym same.body) h),
-    )
-
-same_windows : (properties : List PropertyForm) (budget : ℕ) (windows : List WindowForm) (ones others : List WindowRecord) → AllZip IsSameWindow ones others
-    → AllZip (AcceptsWindow properties budget) windows others ↔ AllZip (AcceptsWindow properties budget) windows ones
-same_windows properties budget [] [] [] same = (λ h. h, λ h. h)
-same_windows properties budget [] [] (other ∷ others) same = absurd same
-same_windows properties budget [] (one ∷ ones) [] same = absurd same
-same_windows properties budget [] (one ∷ ones) (other ∷ others) same = (λ h. h, λ h. h)
-same_windows properties budget (window ∷ windows) [] [] same = (λ h. h, λ h. h)
-same_windows properties budget (window ∷ windows) [] (other ∷ others) same = absurd same
-same_windows properties budget (window ∷ windows) (one ∷ ones) [] same = absurd same
-same_windows properties budget (window ∷ windows) (one ∷ ones) (other ∷ others) same =
-    let first = same_window properties budget window one other same.0 in
-    let rest = same_windows properties budget windows ones others same.1 in
-    (λ h. (first.0 h.0, rest.0 h.1), λ h. (first.1 h.0, rest.1 h.1))
-
 pub keeps_acceptance : ProblemsAreValid → CompactKeepsAcceptance
-keeps_acceptance valid = record {
-  definition = λ recording properties report. windows_kept valid report.budget properties (all_windows recording) report.windows;
-  made = λ recording properties report made is.
-      let kept = windows_kept valid report.budget properties (all_windows recording) report.windows in
-      let alike = same_windows properties report.budget (all_windows recording) (compacted_windows (all_windows recording) report.windows) made.windows is.windows in
-      let P : ℕ → Type 0 = λ budget. AllZip (AcceptsWindow properties budget) (all_windows recording) made.windows in
-      (λ h. kept.0 (alike.0 (subst P is.budget h)), λ h. subst P (sym is.budget) (alike.1 (kept.1 h)));
-}
+keeps_acceptance valid = λ recording properties report. windows_kept valid report.budget properties (all_windows recording) report.windows

@@ -1,10 +1,10 @@
 -- The new numbers of own steps, listed one after the other.
-use Rattle.std.proofs.Common.{◌≡◌, refl, ap, sym, ◌∙◌, subst, ℕ, zero, suc, ◌+◌, ◌-◌, ◌<◌, ◌≤◌, ◌⊎◌, inl, inr, Bool, true, false, cond, nat_lt, List, [], ◌∷◌, ◌++◌, Option, Some, None, length, get_or, map, take, drop, All, unwrap_or, arith}
+use Rattle.std.proofs.Common.{◌≡◌, refl, ap, sym, ◌∙◌, subst, ℕ, ◌+◌, ◌-◌, ◌<◌, ◌≤◌, ◌⊎◌, inl, inr, Bool, true, false, cond, nat_lt, List, [], ◌∷◌, ◌++◌, Option, Some, None, length, get_or, map, take, drop, All, unwrap_or, append-nil, arith}
 use Rattle.std.specs.Prelude.{if◌then◌else◌, slice_index_or}
 use Rattle.std.specs.List.{count_by}
 use Rattle.std.specs.Option.{is_none, option_map_or}
 use Rattle.std.proofs.lemmas.Bool.{cases_lt}
-use Rattle.std.proofs.lemmas.List.{append_assoc, drop-drop, get_or_append_left, get_or_push, length-take, map-append}
+use Rattle.std.proofs.lemmas.List.{append_assoc, get_or_append_left, get_or_push, length-take, map-append}
 use Rattle.std.proofs.lemmas.List.Elements.{All-cons, All-head, All-nil, All-tail, All-weaker}
 use Rattle.std.proofs.lemmas.List.Sums.{sum_by_more}
 use Rattle.std.proofs.lemmas.Option.{slice_get-get_or}
@@ -16,7 +16,6 @@ use Rattle.gp_compact.proofs.Ends.{places_count}
 use Rattle.gp_compact.proofs.Found.{both}
 use Rattle.gp_compact.proofs.Gathered.{hints_below}
 use Rattle.gp_compact.proofs.Sized.{is_not_less}
-use Rattle.gp_compact.proofs.Walks.{cut}
 
 -- the first step stays or not, and then the others
 first_stays : (places : List (Option ℕ)) (step : Step) (rest : List Step) → staying places (step ∷ rest) ≡ staying (place_at places 0 ∷ []) (step ∷ []) ++ staying (drop 1 places) rest
@@ -24,32 +23,25 @@ first_stays [] step rest = refl
 first_stays (Some place ∷ places) step rest = refl
 first_stays (None ∷ places) step rest = refl
 
-place_ahead : (places : List (Option ℕ)) (i : ℕ) → place_at (drop i places) 0 ≡ place_at places i
-place_ahead places zero = refl
-place_ahead [] (suc i) = refl
-place_ahead (place ∷ places) (suc i) = place_ahead places i
-
--- one step more stays or not
-pub stay_more : (places : List (Option ℕ)) (steps : List Step) (step : Step) (i : ℕ) → i < length steps → step ≡ get_or steps i step
-    → staying (drop i places) (drop i steps) ≡ staying (place_at places i ∷ []) (step ∷ []) ++ staying (drop (i + 1) places) (drop (i + 1) steps)
-stay_more places steps step i within is =
-    let rest = drop (i + 1) steps in
-    ap (staying (drop i places)) (cut steps step i within is)
-    ∙ first_stays (drop i places) step rest
-    ∙ ap (λ (place : Option ℕ). staying (place ∷ []) (step ∷ []) ++ staying (drop 1 (drop i places)) rest) (place_ahead places i)
-    ∙ ap (λ (ps : List (Option ℕ)). staying (place_at places i ∷ []) (step ∷ []) ++ staying ps rest) (drop-drop 1 i places)
-
 -- so many steps were gone through
-pub kept_more : (f : Step → Step) (places : List (Option ℕ)) (steps : List Step) (step : Step) (i : ℕ) (made next whole : List Step) (place : Option ℕ) → i < length steps → step ≡ get_or steps i step
-    → place ≡ place_at places i → next ≡ made ++ map f (staying (place ∷ []) (step ∷ [])) → made ++ map f (staying (drop i places) (drop i steps)) ≡ whole
-    → next ++ map f (staying (drop (i + 1) places) (drop (i + 1) steps)) ≡ whole
-kept_more f places steps step i made next whole place within is at adds all =
-    let here = staying (place_at places i ∷ []) (step ∷ []) in
-    let rest = staying (drop (i + 1) places) (drop (i + 1) steps) in
-    ap (λ (xs : List Step). xs ++ map f rest) (adds ∙ ap (λ (o : Option ℕ). made ++ map f (staying (o ∷ []) (step ∷ []))) at)
-    ∙ append_assoc made (map f here) (map f rest)
-    ∙ ap (λ (xs : List Step). made ++ xs) (sym (map-append f here rest) ∙ sym (ap (map f) (stay_more places steps step i within is)))
+pub kept_more : (f : Step → Step) (places later : List (Option ℕ)) (left rest : List Step) (step : Step) (made next whole : List Step) (place : Option ℕ) → left ≡ step ∷ rest
+    → place ≡ place_at places 0 → later ≡ drop 1 places → next ≡ made ++ map f (staying (place ∷ []) (step ∷ [])) → made ++ map f (staying places left) ≡ whole
+    → next ++ map f (staying later rest) ≡ whole
+kept_more f places later left rest step made next whole place is at passed adds all =
+    let here = staying (place_at places 0 ∷ []) (step ∷ []) in
+    (λ i. (adds ∙ ap (λ (o : Option ℕ). made ++ map f (staying (o ∷ []) (step ∷ []))) at) i ++ map f (staying (passed i) rest))
+    ∙ append_assoc made (map f here) (map f (staying (drop 1 places) rest))
+    ∙ ap (λ (xs : List Step). made ++ xs) (sym (map-append f here (staying (drop 1 places) rest)) ∙ sym (ap (map f) (ap (staying places) is ∙ first_stays places step rest)))
     ∙ all
+
+stays_none : (places : List (Option ℕ)) → staying places [] ≡ []
+stays_none [] = refl
+stays_none (place ∷ places) = refl
+
+-- until all were
+pub all_kept : (f : Step → Step) (places : List (Option ℕ)) (left made whole : List Step) → left ≡ [] → made ++ map f (staying places left) ≡ whole → made ≡ whole
+all_kept f places left made whole none all =
+    sym (append-nil made) ∙ ap (λ (xs : List Step). made ++ map f xs) (sym (ap (staying places) none ∙ stays_none places)) ∙ all
 
 -- the hints of steps that may move are below the number of the last
 pub movable_hints : (number bound : ℕ) (steps : List Step) → are_movable number steps ≡ true → number + length steps ≤ bound + 1 → All (λ (step : Step). All (λ hint. hint < bound) step.hints) steps
@@ -59,15 +51,6 @@ movable_hints number bound (step ∷ steps) movable most =
     All-cons (λ (s : Step). All (λ hint. hint < bound) s.hints) step steps
     (All-weaker (λ hint. hint < number) (λ hint. hint < bound) (λ hint below. omega (arith, below, most)) step.hints (hints_below number step parts.0))
     (movable_hints (number + 1) bound steps parts.1 (omega (arith, most)))
-
--- and those of the next step, where so many were gone through
-pub next_movable : (number i : ℕ) (steps : List Step) (step : Step) → i < length steps → step ≡ get_or steps i step → are_movable (number + i) (drop i steps) ≡ true
-    → (rests_on_earlier (number + i) step ≡ true) × (are_movable (number + (i + 1)) (drop (i + 1) steps) ≡ true)
-next_movable number i steps step within is movable =
-    let here : are_movable (number + i) (step ∷ drop (i + 1) steps) ≡ true = ap (are_movable (number + i)) (sym (cut steps step i within is)) ∙ movable in
-    let parts = both (rests_on_earlier (number + i) step) (are_movable (number + i + 1) (drop (i + 1) steps)) here in
-    let next : number + i + 1 ≡ number + (i + 1) = omega arith in
-    (parts.0, subst (λ (n : ℕ). are_movable n (drop (i + 1) steps) ≡ true) next parts.1)
 
 pub staying_all : (P : Step → Type 0) (places : List (Option ℕ)) (steps : List Step) → All P steps → All P (staying places steps)
 staying_all P [] steps all = all

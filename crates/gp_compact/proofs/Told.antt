@@ -1,7 +1,7 @@
 -- A text can tell what a report becomes.
-use Rattle.std.proofs.Common.{◌≡◌, refl, ap, sym, ◌∙◌, subst, inr, ℕ, ◌-◌, Bool, true, false, List, [], ◌∷◌, ◌++◌, Option, Result, Ok, Err, length, map, drop, All, arith}
+use Rattle.std.proofs.Common.{◌≡◌, refl, ap, sym, ◌∙◌, inr, ℕ, ◌-◌, Bool, true, false, List, [], ◌∷◌, ◌++◌, Option, Result, Ok, Err, length, map, drop, All, arith}
 use Rattle.std.specs.Prelude.{if◌then◌else◌}
-use Rattle.std.specs.List.{AllZip, list_any}
+use Rattle.std.specs.List.{list_any}
 use Rattle.std.proofs.lemmas.List.{length-map}
 use Rattle.std.proofs.lemmas.List.Elements.{All-append, All-cons, All-head, All-map, All-nil, All-push, All-tail, All-take, All-weaker}
 use Rattle.gp_constraint.specs.declared.fault.BaseFault.{BaseFault}
@@ -19,7 +19,7 @@ use Rattle.gp_window.specs.RecordingForm.{RecordingForm}
 use Rattle.gp_window.specs.WindowForm.{WindowForm, numbers_from}
 use Rattle.gp_window.specs.Windows.{all_windows}
 use Rattle.gp_compact.specs.declared.moving.Sizes.{Sizes}
-use Rattle.gp_compact.specs.Compact.{IsSameWindow, answer_by, are_few, body_by, compacted_by, compacted_next, compacted_over, compacted_window, compacted_windows, entries_by, entries_in_body, entry_by, over_list, own_steps, property_by, sizes_of, with_entries}
+use Rattle.gp_compact.specs.Compact.{answer_by, are_few, body_by, compacted, compacted_by, compacted_next, compacted_over, compacted_window, compacted_windows, entries_by, entries_in_body, entry_by, over_list, own_steps, property_by, sizes_of, with_entries}
 use Rattle.gp_compact.specs.Moving.{are_movable, compacted_steps, first_own, front_of, moved_step, moves, new_number, place_of, places_of, raised, staying, step_eq, with_certificate, with_moved, with_step, with_steps}
 use Rattle.gp_compact.proofs.NewNumbers.{staying_all}
 
@@ -172,38 +172,17 @@ windows_numbers : (windows : List WindowForm) (records : List WindowRecord) → 
 windows_numbers windows [] = refl
 windows_numbers windows (one ∷ records) = λ i. next_number windows one i ∷ windows_numbers (drop 1 windows) records i
 
--- windows that are told alike have the same numbers, and can be told alike
-same_numbers : (ones others : List WindowRecord) → AllZip IsSameWindow ones others → map number_in others ≡ map number_in ones
-same_numbers [] [] same = refl
-same_numbers [] (other ∷ others) same = absurd same
-same_numbers (one ∷ ones) [] same = absurd same
-same_numbers (one ∷ ones) (other ∷ others) same = λ i. same.0.number i ∷ same_numbers ones others same.1 i
-
-same_told : (ones others : List WindowRecord) → AllZip IsSameWindow ones others → All (IsWindowRecord 2) ones → All (IsWindowRecord 2) others
-same_told [] [] same told = told
-same_told [] (other ∷ others) same told = absurd same
-same_told (one ∷ ones) [] same told = absurd same
-same_told (one ∷ ones) (other ∷ others) same told =
-    let is = All-head (IsWindowRecord 2) one ones told in
-    All-cons (IsWindowRecord 2) other others
-    (record {
-      shared = subst (All IsPrintableStep) (sym same.0.shared) is.shared;
-      first_format = λ wrong. absurd (omega (arith, wrong));
-      body = subst (λ (shared : List Step). IsWindowBody shared other.body) (sym same.0.shared) (subst (IsWindowBody one.shared) (sym same.0.body) is.body);
-    })
-    (same_told ones others same.1 (All-tail (IsWindowRecord 2) one ones told))
-
 -- the report that is made can be told
-pub report_told : (recording : RecordingForm) (report : ReportForm) (made : List WindowRecord) → IsReport report → AllZip IsSameWindow (compacted_windows (all_windows recording) report.windows) made
-    → IsReport (record { format = 2; budget = report.budget; windows = made })
-report_told recording report made is same =
-    let all = compacted_windows (all_windows recording) report.windows in
-    let numbers : map number_in made ≡ map number_in report.windows = same_numbers all made same ∙ windows_numbers (all_windows recording) report.windows in
-    let count : length report.windows ≡ length made = sym (length-map report.windows number_in) ∙ sym (ap length numbers) ∙ length-map made number_in in
+pub report_told : (recording : RecordingForm) (report : ReportForm) → IsReport report → IsReport (compacted recording report)
+report_told recording report is =
+    let made = compacted_windows (all_windows recording) report.windows in
+    let numbers = windows_numbers (all_windows recording) report.windows in
+    let count : length report.windows ≡ length (compacted_windows (all_windows recording) report.windows) =
+    sym (length-map report.windows number_in) ∙ sym (ap length numbers) ∙ length-map made number_in in
     record {
       format = inr refl;
       budget_some = is.budget_some;
       budget_few = is.budget_few;
       numbered = numbers ∙ is.numbered ∙ ap (numbers_from 1) count;
-      windows = same_told all made same (windows_told report.format (all_windows recording) report.windows is.windows);
+      windows = windows_told report.format (all_windows recording) report.windows is.windows;
     }

@@ -1,18 +1,14 @@
 -- How far a window's certificates are gone through.
 use Rattle.std.proofs.Common.{◌≡◌, refl, ap, sym, ◌∙◌, subst, ℕ, ◌+◌, ◌^◌, ◌<◌, ◌≤◌, ◌⊎◌, inl, inr, List, [], ◌∷◌, ◌++◌, Option, Some, None, length, get_or, drop, unwrap_or, arith}
-use Rattle.std.specs.List.{sum_by}
 use Rattle.std.proofs.lemmas.Bool.{cases_lt}
 use Rattle.std.proofs.lemmas.List.{drop_more, length-append, length-drop}
-use Rattle.std.proofs.lemmas.List.Sums.{fold-append, get_or-le-sum_by, sum_by-append, sum_by-cons}
+use Rattle.std.proofs.lemmas.List.Sums.{fold-append, sum_by-append, sum_by-cons}
 use Rattle.gp_certificate.specs.declared.step.Step.{Step}
 use Rattle.gp_report.specs.Records.{Entry, PropertyRecord}
 use Rattle.gp_report.specs.Entries.{entries_among, entries_in}
 use Rattle.gp_compact.specs.declared.moving.Sizes.{Sizes}
-use Rattle.gp_compact.specs.declared.rewriting.Rewriting.{Rewriting}
-use Rattle.gp_compact.specs.declared.rewriting.Rewriting.TheVariants.{Kept, Over}
 use Rattle.gp_compact.specs.Compact.{own_steps, steps_in, with_entries}
 use Rattle.gp_compact.specs.Moving.{PlacesFit, place_at, place_of, places_after, with_certificate, with_moved, with_steps}
-use Rattle.gp_compact.specs.Rewriting.{RoomFor}
 use Rattle.gp_compact.proofs.Found.{placed_there}
 use Rattle.gp_compact.proofs.Gathered.{place_before, place_last, place_past}
 use Rattle.gp_compact.proofs.Grown.{certificate_adds, entries_add, moved_adds, own_count}
@@ -20,6 +16,11 @@ use Rattle.gp_compact.proofs.Grown.{certificate_adds, entries_add, moved_adds, o
 -- a list from a place on begins with the element there
 pub cut : {X : Type 0} (xs : List X) (x : X) (i : ℕ) → i < length xs → x ≡ get_or xs i x → drop i xs ≡ x ∷ drop (i + 1) xs
 cut xs x i within is = drop_more xs i x within ∙ ap (λ y. y ∷ drop (i + 1) xs) (sym is)
+
+-- a list without elements
+pub none_left : {X : Type 0} (xs : List X) → length xs ≡ 0 → xs ≡ []
+none_left [] none = refl
+none_left (x ∷ xs) none = absurd (omega (arith, none))
 
 -- the entries of two lists, one after the other
 pub entries_parted : (sizes : Sizes) (list : List Step) (entries more : List Entry) → with_entries sizes list (entries ++ more) ≡ with_entries sizes (with_entries sizes list entries) more
@@ -42,11 +43,7 @@ module _ (sizes : Sizes) (list : List Step) where
   property_steps properties property i within is =
       ap (λ (ps : List PropertyRecord). steps_in (entries_among ps)) (cut properties property i within is) ∙ steps_parted (entries_in property.body) (entries_among (drop (i + 1) properties))
 
-  -- there is room for it, and for what follows
-  pub property_room : (properties : List PropertyRecord) (property : PropertyRecord) (i : ℕ) → i < length properties → property ≡ get_or properties i property
-      → sizes.clauses + length list + steps_in (entries_among (drop i properties)) < 2 ^ 31 → sizes.clauses + length list + steps_in (entries_in property.body) < 2 ^ 31
-  property_room properties property i within is room = omega (arith, room, property_steps properties property i within is)
-
+  -- there is room for what follows
   pub property_left : (properties : List PropertyRecord) (property : PropertyRecord) (i : ℕ) (next : List Step) → i < length properties → property ≡ get_or properties i property
       → next ≡ with_entries sizes list (entries_in property.body) → sizes.clauses + length list + steps_in (entries_among (drop i properties)) < 2 ^ 31
       → sizes.clauses + length next + steps_in (entries_among (drop (i + 1) properties)) < 2 ^ 31
@@ -62,10 +59,6 @@ module _ (sizes : Sizes) (list : List Step) where
 
   entry_steps : (entries : List Entry) (entry : Entry) (i : ℕ) → i < length entries → entry ≡ get_or entries i entry → steps_in (drop i entries) ≡ length (own_steps entry.answer) + steps_in (drop (i + 1) entries)
   entry_steps entries entry i within is = ap steps_in (cut entries entry i within is) ∙ sum_by-cons own_count entry (drop (i + 1) entries)
-
-  pub entry_room : (entries : List Entry) (entry : Entry) (i : ℕ) → i < length entries → entry ≡ get_or entries i entry → sizes.clauses + length list + steps_in (drop i entries) < 2 ^ 31
-      → sizes.clauses + length list + length (own_steps entry.answer) < 2 ^ 31
-  entry_room entries entry i within is room = omega (arith, room, entry_steps entries entry i within is)
 
   pub entry_left : (entries : List Entry) (entry : Entry) (i : ℕ) (next : List Step) → i < length entries → entry ≡ get_or entries i entry → next ≡ with_certificate sizes list (own_steps entry.answer)
       → sizes.clauses + length list + steps_in (drop i entries) < 2 ^ 31 → sizes.clauses + length next + steps_in (drop (i + 1) entries) < 2 ^ 31
@@ -115,26 +108,3 @@ fit_more sizes list places place step fit at room = λ own. by own (cases_lt own
             let same : length places ≡ own = omega (arith, after, within) in
             subst (λ (n : ℕ). sizes.clauses + unwrap_or (place_at (places ++ place ∷ []) n) 0 < 2 ^ 32) same
             (subst (λ (o : Option ℕ). sizes.clauses + unwrap_or o 0 < 2 ^ 32) (sym (place_last places place)) (here place refl))
-
--- room for more is room for fewer
-pub room_less : (rewriting : Rewriting) (more fewer : ℕ) → fewer ≤ more → RoomFor rewriting more → RoomFor rewriting fewer
-room_less (Over sizes list) more fewer less room = (omega (arith, less, room.0), room.1)
-room_less Kept more fewer less room = tt
-
--- the steps of one entry or of one property are no more than all
-pub entry_among : (entries : List Entry) (entry : Entry) (i : ℕ) → i < length entries → entry ≡ get_or entries i entry → length (own_steps entry.answer) ≤ steps_in entries
-entry_among entries entry i within is =
-    let most : own_count (get_or entries i entry) ≤ steps_in entries = get_or-le-sum_by own_count entries i entry within in subst (λ (e : Entry). length (own_steps e.answer) ≤ steps_in entries) (sym is) most
-
-each_property : (properties : List PropertyRecord) → steps_in (entries_among properties) ≡ sum_by (λ (property : PropertyRecord). steps_in (entries_in property.body)) properties
-each_property [] = refl
-each_property (property ∷ properties) =
-    steps_parted (entries_in property.body) (entries_among properties) ∙ ap (λ (n : ℕ). steps_in (entries_in property.body) + n) (each_property properties)
-    ∙ sym (sum_by-cons (λ (p : PropertyRecord). steps_in (entries_in p.body)) property properties)
-
-pub property_among : (properties : List PropertyRecord) (property : PropertyRecord) (i : ℕ) → i < length properties → property ≡ get_or properties i property → steps_in (entries_in property.body) ≤ steps_in (entries_among properties)
-property_among properties property i within is =
-    let count = λ (p : PropertyRecord). steps_in (entries_in p.body) in
-    let most : count (get_or properties i property) ≤ sum_by (λ (p : PropertyRecord). steps_in (entries_in p.body)) properties = get_or-le-sum_by (λ (p : PropertyRecord). steps_in (entries_in p.body)) properties i property within in
-    let same : steps_in (entries_in property.body) ≡ steps_in (entries_in (get_or properties i property).body) = ap (λ (p : PropertyRecord). steps_in (entries_in p.body)) is in
-    omega (arith, most, same, each_property properties)

@@ -1,6 +1,5 @@
 -- The report in which those steps of a window's certificates that rest on its base alone stand once, in its shared list.
 use Rattle.std.specs.Prelude.{ℕ, ◌≡◌, ◌+◌, ◌^◌, ◌↔◌, Bool, List, [], ◌∷◌, Result, Ok, Err, if◌then◌else◌, drop, fold, length, map, nat_lt, sum_by}
-use Rattle.std.specs.List.{AllZip}
 use Rattle.gp_constraint.specs.declared.fault.BaseFault.{BaseFault}
 use Rattle.gp_constraint.specs.Encoded.{base_due}
 use Rattle.gp_certificate.specs.declared.step.Step.{Step}
@@ -18,7 +17,6 @@ use Rattle.gp_window.specs.Windows.{all_windows}
 use Rattle.gp_compact.specs.declared.moving.Sizes.{Sizes}
 use Rattle.gp_checker.specs.Accepted.{IsAccepted}
 use Rattle.gp_compact.specs.Moving.{compacted_steps, first_own, with_certificate}
-use Rattle.gp_compact.specs.SameRecords.{IsSameWorker}
 
 -- the steps of an answer's certificate
 abbrev pub own_steps : Answer → List Step
@@ -111,22 +109,11 @@ compacted recording report = record {
   windows = compacted_windows (all_windows recording) report.windows;
 }
 
--- two windows are told alike, and their workers did the same
-pub record IsSameWindow (one other : WindowRecord) : Type 0 where
-  pub number : other.number ≡ one.number
-  pub shared : other.shared ≡ one.shared
-  pub body : other.body ≡ one.body
-  pub records : AllZip IsSameWorker one.records other.records
-
 -- a report is the compacted one
-pub record IsCompacted (recording : RecordingForm) (report made : ReportForm) : Type 0 where
-  pub format : made.format ≡ (compacted recording report).format
-  pub budget : made.budget ≡ (compacted recording report).budget
-  pub windows : AllZip IsSameWindow (compacted recording report).windows made.windows
+abbrev pub IsCompacted : RecordingForm → ReportForm → ReportForm → Type 0
+IsCompacted recording report made = made ≡ compacted recording report
 
 -- a compacted report is accepted exactly where the report is of which it was made
-pub record CompactKeepsAcceptance : Type 0 where
-  pub definition : (recording : RecordingForm) (properties : List PropertyForm) (report : ReportForm)
-      → IsAccepted recording properties (compacted recording report) ↔ IsAccepted recording properties report
-  pub made : (recording : RecordingForm) (properties : List PropertyForm) (report made : ReportForm) → IsCompacted recording report made
-      → IsAccepted recording properties made ↔ IsAccepted recording properties report
+abbrev pub CompactKeepsAcceptance : Type 0
+CompactKeepsAcceptance =
+    (recording : RecordingForm) (properties : List PropertyForm) (report : ReportForm) → IsAccepted recording properties (compacted recording report) ↔ IsAccepted recording properties report

@@ -1,5 +1,3 @@
 pub mod Compact
 pub mod Keys
 pub mod Moving
-pub mod Rewriting
-pub mod SameRecords

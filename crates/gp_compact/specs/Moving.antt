@@ -1,5 +1,5 @@
 -- Which steps of a certificate move into the shared list of its window, and what numbers the hints get by that.
-use Rattle.std.specs.Prelude.{ℕ, ◌+◌, ◌-◌, ◌^◌, ◌<◌, ◌==◌, Bool, true, not, ◌&&◌, ◌||◌, List, [], ◌∷◌, ◌++◌, Option, Some, None, if◌then◌else◌, count_by, fold, is_none, is_some, length, map, nat_eq, nat_lt, position, slice_get, slice_index_or, take, unwrap_or}
+use Rattle.std.specs.Prelude.{ℕ, ◌+◌, ◌-◌, ◌^◌, ◌<◌, ◌≤◌, ◌==◌, Bool, true, not, ◌&&◌, ◌||◌, List, [], ◌∷◌, ◌++◌, Option, Some, None, if◌then◌else◌, count_by, fold, is_none, is_some, length, map, nat_eq, nat_lt, position, slice_get, slice_index_or, take, unwrap_or}
 use Rattle.std.specs.Cmp.Lexicographic.{pointwise}
 use Rattle.std.specs.List.{list_all, list_any}
 use Rattle.std.specs.Option.{option_map_or}
@@ -117,3 +117,8 @@ compacted_steps sizes shared steps =
 -- the numbers of the places to which steps moved fit
 abbrev pub PlacesFit : Sizes → List (Option ℕ) → Type 0
 PlacesFit sizes places = (own : ℕ) → sizes.clauses + unwrap_or (place_at places own) 0 < 2 ^ 32
+
+-- certificates of so many steps over this list can be numbered, and the list is no shorter than the shared steps were
+pub record RoomFor (sizes : Sizes) (list : List Step) (count : ℕ) : Type 0 where
+  pub few : sizes.clauses + length list + count < 2 ^ 32
+  pub more : sizes.shared ≤ length list

@@ -1,15 +1,11 @@
 ghost use Rattle.std.specs.Prelude.{◌≡◌, ◌+◌, if◌then◌else◌, true, IfOk, None, Some, drop, length, min};
-ghost use Rattle.std.specs.List.{AllZip};
-ghost use Rattle.gp_report.specs.Records.{WindowRecord};
 ghost use Rattle.gp_window.specs.Windows.{all_windows};
-ghost use Rattle.gp_compact.specs.Compact.{CompactKeepsAcceptance, IsCompacted, IsSameWindow, are_few, compacted_by, compacted_next, compacted_windows, compacted_window, entries_in_body, own_steps, sizes_of, steps_in};
+ghost use Rattle.gp_compact.specs.Compact.{CompactKeepsAcceptance, IsCompacted, are_few, compacted_by, compacted_next, compacted_windows, compacted_window, entries_in_body, own_steps, sizes_of, steps_in};
 
-use crate::copying::{copy_steps, copy_workers};
 use crate::moving::Sizes;
-use crate::rewriting::{Rewriting, rewrite_body};
+use crate::rewriting::rewrite_body;
 use crate::sharing::share;
 use gp_base::Row;
-use gp_certificate::Step;
 use gp_constraint::{BaseFault, Encoded, base, problems_are_valid};
 use gp_report::{Answer, Entry, Report, WindowBody, WindowRecord};
 use gp_window::{Recording, Window, Windows};
@@ -20,11 +16,12 @@ const MOST_STEPS: u64 = 2_147_483_648;
 
 /// The report in format 2, where each step of a certificate that rests on the base of its window alone stands in the
 /// shared steps of the window, once for all certificates that use it.
-pub fn compact(alloc: Global, recording: &Recording, report: &Report) -> Result<Report, AllocError>
-    ensures { IfOk result (IsCompacted recording.now report.now) }
+pub fn compact(alloc: Global, recording: &Recording, report: Report) -> Result<Report, AllocError>
+    ensures { IfOk result (IsCompacted recording.now report) }
 {
-    let windows = compact_windows(alloc, recording, report.windows())?;
-    Ok(Report::new(2, report.budget(), windows))
+    let budget = report.budget();
+    let windows = compact_windows(alloc, recording, report.into_windows())?;
+    Ok(Report::new(2, budget, windows))
 }
 
 /// A law: a compacted report is accepted exactly where the report is of which it was made.
@@ -37,43 +34,43 @@ pub fn compact_keeps_acceptance()
 fn compact_windows(
     alloc: Global,
     recording: &Recording,
-    records: &[WindowRecord],
+    records: Row<WindowRecord>,
 ) -> Result<Row<WindowRecord>, AllocError>
-    ensures { IfOk result (AllZip IsSameWindow (compacted_windows (all_windows recording.now) records.now)) }
+    ensures { IfOk result (λ made. made ≡ compacted_windows (all_windows recording.now) records) }
 {
     let mut made = Vec::new(alloc);
     let mut windows = Windows::new(alloc, recording)?;
-    for told in records {
+    for told in records.into_vec() {
         made.push(compact_next(alloc, &mut windows, told)?)?;
     }
     Ok(Row::from_vec(made))
 }
 
-// The record of the next window; one over the epochs is copied.
+// The record of the next window; one over the epochs stays as it is.
 fn compact_next(
     alloc: Global,
     windows: &mut Windows,
-    told: &WindowRecord,
+    told: WindowRecord,
 ) -> Result<WindowRecord, AllocError>
-    ensures made { IfOk result (IsSameWindow (compacted_next windows.old told.now)) }
+    ensures made { IfOk result (λ made. made ≡ compacted_next windows.old told) }
     ensures left { IfOk result (λ made. windows.new ≡ drop 1 windows.old) }
 {
     match windows.next(alloc)? {
         Some(window) => compact_window(alloc, window, told),
-        None => copy_window(alloc, told),
+        None => Ok(told),
     }
 }
 
 fn compact_window(
     alloc: Global,
     window: Window,
-    told: &WindowRecord,
+    told: WindowRecord,
 ) -> Result<WindowRecord, AllocError>
-    ensures { IfOk result (IsSameWindow (compacted_window window told.now)) }
+    ensures { IfOk result (λ made. made ≡ compacted_window window told) }
 {
     match base(alloc, window) {
         Ok(encoded) => compact_encoded(alloc, &encoded, told),
-        Err(BaseFault::TooLarge { .. }) => copy_window(alloc, told),
+        Err(BaseFault::TooLarge { .. }) => Ok(told),
         Err(BaseFault::Memory) => Err(AllocError),
     }
 }
@@ -82,13 +79,13 @@ fn compact_window(
 fn compact_encoded(
     alloc: Global,
     encoded: &Encoded,
-    told: &WindowRecord,
+    told: WindowRecord,
 ) -> Result<WindowRecord, AllocError>
-    ensures { IfOk result (IsSameWindow (compacted_by (sizes_of encoded.now told.now.shared) told.now)) }
+    ensures { IfOk result (λ made. made ≡ compacted_by (sizes_of encoded.now told.shared) told) }
 {
-    match sizes_of(encoded, told) {
+    match sizes_of(encoded, &told) {
         Some(sizes) => compact_by(alloc, sizes, told),
-        None => copy_window(alloc, told),
+        None => Ok(told),
     }
 }
 
@@ -142,38 +139,23 @@ fn count_own(answer: &Answer) -> usize
     }
 }
 
-fn compact_by(alloc: Global, sizes: Sizes, told: &WindowRecord) -> Result<WindowRecord, AllocError>
-    requires few { are_few sizes told.now.body ≡ true }
-    requires shared { sizes.shared ≡ length told.now.shared }
-    ensures { IfOk result (IsSameWindow (compacted_by sizes told.now)) }
+fn compact_by(alloc: Global, sizes: Sizes, told: WindowRecord) -> Result<WindowRecord, AllocError>
+    requires few { are_few sizes told.body ≡ true }
+    requires shared { sizes.shared ≡ length told.shared }
+    ensures { IfOk result (λ made. made ≡ compacted_by sizes told) }
 {
-    let list = share(alloc, sizes, told.shared.as_slice(), &told.body)?;
-    let over = Rewriting::Over { sizes, list: &list };
-    let body = rewrite_body(alloc, &over, &told.body)?;
-    with_body(alloc, list.into_vec(), body, told)
-}
-
-fn copy_window(alloc: Global, told: &WindowRecord) -> Result<WindowRecord, AllocError>
-    ensures { IfOk result (IsSameWindow told.now) }
-{
-    let shared = copy_steps(alloc, told.shared.as_slice())?;
-    let body = rewrite_body(alloc, &Rewriting::Kept, &told.body)?;
-    with_body(alloc, shared, body, told)
-}
-
-// A window with these shared steps and answers.
-fn with_body(
-    alloc: Global,
-    shared: Vec<Step>,
-    body: WindowBody,
-    told: &WindowRecord,
-) -> Result<WindowRecord, AllocError>
-    ensures { IfOk result (IsSameWindow (record { number = told.now.number; shared = shared.items; body = body; records = told.now.records })) }
-{
-    Ok(WindowRecord {
-        number: told.number,
-        shared: Row::from_vec(shared),
+    let WindowRecord {
+        number,
+        shared,
         body,
-        records: copy_workers(alloc, told.records.as_slice())?,
+        records,
+    } = told;
+    let list = share(alloc, sizes, shared, &body)?;
+    let body = rewrite_body(alloc, sizes, &list, body)?;
+    Ok(WindowRecord {
+        number,
+        shared: Row::from_vec(list.into_vec()),
+        body,
+        records,
     })
 }

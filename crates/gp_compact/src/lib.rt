@@ -6,7 +6,6 @@
 #![tactic(auto)]
 
 mod compacting;
-mod copying;
 mod moving;
 mod renumbering;
 mod rewriting;

@@ -80,7 +80,7 @@ fn names_shared(sizes: Sizes, places: &[Option<u32>], hint: u32) -> bool
 }
 
 // The place to which an own step moved.
-pub(crate) fn place_at(places: &[Option<u32>], own: usize) -> Option<u32>
+fn place_at(places: &[Option<u32>], own: usize) -> Option<u32>
     ensures { result ≡ place_at places.now own }
 {
     match places.get(own) {

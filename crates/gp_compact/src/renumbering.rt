@@ -1,9 +1,9 @@
-ghost use Rattle.std.specs.Prelude.{◌≡◌, ◌+◌, ◌<◌, ◌≤◌, ◌^◌, [], ◌∷◌, ◌++◌, if◌then◌else◌, ℕ, true, IfOk, OnOk, All, is_none, length, map, slice_index_or, unwrap_or};
+ghost use Rattle.std.specs.Prelude.{◌≡◌, ◌+◌, ◌<◌, ◌≤◌, ◌^◌, [], ◌∷◌, ◌++◌, if◌then◌else◌, ℕ, true, IfOk, OnOk, All, drop, is_none, length, map, slice_index_or, unwrap_or};
 ghost use Rattle.std.specs.Option.{option_map_or};
 ghost use Rattle.gp_derivation.specs.Numbering.{with_hints};
-ghost use Rattle.gp_compact.specs.Moving.{PlacesFit, are_movable, by_numbers, compacted_steps, first_own, new_number, own_number, place_of, places_of, raised, staying};
+ghost use Rattle.gp_compact.specs.Moving.{PlacesFit, RoomFor, are_movable, by_numbers, compacted_steps, first_own, new_number, own_number, place_at, place_of, places_of, raised, staying};
 
-use crate::moving::{Sizes, are_movable, moved_step, moves, place_at};
+use crate::moving::{Sizes, are_movable, moved_step, moves};
 use crate::shared_list::SharedList;
 use crate::sharing::front_of;
 use gp_base::Row;
@@ -15,13 +15,12 @@ pub(crate) fn compact_steps(
     alloc: Global,
     sizes: Sizes,
     list: &SharedList,
-    steps: &[Step],
+    steps: Row<Step>,
 ) -> Result<Row<Step>, AllocError>
-    requires few { sizes.clauses + length list.now + length steps.now < 2 ^ 32 }
-    requires more { sizes.shared ≤ length list.now }
-    ensures { IfOk result (λ made. made ≡ compacted_steps sizes list.now steps.now) }
+    requires { RoomFor sizes list.now (length steps) }
+    ensures { IfOk result (λ made. made ≡ compacted_steps sizes list.now steps) }
 {
-    if are_movable(sizes.first_own(), steps) {
+    if are_movable(sizes.first_own(), steps.as_slice()) {
         return keep_staying(alloc, sizes, list, steps);
     }
     let gained = list.as_slice().len() as u32 - sizes.shared;
@@ -33,13 +32,13 @@ fn keep_staying(
     alloc: Global,
     sizes: Sizes,
     list: &SharedList,
-    steps: &[Step],
+    steps: Row<Step>,
 ) -> Result<Row<Step>, AllocError>
-    requires few { sizes.clauses + length list.now + length steps.now < 2 ^ 32 }
-    requires movable { are_movable (first_own sizes) steps.now ≡ true }
-    ensures { IfOk result (λ made. made ≡ map (with_hints (new_number sizes (length list.now) (places_of sizes list.now steps.now))) (staying (places_of sizes list.now steps.now) steps.now)) }
+    requires few { sizes.clauses + length list.now + length steps < 2 ^ 32 }
+    requires movable { are_movable (first_own sizes) steps ≡ true }
+    ensures { IfOk result (λ made. made ≡ map (with_hints (new_number sizes (length list.now) (places_of sizes list.now steps))) (staying (places_of sizes list.now steps) steps)) }
 {
-    let places = places_of(alloc, sizes, list, steps)?;
+    let places = places_of(alloc, sizes, list, steps.as_slice())?;
     let size = list.as_slice().len() as u32;
     let numbers = own_numbers(alloc, sizes, size, places.as_slice())?;
     renumber_staying(alloc, sizes, places.as_slice(), numbers.as_slice(), steps)
@@ -130,25 +129,31 @@ fn renumber_staying(
     sizes: Sizes,
     places: &[Option<u32>],
     numbers: &[u32],
-    steps: &[Step],
+    steps: Row<Step>,
 ) -> Result<Row<Step>, AllocError>
-    requires movable { are_movable (first_own sizes) steps.now ≡ true }
-    requires count { length steps.now ≤ length numbers.now + 1 }
-    requires places { length places.now ≤ length steps.now }
-    ensures { IfOk result (λ made. made ≡ map (with_hints (by_numbers sizes numbers.now)) (staying places.now steps.now)) }
+    requires movable { are_movable (first_own sizes) steps ≡ true }
+    requires count { length steps ≤ length numbers.now + 1 }
+    ensures { IfOk result (λ made. made ≡ map (with_hints (by_numbers sizes numbers.now)) (staying places.now steps)) }
 {
     let mut made = Vec::new(alloc);
-    for (own, step) in steps.iter().enumerate() {
-        keep(
-            alloc,
-            sizes,
-            place_at(places, own),
-            numbers,
-            step,
-            &mut made,
-        )?;
+    let mut later = places;
+    for step in steps.into_vec() {
+        let (place, rest) = next_place(later);
+        later = rest;
+        keep(alloc, sizes, place, numbers, step, &mut made)?;
     }
     Ok(Row::from_vec(made))
+}
+
+// The place of the next step, and the later places.
+fn next_place(places: &[Option<u32>]) -> (Option<u32>, &[Option<u32>])
+    ensures place { result.0 ≡ place_at places.now 0 }
+    ensures later { result.1.now ≡ drop 1 places.now }
+{
+    match places.split_first() {
+        Some((place, later)) => (*place, later),
+        None => (None, &[]),
+    }
 }
 
 // Puts a step that has no place.
@@ -157,11 +162,11 @@ fn keep(
     sizes: Sizes,
     place: Option<u32>,
     numbers: &[u32],
-    step: &Step,
+    step: Step,
     made: &mut Vec<Step>,
 ) -> Result<(), AllocError>
-    requires { All (λ hint. hint < first_own sizes + length numbers.now) step.now.hints }
-    ensures { OnOk result (made.new.items ≡ made.old.items ++ map (with_hints (by_numbers sizes numbers.now)) (staying (place ∷ []) (step.now ∷ []))) }
+    requires { All (λ hint. hint < first_own sizes + length numbers.now) step.hints }
+    ensures { OnOk result (made.new.items ≡ made.old.items ++ map (with_hints (by_numbers sizes numbers.now)) (staying (place ∷ []) (step ∷ []))) }
 {
     match place {
         Some(_at) => Ok(()),
@@ -172,17 +177,18 @@ fn keep(
     }
 }
 
-fn renumber(alloc: Global, sizes: Sizes, numbers: &[u32], step: &Step) -> Result<Step, AllocError>
-    requires { All (λ hint. hint < first_own sizes + length numbers.now) step.now.hints }
-    ensures { IfOk result (λ made. made ≡ with_hints (by_numbers sizes numbers.now) step.now) }
+fn renumber(alloc: Global, sizes: Sizes, numbers: &[u32], step: Step) -> Result<Step, AllocError>
+    requires { All (λ hint. hint < first_own sizes + length numbers.now) step.hints }
+    ensures { IfOk result (λ made. made ≡ with_hints (by_numbers sizes numbers.now) step) }
 {
-    let mut hints = Vec::new(alloc);
-    for hint in step.hints.as_slice() {
-        hints.push(by_numbers(sizes, numbers, *hint))?;
+    let Step { clause, hints } = step;
+    let mut made = Vec::new(alloc);
+    for hint in hints.as_slice() {
+        made.push(by_numbers(sizes, numbers, *hint))?;
     }
     Ok(Step {
-        clause: step.clause.clone()?,
-        hints: Row::from_vec(hints),
+        clause,
+        hints: Row::from_vec(made),
     })
 }
 
@@ -202,27 +208,28 @@ fn raise_steps(
     alloc: Global,
     sizes: Sizes,
     gained: u32,
-    steps: &[Step],
+    steps: Row<Step>,
 ) -> Result<Row<Step>, AllocError>
-    ensures { IfOk result (λ made. made ≡ map (with_hints (raised sizes gained)) steps.now) }
+    ensures { IfOk result (λ made. made ≡ map (with_hints (raised sizes gained)) steps) }
 {
     let mut made = Vec::new(alloc);
-    for step in steps {
+    for step in steps.into_vec() {
         made.push(raise_step(alloc, sizes, gained, step)?)?;
     }
     Ok(Row::from_vec(made))
 }
 
-fn raise_step(alloc: Global, sizes: Sizes, gained: u32, step: &Step) -> Result<Step, AllocError>
-    ensures { IfOk result (λ made. made ≡ with_hints (raised sizes gained) step.now) }
+fn raise_step(alloc: Global, sizes: Sizes, gained: u32, step: Step) -> Result<Step, AllocError>
+    ensures { IfOk result (λ made. made ≡ with_hints (raised sizes gained) step) }
 {
-    let mut hints = Vec::new(alloc);
-    for hint in step.hints.as_slice() {
-        hints.push(raised(sizes, gained, *hint))?;
+    let Step { clause, hints } = step;
+    let mut made = Vec::new(alloc);
+    for hint in hints.as_slice() {
+        made.push(raised(sizes, gained, *hint))?;
     }
     Ok(Step {
-        clause: step.clause.clone()?,
-        hints: Row::from_vec(hints),
+        clause,
+        hints: Row::from_vec(made),
     })
 }
 

@@ -2,9 +2,9 @@ ghost use Rattle.std.specs.Prelude.{◌≡◌, ◌+◌, ◌<◌, ◌^◌, [], If
 ghost use Rattle.gp_compact.specs.Compact.{entries_in_body, own_steps, steps_in, with_entries};
 ghost use Rattle.gp_compact.specs.Moving.{PlacesFit, first_own, front_of, place_of, with_certificate, with_moved, with_steps};
 
-use crate::copying::copy_step;
 use crate::moving::{Sizes, are_movable, moved_step, moves};
 use crate::shared_list::SharedList;
+use gp_base::Row;
 use gp_certificate::Step;
 use gp_report::{Answer, Entry, WindowBody};
 use std::alloc::{AllocError, Global};
@@ -13,11 +13,11 @@ use std::alloc::{AllocError, Global};
 pub(crate) fn share(
     alloc: Global,
     sizes: Sizes,
-    shared: &[Step],
+    shared: Row<Step>,
     body: &WindowBody,
 ) -> Result<SharedList, AllocError>
-    requires { sizes.clauses + length shared.now + steps_in (entries_in_body body.now) < 2 ^ 31 }
-    ensures { IfOk result (λ list. list ≡ with_entries sizes shared.now (entries_in_body body.now)) }
+    requires { sizes.clauses + length shared + steps_in (entries_in_body body.now) < 2 ^ 31 }
+    ensures { IfOk result (λ list. list ≡ with_entries sizes shared (entries_in_body body.now)) }
 {
     let mut list = list_of(alloc, shared)?;
     for property in body.properties() {
@@ -26,13 +26,13 @@ pub(crate) fn share(
     Ok(list)
 }
 
-fn list_of(alloc: Global, shared: &[Step]) -> Result<SharedList, AllocError>
-    requires { length shared.now < 2 ^ 32 }
-    ensures { IfOk result (λ list. list ≡ shared.now) }
+fn list_of(alloc: Global, shared: Row<Step>) -> Result<SharedList, AllocError>
+    requires { length shared < 2 ^ 32 }
+    ensures { IfOk result (λ list. list ≡ shared) }
 {
     let mut list = SharedList::new(alloc);
-    for step in shared {
-        list.push(alloc, copy_step(alloc, step)?)?;
+    for step in shared.into_vec() {
+        list.push(alloc, step)?;
     }
     Ok(list)
 }

@@ -1,7 +1,12 @@
-use Rattle.std.proofs.Common.{◌≡◌, map, take}
-use Rattle.gp_compact.specs.Compact.{property_by}
-use Rattle.gp_compact.specs.Rewriting.{steps_by}
+use Rattle.std.proofs.Common.{◌≡◌, map}
+use Rattle.std.specs.Vec.Iter.{into_iter_items}
+use Rattle.gp_report.specs.Entries.{entries_among}
+use Rattle.gp_compact.specs.Compact.{property_by, steps_in}
+use Rattle.gp_compact.specs.Moving.{RoomFor, compacted_steps}
 use Rattle.gp_compact.proofs.rewriting.rewrite_properties.Given as goal
 
 abbrev pub invariant-loop-property : goal.invariant-loop-property
-invariant-loop-property l = l.made.items ≡ map (property_by (steps_by l.rewriting)) (take l.property-index l.properties)
+invariant-loop-property l = record {
+  made : l.made.items ≡ map (property_by (compacted_steps l.sizes l.list)) l.yielded;
+  room : RoomFor l.sizes l.list (steps_in (entries_among (into_iter_items l.property-iterator)));
+}

@@ -1,7 +1,6 @@
--- A report of format 1 that is answered is accepted.
-use Rattle.std.proofs.Common.{◌≡◌, sym, ap, ◌∙◌, subst, ℕ, ◌+◌, ◌-◌, List, [], ◌∷◌, Option, Some, None, Result, Ok, Err, All, IsSomeAnd, slice_get}
+-- A report that is answered is accepted.
+use Rattle.std.proofs.Common.{◌≡◌, sym, ap, ◌∙◌, subst, ℕ, ◌+◌, ◌-◌, List, [], ◌∷◌, Option, Some, None, Result, Ok, Err, IsSomeAnd, slice_get}
 use Rattle.std.specs.List.{AllZip, enumerate_from}
-use Rattle.std.proofs.lemmas.List.Elements.{All-head, All-tail}
 use Rattle.gp_clause.specs.declared.problem.Problem.{Problem}
 use Rattle.gp_clause.specs.declared.problem.Query.{Query}
 use Rattle.gp_constraint.specs.declared.fault.BaseFault.{BaseFault}
@@ -10,8 +9,6 @@ use Rattle.gp_constraint.specs.Base.{base_of}
 use Rattle.gp_constraint.specs.Encoded.{base_due}
 use Rattle.gp_constraint.specs.Query.{query_of}
 use Rattle.gp_derivation.specs.declared.record.WorkerRecord.{WorkerRecord}
-use Rattle.gp_certificate.specs.declared.step.Step.{Step}
-use Rattle.gp_certificate.specs.Shared.{SharedPasses}
 use Rattle.gp_derivation.specs.Spent.{HasTurnSpentOn}
 use Rattle.gp_instance.specs.declared.instance.Instance.{Instance}
 use Rattle.gp_instance.specs.declared.instance.InstancesFault.{InstancesFault}
@@ -22,7 +19,6 @@ use Rattle.gp_report.specs.Records.{Answer, Entry, PropertyBody, PropertyRecord,
 use Rattle.gp_report.specs.declared.record.AnswerOf.TheVariants.{Found, Impossible, Undecided}
 use Rattle.gp_report.specs.declared.record.PropertyBodyOf.TheVariants as body
 use Rattle.gp_report.specs.declared.record.WindowBodyOf.TheVariants as told
-use Rattle.gp_report.specs.Report.{IsWindowRecord}
 use Rattle.gp_window.specs.declared.schedule.EventId.{EventId}
 use Rattle.gp_window.specs.WindowForm.{WindowForm}
 use Rattle.gp_window.specs.Windows.{all_windows}
@@ -72,31 +68,24 @@ module _ (window : WindowForm) (known : Evidence) where
   properties_accepted number ticket (property ∷ properties) (told ∷ more) is =
       ((is.0, listed_accepted property ticket (due_instances window property number) told.body is.1), properties_accepted (number + 1) _ properties more is.2)
 
-  body_accepted : (properties : List PropertyForm) (count : ℕ) (due : Result WindowForm BaseFault) (told : WindowBody) → SharedPasses (base_of window) known.shared
+  body_accepted : (properties : List PropertyForm) (count : ℕ) (due : Result WindowForm BaseFault) (told : WindowBody)
       → AnswersBody window properties count known due told → AcceptsBody window known.budget properties known.shared due told
-  body_accepted properties count (Err (no_window.TooLarge events clauses)) (told.TooLarge more_events more_clauses) passes is = (is.0, is.1)
-  body_accepted properties count (Err (no_window.TooLarge events clauses)) (told.Answers records) passes is = absurd is
-  body_accepted properties count (Err no_window.Memory) told passes is = absurd is
-  body_accepted properties count (Ok encoded) (told.TooLarge events clauses) passes is = absurd is
-  body_accepted properties count (Ok encoded) (told.Answers records) passes is = (passes, properties_accepted 0 0 properties records is.0)
+  body_accepted properties count (Err (no_window.TooLarge events clauses)) (told.TooLarge more_events more_clauses) is = (is.0, is.1)
+  body_accepted properties count (Err (no_window.TooLarge events clauses)) (told.Answers records) is = absurd is
+  body_accepted properties count (Err no_window.Memory) told is = absurd is
+  body_accepted properties count (Ok encoded) (told.TooLarge events clauses) is = absurd is
+  body_accepted properties count (Ok encoded) (told.Answers records) is = (is.0, properties_accepted 0 0 properties records is.1)
 
--- no shared steps pass
-none_pass : (problem : Problem) (shared : List Step) → shared ≡ [] → SharedPasses problem shared
-none_pass problem shared none = subst (SharedPasses problem) (sym none) tt
-
-windows_accepted : (properties : List PropertyForm) (count budget format : ℕ) (windows : List WindowForm) (records : List WindowRecord) → format ≡ 1 → All (IsWindowRecord format) records
+windows_accepted : (properties : List PropertyForm) (count budget : ℕ) (windows : List WindowForm) (records : List WindowRecord)
     → AllZip (AnswersWindow properties count budget) windows records → AllZip (AcceptsWindow properties budget) windows records
-windows_accepted properties count budget format [] [] first fit is = tt
-windows_accepted properties count budget format [] (told ∷ records) first fit is = absurd is
-windows_accepted properties count budget format (window ∷ windows) [] first fit is = absurd is
-windows_accepted properties count budget format (window ∷ windows) (told ∷ records) first fit is =
-    let here : IsWindowRecord format told = All-head (IsWindowRecord format) told records fit in
-    let known : Evidence = record { budget = budget; shared = told.shared; workers = told.records } in (
-      body_accepted window known properties count (base_due window) told.body (none_pass (base_of window) told.shared (here.first_format first)) is.0,
-      windows_accepted properties count budget format windows records first (All-tail (IsWindowRecord format) told records fit) is.1,
-    )
+windows_accepted properties count budget [] [] is = tt
+windows_accepted properties count budget [] (told ∷ records) is = absurd is
+windows_accepted properties count budget (window ∷ windows) [] is = absurd is
+windows_accepted properties count budget (window ∷ windows) (told ∷ records) is =
+    let known : Evidence = record { budget = budget; shared = told.shared; workers = told.records } in
+    (body_accepted window known properties count (base_due window) told.body is.0, windows_accepted properties count budget windows records is.1)
 
 pub answered_accepted : AnsweredIsAccepted
-answered_accepted recording properties count budget report fits first is =
+answered_accepted recording properties count budget report is =
     subst (λ (n : ℕ). AllZip (AcceptsWindow properties n) (all_windows recording) report.windows) (sym is.same_budget)
-    (windows_accepted properties count budget report.format (all_windows recording) report.windows first fits.windows is.windows)
+    (windows_accepted properties count budget (all_windows recording) report.windows is.windows)

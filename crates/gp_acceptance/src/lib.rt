@@ -1,6 +1,7 @@
-// What the analysis answers, the checker accepts: the law that joins the two crates, which know nothing of each other.
+// What the analysis answers, the checker accepts, and its compact form answers the same: the laws that join the three
+// crates, which know nothing of each other.
 #![tactic(auto)]
 
 mod laws;
 
-pub use laws::answered_is_accepted;
+pub use laws::{answered_is_accepted, compact_is_answered};

@@ -145,7 +145,7 @@ is_recorded {Subject} {Shown} question lists window can count budget number most
     done : RecordsWindow question count budget window (record { number = number; shared = []; body = recorded.Answers records; records = work.records })
     done = record {
       number = at;
-      answered = subst (λ large. AnswersBody question window count (unshared budget work.records) large (recorded.Answers records)) (sym can.fits) (answers, own);
+      answered = subst (λ large. AnswersBody question window count (unshared budget work.records) large (recorded.Answers records)) (sym can.fits) (tt, answers, own);
       fits = record {
         shared = All-nil IsPrintableStep;
         first_format = λ one. refl;

@@ -2,6 +2,7 @@
 use Rattle.std.specs.Prelude.{ℕ, ◌≡◌, ◌+◌, ◌≤◌, List, [], ◌∷◌, Option, Some, None, Result, Ok, Err, length, All}
 use Rattle.std.specs.List.{AllZip}
 use Rattle.gp_certificate.specs.declared.step.Step.{Step}
+use Rattle.gp_certificate.specs.Shared.{SharedPasses}
 use Rattle.gp_clause.specs.declared.problem.Problem.{Problem}
 use Rattle.gp_derivation.specs.declared.record.WorkerRecord.{WorkerRecord}
 use Rattle.gp_instance.specs.declared.instance.Instance.{Instance}
@@ -76,12 +77,13 @@ module _ {Subject Shown : Type 0} (question : QuestionForm Subject Shown) where
       × AnswersSubjects window evidence (number + 1) (ticket + tickets_listed question window subject (question.asks window subject number)) subjects more
   AnswersSubjects window evidence number ticket _ _ = ⊥
 
-  -- what is recorded of a window: one that is too large is recorded with its two numbers, and has no workers
+  -- what is recorded of a window: one that is too large is recorded with its two numbers, and has no workers; of any other
+  -- the shared steps pass, each subject has its record, and the workers did what they are recorded with
   abbrev pub AnswersBody : WindowForm → ℕ → Evidence → Option TooLarge → WindowBodyOf Shown → Type 0
   AnswersBody window count evidence (Some large) (recorded.TooLarge events clauses) =
       (events ≡ large.events) × (clauses ≡ large.clauses) × (evidence.workers ≡ [])
   AnswersBody window count evidence None (recorded.Answers records) =
-      AnswersSubjects window evidence 0 0 question.subjects records
+      SharedPasses (question.problem window) evidence.shared × AnswersSubjects window evidence 0 0 question.subjects records
       × AreWorkers (question.problem window) count (subjects_tickets question window 0 question.subjects) evidence.workers
   AnswersBody window count evidence _ _ = ⊥
 

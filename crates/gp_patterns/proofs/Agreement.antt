@@ -84,7 +84,7 @@ windows_agree : (window : WindowForm) (properties : List PropertyForm) (count ot
     → AnswersBody window properties count known due one → AnswersBody window properties other_count more due other → WindowsAgree one other
 windows_agree window properties count other_count known more (Err (TooLarge events clauses)) (told.TooLarge e k) (told.TooLarge f l) a b = (a.0 ∙ sym b.0, a.1 ∙ sym b.1)
 windows_agree window properties count other_count known more (Ok encoded) (told.Answers one) (told.Answers other) a b =
-    properties_agree window known more 0 0 0 properties one other a.0 b.0
+    properties_agree window known more 0 0 0 properties one other a.1 b.1
 windows_agree window properties count other_count known more (Ok encoded) (told.TooLarge e k) other a b = absurd a
 windows_agree window properties count other_count known more (Ok encoded) one (told.TooLarge e k) a b = absurd b
 windows_agree window properties count other_count known more (Err (TooLarge events clauses)) (told.Answers one) other a b = absurd a

@@ -101,7 +101,7 @@ properties_decided window evidence number ticket (property ∷ properties) (one 
 body_decided : (window : WindowForm) (properties : List PropertyForm) (count : ℕ) (evidence : Evidence) (due : Result WindowForm BaseFault) (answered : WindowBody)
     → AnswersBody window properties count evidence due answered → DecidesBody properties evidence.budget window answered
 body_decided window properties count evidence due (told.TooLarge events clauses) are = tt
-body_decided window properties count evidence (Ok encoded) (told.Answers records) are = properties_decided window evidence 0 0 properties records are.1.each are.0
+body_decided window properties count evidence (Ok encoded) (told.Answers records) are = properties_decided window evidence 0 0 properties records are.2.each are.1
 body_decided window properties count evidence (Err (TooLarge events clauses)) (told.Answers records) are = absurd are
 body_decided window properties count evidence (Err no_window.Memory) (told.Answers records) are = absurd are
 

@@ -162,7 +162,7 @@ window_there ps window count known (Err (no_window.TooLarge events clauses)) (to
 window_there ps window count known (Err (no_window.TooLarge events clauses)) (told.Answers records) due is = is
 window_there ps window count known (Ok encoded) (told.TooLarge more_events more_clauses) due is = is
 window_there ps window count known (Ok encoded) (told.Answers records) due is =
-    (properties_there ps window known 0 0 ps records is.0, subst (λ (n : ℕ). AreWorkers (base_of window) count n known.workers) (count_same ps window 0 ps) is.1)
+    (is.0, properties_there ps window known 0 0 ps records is.1, subst (λ (n : ℕ). AreWorkers (base_of window) count n known.workers) (count_same ps window 0 ps) is.2)
 
 window_back : (ps : List PropertyForm) (window : WindowForm) (count : ℕ) (known : Evidence) (due : Result WindowForm BaseFault) (own : WindowBody)
     → AnswersBody window ps count known due own → question.AnswersBody (patterns ps) window count known (too_large_in due) own
@@ -171,7 +171,7 @@ window_back ps window count known (Err (no_window.TooLarge events clauses)) (tol
 window_back ps window count known (Err (no_window.TooLarge events clauses)) (told.Answers records) is = is
 window_back ps window count known (Ok encoded) (told.TooLarge more_events more_clauses) is = is
 window_back ps window count known (Ok encoded) (told.Answers records) is =
-    (properties_back ps window known 0 0 ps records is.0, subst (λ (n : ℕ). AreWorkers (base_of window) count n known.workers) (sym (count_same ps window 0 ps)) is.1)
+    (is.0, properties_back ps window known 0 0 ps records is.1, subst (λ (n : ℕ). AreWorkers (base_of window) count n known.workers) (sym (count_same ps window 0 ps)) is.2)
 
 -- the windows
 pub windows_there : (ps : List PropertyForm) (count budget : ℕ) (windows : List WindowForm) (records : List WindowRecord)

@@ -8,7 +8,7 @@ use Rattle.gp_constraint.specs.Encoded.{base_due}
 use Rattle.gp_constraint.specs.Query.{query_of}
 use Rattle.gp_certificate.specs.declared.certificate.Certificate.{Certificate}
 use Rattle.gp_certificate.specs.declared.step.Step.{Step}
-use Rattle.gp_certificate.specs.Shared.{RefutesOver}
+use Rattle.gp_certificate.specs.Shared.{RefutesOver, SharedPasses}
 use Rattle.gp_instance.specs.declared.instance.Instance.{Instance}
 use Rattle.gp_instance.specs.declared.instance.InstancesFault.{InstancesFault}
 use Rattle.gp_instance.specs.declared.instance.InstancesFault.TheVariants.{TooMany}
@@ -69,12 +69,12 @@ AnswersProperties window evidence number ticket (property ∷ properties) (told 
 AnswersProperties window evidence number ticket _ _ = ⊥
 
 -- what is recorded of a window by the constraints that it has: one that is too large is recorded with its two numbers, and has no
--- workers
+-- workers; of any other the shared steps pass, each property has its record, and the workers did what they are recorded with
 abbrev pub AnswersBody : WindowForm → List PropertyForm → ℕ → Evidence → Result WindowForm BaseFault → WindowBody → Type 0
 AnswersBody window properties count evidence (Err (TooLarge events clauses)) (told.TooLarge more_events more_clauses) =
     (more_events ≡ events) × (more_clauses ≡ clauses) × (evidence.workers ≡ [])
 AnswersBody window properties count evidence (Ok encoded) (told.Answers records) =
-    AnswersProperties window evidence 0 0 properties records
+    SharedPasses (base_of window) evidence.shared × AnswersProperties window evidence 0 0 properties records
     × AreWorkers (base_of window) count (properties_count window 0 properties) evidence.workers
 AnswersBody window properties count evidence _ _ = ⊥
 

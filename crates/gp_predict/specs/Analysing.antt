@@ -1,8 +1,8 @@
 -- What is due to task analyse: an analysis of the recording with its properties, or the refusal of too much work.
-use Rattle.std.specs.Prelude.{ℕ, ◌++◌, ◌*◌, ◌≡◌, ◌≢◌, ◌≤◌, List, Option, None, Some, Result, Ok, Err, if◌then◌else◌, length, codes, decimal}
+use Rattle.std.specs.Prelude.{ℕ, ◌++◌, ◌*◌, ◌≡◌, ◌≤◌, List, Option, None, Some, Result, Ok, Err, if◌then◌else◌, length, codes, decimal}
 use Rattle.std.specs.List.{list_any}
 use Rattle.gp_outside.specs.Folders.{File}
-use Rattle.gp_compact.specs.Compact.{IsCompacted}
+use Rattle.gp_compact.specs.Compact.{compacted}
 use Rattle.gp_patterns.specs.Answered.{IsAnswered}
 use Rattle.gp_patterns.specs.Tickets.{asked_total, too_much}
 use Rattle.gp_report.specs.Records.{Entry}
@@ -55,12 +55,14 @@ analysis_of listing asked = analysis_by listing asked (too_much listing.recordin
 abbrev pub analysing_at : List File → List ℕ → Asked → Result AnalysisForm Reply
 analysing_at files folder asked = and_then (listing_at files folder) (λ listing. analysis_of listing asked)
 
--- the workers and the budget are within their ranges
+-- the workers, the budget and the format are within their ranges
 pub record IsAskable (asked : Asked) : Type 0 where
   pub some_workers : 1 ≤ asked.workers
   pub most_workers : asked.workers ≤ 16
   pub least_budget : 1 ≤ asked.budget
   pub most_budget : asked.budget ≤ 1000000
+  pub first_format : 1 ≤ asked.format
+  pub last_format : asked.format ≤ 2
 
 -- at most 64 properties, and no more work than the limit
 pub record CanBeAnalysed (listing : Listing) (asked : Asked) : Type 0 where
@@ -72,17 +74,23 @@ pub record CanBeAnalysed (listing : Listing) (asked : Asked) : Type 0 where
 abbrev pub report_status : ReportForm → ℕ
 report_status report = if list_any (λ (entry : Entry). is_found entry.answer) (entries_of report.windows) then 1 else 0
 
--- a report told in the format that is asked for: format 2 is its compact form
-pub record IsInFormat (format : ℕ) (recording : RecordingForm) (answered report : ReportForm) : Type 0 where
-  pub compact : format ≡ 2 → IsCompacted recording answered report
-  pub plain : format ≢ 2 → report ≡ answered
+-- a report has all answers to an analysis
+abbrev pub HasAnswers : AnalysisForm → ReportForm → Type 0
+HasAnswers analysis report = IsAnswered analysis.recording analysis.properties analysis.workers analysis.budget report
 
--- a report answers an analysis: it is the report of all answers, in the format that is asked for
-pub record Answers (analysis : AnalysisForm) (report : ReportForm) : Type 0 where
+-- a report is the compact form of one of format 1 that has all answers to an analysis
+pub record IsCompactOf (analysis : AnalysisForm) (report : ReportForm) : Type 0 where
   pub answered : ReportForm
   pub plain : answered.format ≡ 1
-  pub instances : IsAnswered analysis.recording analysis.properties analysis.workers analysis.budget answered
-  pub told : IsInFormat analysis.format analysis.recording answered report
+  pub instances : HasAnswers analysis answered
+  pub made : report ≡ compacted analysis.recording answered
+
+-- a report answers an analysis: it has all answers, in the format that is asked for, and in format 2 it is the compact form
+-- of one of format 1
+pub record Answers (analysis : AnalysisForm) (report : ReportForm) : Type 0 where
+  pub instances : HasAnswers analysis report
+  pub format : report.format ≡ analysis.format
+  pub compact : analysis.format ≡ 2 → IsCompactOf analysis report
 
 -- what a report tells, which is kept: its text, and that it has an entry found or none
 abbrev pub of_report : ReportForm → Told

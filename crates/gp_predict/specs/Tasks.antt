@@ -2,7 +2,7 @@
 use Rattle.std.specs.Prelude.{◌≡◌, Bool, true, false, List, Result, Ok, Err}
 use Rattle.gp_base.specs.Results.{and_then}
 use Rattle.gp_checker.specs.declared.failure.Checked.{Checked}
-use Rattle.gp_compact.specs.Compact.{IsCompacted}
+use Rattle.gp_compact.specs.Compact.{compacted}
 use Rattle.gp_outside.specs.Folders.{File}
 use Rattle.gp_report.specs.ReportForm.{ReportForm}
 use Rattle.gp_words.specs.declared.task.Task.{Task}
@@ -67,10 +67,10 @@ abbrev pub either_expected : Result Expected Reply → Expected
 either_expected (Ok expected) = expected
 either_expected (Err refusal) = Text refusal
 
--- what may be told where this is due: a text; a report that answers the analysis; the verdict on a report; a compact form
+-- what may be told where this is due: a text; a report that answers the analysis; the verdict on a report; the compact form
+-- of a report
 abbrev pub Means : Expected → Told → Type 0
 Means (Text reply) told = told ≡ of_reply reply
 Means (Analysis analysis) told = (report : ReportForm) × Answers analysis report × (told ≡ of_report report)
 Means (Verdict submission) told = (checked : Checked) × IsVerdict submission checked × (told ≡ of_reply (verdict_on submission.report checked))
-Means (Compacted submission) told =
-    (made : ReportForm) × IsCompacted submission.listing.recording submission.report made × (told ≡ of_compact made)
+Means (Compacted submission) told = told ≡ of_compact (compacted submission.listing.recording submission.report)

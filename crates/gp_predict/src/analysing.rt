@@ -10,6 +10,7 @@ ghost use Rattle.gp_words.specs.Command.{IsInRanges, form_of};
 use crate::listing::{Listing, listing_at};
 use crate::refusal::Refusal;
 use crate::stop::Stop;
+use gp_acceptance::compact_is_answered;
 use gp_compact::compact;
 use gp_outside::{Folder, Gate};
 use gp_patterns::{analyse, too_much};
@@ -94,6 +95,7 @@ fn analysis_report<R: AllocGlobal + Threads + Wait + Sync, G: Gate + Sync>(
     requires { CanBeAnalysed listing.now asked }
     ensures { IfOk result (Answers (analysis_form listing.now asked)) }
 {
+    compact_is_answered();
     let recording = &listing.recording;
     let properties = listing.properties.as_slice();
     let report = analyse(
@@ -106,7 +108,7 @@ fn analysis_report<R: AllocGlobal + Threads + Wait + Sync, G: Gate + Sync>(
         gate,
     )?;
     if asked.format == COMPACT {
-        return compact(rt.alloc(), recording, &report);
+        return compact(rt.alloc(), recording, report);
     }
     Ok(report)
 }

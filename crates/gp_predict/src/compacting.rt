@@ -45,12 +45,13 @@ pub fn compacted<R: AllocGlobal + Threads + Sync, F: Folder>(
     ensures { IsStage result (λ files. CameTo (told_by of_compact_form result) (either_expected (as_compacted (submission_at files directory.now)))) (F.files folder.old) (F.files folder.new) (F.faults folder.old) (F.faults folder.new) }
 {
     let submission = submission_at(rt, folder, directory)?;
-    Ok(compact_form(rt.alloc(), &submission)?)
+    Ok(compact_form(rt.alloc(), submission)?)
 }
 
-fn compact_form(alloc: Global, submission: &Submission) -> Result<CompactForm, AllocError>
-    ensures { IfOk result (λ form. Means (Compacted submission.now) (of_compact_form form)) }
+fn compact_form(alloc: Global, submission: Submission) -> Result<CompactForm, AllocError>
+    ensures { IfOk result (λ form. Means (Compacted submission) (of_compact_form form)) }
 {
-    let report = compact(alloc, &submission.listing.recording, &submission.report)?;
+    let Submission { listing, report } = submission;
+    let report = compact(alloc, &listing.recording, report)?;
     Ok(CompactForm { report })
 }

@@ -1,5 +1,6 @@
-ghost use Rattle.std.specs.Prelude.{◌≤◌, All, IsTrue};
+ghost use Rattle.std.specs.Prelude.{◌≤◌, All, IfOk, IsTrue};
 ghost use Rattle.gp_clause.specs.Problem.{IsValidProblem, IsValidQuery};
+ghost use Rattle.gp_workers.specs.Post.{IsPost};
 ghost use Rattle.gp_workers.specs.Work.{CanBeWorked};
 
 use crate::fixture::{EIGHT, FREE, Rows, is_asked, is_solvable, is_valid, problem_of, query_of};
@@ -8,7 +9,7 @@ use gp_clause::{Problem, Query};
 use gp_derivation::{LogEntry, Offered, Origin, Sent, Turn, WorkerRecord};
 use gp_outside::{FreeGate, Gate, HoldGate};
 use gp_tickets::Tickets;
-use gp_workers::{WindowWork, WorkAnswer, work_all};
+use gp_workers::{Post, WindowWork, WorkAnswer, work_all, work_in_turn};
 use std::alloc::{AllocError, Global};
 use std::process::Abort;
 use std::sync::Wait;
@@ -138,6 +139,14 @@ fn shares(work: &WindowWork, workers: usize) -> bool {
     !none && work.passes.len() == workers && records.iter().all(|worker| are_pushed(worker, others))
 }
 
+// Whether workers that go one after another share: some offered a clause where there are several, and all that they offered
+// was pushed to each of so many others.
+fn share_in_turn(work: &WindowWork, others: usize) -> bool {
+    let records = work.records.as_slice();
+    records.iter().all(offers_none) == (others == 0)
+        && records.iter().all(|worker| are_pushed(worker, others))
+}
+
 // The work of so many workers on these queries.
 fn work_on<R: Threads + Wait + Sync + Abort, G: Gate + Sync>(
     rt: &R,
@@ -168,6 +177,55 @@ fn work_on_three<R: Threads + Wait + Sync + Abort, G: Gate + Sync>(
     let problem = problem_of(alloc, &ROWS)?;
     let queries = queries(alloc)?;
     work_on(rt, alloc, &problem, queries.as_slice(), workers, gate)
+}
+
+// The work of so many workers, one after another, on three queries that assume nothing, and the post for the next window.
+fn work_in_turn_on_three<R: Wait + Abort>(
+    rt: &R,
+    alloc: Global,
+    workers: u32,
+    post: Post,
+) -> Result<(WindowWork, Post), Fail>
+    requires workers { (1 ≤ workers) × (workers ≤ 16) }
+    requires post { IsPost workers post }
+    ensures { IfOk result (λ made. IsPost workers made.1) }
+{
+    let problem = problem_of(alloc, &ROWS)?;
+    let queries = queries(alloc)?;
+    let asked = queries.as_slice();
+    assert!(rt; is_valid(&problem));
+    assert!(rt; is_solvable(&[], problem.edges.as_slice()));
+    assert!(rt; are_asked(&problem, asked));
+    assert!(rt; are_few(&problem, asked));
+    Ok(work_in_turn(rt, alloc, &problem, asked, workers, BUDGET, &FreeGate, post)?)
+}
+
+// Whether so many workers that go one after another refute three queries in each of two windows, and share in both: the
+// inboxes of the first serve the second.
+fn refute_three_twice<R: Wait + Abort>(rt: &R, alloc: Global, workers: u32) -> Result<bool, Fail>
+    requires { (1 ≤ workers) × (workers ≤ 16) }
+{
+    let (first, post) = work_in_turn_on_three(rt, alloc, workers, Post::none(alloc))?;
+    let (second, _) = work_in_turn_on_three(rt, alloc, workers, post)?;
+    let workers = workers as usize;
+    let others = workers.saturating_sub(1);
+    let due = is_due(alloc, &first, workers)? && is_due(alloc, &second, workers)?;
+    Ok(due && share_in_turn(&first, others) && share_in_turn(&second, others))
+}
+
+// Whether one worker, two and four do.
+fn crews_refute_three_twice<R: Wait + Abort>(rt: &R, alloc: Global) -> Result<bool, Fail> {
+    Ok(
+        refute_three_twice(rt, alloc, 1)?
+            && refute_three_twice(rt, alloc, 2)?
+            && refute_three_twice(rt, alloc, 4)?,
+    )
+}
+
+#[test]
+fn inboxes_serve_one_window_after_another(rt: HostRuntime) -> Result<(), Fail> {
+    assert!(rt; crews_refute_three_twice(&rt, rt.alloc())?);
+    Ok(())
 }
 
 // Whether so many workers refute three queries, in one turn for each, and share what they learn.

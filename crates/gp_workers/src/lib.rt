@@ -4,7 +4,7 @@
 // The number of a query is its ticket. Each worker draws a ticket by one atomic step on a word that all share, answers the
 // query by a search of its own, and ends when none is left. Then their drawers are put together into one, which knows that
 // each ticket was drawn once, and the answers are sorted by ticket. One worker does the same in the calling thread, and so do
-// several in turn.
+// several in turn, who have the inboxes of one window renewed for the next.
 #![tactic(auto)]
 
 mod crew;

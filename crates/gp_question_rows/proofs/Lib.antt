@@ -1,0 +1,4 @@
+mod Asked
+mod Lawful
+mod EndsListed
+mod Sizes

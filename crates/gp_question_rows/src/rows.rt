@@ -1,0 +1,423 @@
+// Which threads can come to their end, worked out by hand.
+ghost use Rattle.std.specs.Prelude.{◌≤◌};
+
+use crate::ends::Ends;
+use crate::recorded::recording_of;
+use gp_analysis::{analyse, too_much};
+use gp_base::Row;
+use gp_outside::FreeGate;
+use gp_replay::{ReplayFault, replay};
+use gp_report::{Answer, AnswerOf, Entry, PropertyBodyOf, WindowBodyOf, WindowRecord};
+use gp_text::Name;
+use gp_window::{EventId, Recording, Schedule, Window, contains_event, cut};
+use std::alloc::{AllocError, Global};
+use std::sync::Wait;
+use std::test::Fail;
+use std::thread::Threads;
+
+// Enough for each ask of these rows.
+const BUDGET: u64 = 1000;
+
+type Ids<'a> = &'a [(u32, u32)];
+
+// What is due of an end: a schedule that reaches it, just the one that was kept, or a certificate.
+#[derive(Drop, Clone, Copy)]
+enum Due<'a> {
+    Reached,
+    Given(Ids<'a>),
+    Impossible,
+}
+
+// The end of a thread, and what is due of it.
+type End<'a> = (u32, u32, Due<'a>);
+
+// The files of a recording, the schedule that is kept, where one is, what is due of each window, and how many asks have a
+// ticket in all of them.
+#[derive(Drop, Clone, Copy)]
+struct Case<'a> {
+    name: &'a str,
+    files: &'a [(&'a str, &'a str)],
+    kept: Ids<'a>,
+    due: &'a [&'a [End<'a>]],
+    tickets: usize,
+}
+
+fn schedule_of(alloc: Global, ids: Ids) -> Result<Schedule, AllocError> {
+    let mut events = Row::new(alloc);
+    for (thread, index) in ids {
+        events.push(EventId {
+            thread: *thread,
+            index: *index,
+        })?;
+    }
+    Ok(Schedule { events })
+}
+
+fn question_of(alloc: Global, kept: Ids) -> Result<Ends, Fail> {
+    let Some(name) = Name::of(b"ends") else {
+        return Err(Fail::new("the name is refused"));
+    };
+    let question = Ends::named(name);
+    if kept.is_empty() {
+        return Ok(question);
+    }
+    Ok(question.with(schedule_of(alloc, kept)?))
+}
+
+fn is_event(id: EventId, thread: u32, index: u32) -> bool {
+    id.thread == thread && id.index == index
+}
+
+fn zip_events(ids: &[EventId], due: Ids) -> bool {
+    ids.iter()
+        .zip(due)
+        .all(|(id, (thread, index))| is_event(*id, *thread, *index))
+}
+
+fn are_events(ids: &[EventId], due: Ids) -> bool {
+    ids.len() == due.len() && zip_events(ids, due)
+}
+
+// Whether the schedule replays to its end, and has the event.
+fn reaches(
+    alloc: Global,
+    window: &Window,
+    schedule: &Schedule,
+    id: EventId,
+) -> Result<bool, AllocError> {
+    match replay(alloc, window, schedule) {
+        Ok(_) => Ok(contains_event(schedule.events.as_slice(), id)),
+        Err(ReplayFault::Stuck { .. }) => Ok(false),
+        Err(ReplayFault::Memory) => Err(AllocError),
+    }
+}
+
+fn is_found(
+    alloc: Global,
+    window: &Window,
+    schedule: &Schedule,
+    id: EventId,
+    due: Due,
+) -> Result<bool, AllocError> {
+    match due {
+        Due::Reached => reaches(alloc, window, schedule, id),
+        Due::Given(kept) => Ok(are_events(schedule.events.as_slice(), kept)),
+        Due::Impossible => Ok(false),
+    }
+}
+
+fn is_answer(
+    alloc: Global,
+    window: &Window,
+    answer: &Answer,
+    id: EventId,
+    due: Due,
+) -> Result<bool, AllocError> {
+    match answer {
+        AnswerOf::Found(schedule) => is_found(alloc, window, schedule, id, due),
+        AnswerOf::Impossible(_) => Ok(matches!(due, Due::Impossible)),
+        AnswerOf::Undecided { .. } => Ok(false),
+    }
+}
+
+fn is_entry(alloc: Global, window: &Window, entry: &Entry, end: End) -> Result<bool, AllocError> {
+    let (thread, index, due) = end;
+    let id = EventId { thread, index };
+    if !are_events(entry.events.as_slice(), &[(thread, index)]) {
+        return Ok(false);
+    }
+    is_answer(alloc, window, &entry.answer, id, due)
+}
+
+fn are_entries(
+    alloc: Global,
+    window: &Window,
+    entries: &[Entry],
+    ends: &[End],
+) -> Result<bool, AllocError> {
+    if entries.len() != ends.len() {
+        return Ok(false);
+    }
+    for (entry, end) in entries.iter().zip(ends) {
+        if !is_entry(alloc, window, entry, *end)? {
+            return Ok(false);
+        }
+    }
+    Ok(true)
+}
+
+fn entries_of(record: &WindowRecord) -> Option<&[Entry]> {
+    let WindowBodyOf::Answers(subjects) = &record.body else {
+        return None;
+    };
+    let [subject] = subjects.as_slice() else {
+        return None;
+    };
+    match &subject.body {
+        PropertyBodyOf::TooMany => None,
+        PropertyBodyOf::Entries(entries) => Some(entries.as_slice()),
+    }
+}
+
+fn window_of(
+    alloc: Global,
+    recording: &Recording,
+    number: u32,
+) -> Result<Option<Window>, AllocError> {
+    if number == 0 || number > recording.manifest().epochs() {
+        return Ok(None);
+    }
+    Ok(Some(cut(alloc, recording, number)?))
+}
+
+fn is_window(
+    alloc: Global,
+    recording: &Recording,
+    record: &WindowRecord,
+    ends: &[End],
+) -> Result<bool, AllocError> {
+    let Some(entries) = entries_of(record) else {
+        return Ok(false);
+    };
+    let Some(window) = window_of(alloc, recording, record.number)? else {
+        return Ok(false);
+    };
+    are_entries(alloc, &window, entries, ends)
+}
+
+fn are_windows(
+    alloc: Global,
+    recording: &Recording,
+    records: &[WindowRecord],
+    due: &[&[End]],
+) -> Result<bool, AllocError> {
+    if records.len() != due.len() {
+        return Ok(false);
+    }
+    for (record, ends) in records.iter().zip(due) {
+        if !is_window(alloc, recording, record, ends)? {
+            return Ok(false);
+        }
+    }
+    Ok(true)
+}
+
+// How many turns the workers of a window had, each with a ticket of its own.
+fn turns_in(record: &WindowRecord) -> usize {
+    let mut turns: usize = 0;
+    for worker in record.records.as_slice() {
+        turns = turns.saturating_add(worker.turns.len());
+    }
+    turns
+}
+
+fn turns_of(records: &[WindowRecord]) -> usize {
+    let mut turns: usize = 0;
+    for record in records {
+        turns = turns.saturating_add(turns_in(record));
+    }
+    turns
+}
+
+fn records_of<R: AllocGlobal + Threads + Wait + Sync>(
+    rt: &R,
+    recording: &Recording,
+    question: &Ends,
+    workers: u32,
+) -> Result<Row<WindowRecord>, Fail>
+    requires { (1 ≤ workers) × (workers ≤ 16) }
+{
+    match too_much(rt, rt.alloc(), recording, question, BUDGET)? {
+        Some(_) => Err(Fail::new("there are too many asks")),
+        None => Ok(analyse(
+            rt,
+            rt.alloc(),
+            recording,
+            question,
+            workers,
+            BUDGET,
+            &FreeGate,
+        )?),
+    }
+}
+
+// Whether so many workers answer what is due, in a turn for each ask that has a ticket.
+fn holds<R: AllocGlobal + Threads + Wait + Sync>(
+    rt: &R,
+    case: &Case,
+    workers: u32,
+) -> Result<bool, Fail>
+    requires { (1 ≤ workers) × (workers ≤ 16) }
+{
+    let recording = recording_of(rt, case.files)?;
+    let question = question_of(rt.alloc(), case.kept)?;
+    let records = records_of(rt, &recording, &question, workers)?;
+    let records = records.as_slice();
+    let due = are_windows(rt.alloc(), &recording, records, case.due)?;
+    Ok(due && turns_of(records) == case.tickets)
+}
+
+const TWO: (&str, &str) = ("manifest", "gptrace 1\nthreads 2\nepochs 1\nroots 1 2\n");
+
+const ONE_STARTED: (&str, &str) = ("manifest", "gptrace 1\nthreads 2\nepochs 1\nroots 1\n");
+
+const TWO_WINDOWS: (&str, &str) = ("manifest", "gptrace 1\nthreads 2\nepochs 2\nroots 1 2\n");
+
+const THREE: (&str, &str) = ("manifest", "gptrace 1\nthreads 3\nepochs 1\nroots 1 2 3\n");
+
+// The first thread ends with its second event; the second reads what nobody writes; the third reads what the first wrote.
+const THREE_ENDS: [(&str, &str); 4] = [
+    THREE,
+    ("t1.trace", "write x 1\nwrite y 1\n"),
+    ("t2.trace", "read x 7\n"),
+    ("t3.trace", "read x 1\n"),
+];
+
+const CASES: [Case; 8] = [
+    // No event writes 7, so the first thread stays before its second event; nothing keeps the second thread.
+    Case {
+        name: "a value that nobody writes",
+        files: &[
+            TWO,
+            ("t1.trace", "write y 2\nread x 7\n"),
+            ("t2.trace", "write x 1\n"),
+        ],
+        kept: &[],
+        due: &[&[(1, 1, Due::Impossible), (2, 0, Due::Reached)]],
+        tickets: 2,
+    },
+    // Each read waits for the write behind the other.
+    Case {
+        name: "reads that wait for each other",
+        files: &[
+            TWO,
+            ("t1.trace", "read x 1\nwrite y 1\n"),
+            ("t2.trace", "read y 1\nwrite x 1\n"),
+        ],
+        kept: &[],
+        due: &[&[(1, 1, Due::Impossible), (2, 1, Due::Impossible)]],
+        tickets: 2,
+    },
+    // In the first window the second thread has no events, and no end. The first takes the lock there and never gives it back,
+    // so that the second stays before it in the second window.
+    Case {
+        name: "a lock that is held over a window",
+        files: &[
+            TWO_WINDOWS,
+            ("t1.trace", "acquire l\nmark\nwrite x 1\n"),
+            ("t2.trace", "mark\nwrite y 1\nacquire l\nrelease l\n"),
+        ],
+        kept: &[],
+        due: &[
+            &[(1, 0, Due::Reached)],
+            &[(1, 0, Due::Reached), (2, 2, Due::Impossible)],
+        ],
+        tickets: 3,
+    },
+    // Whoever comes first takes the lock: each can be the one, though not both.
+    Case {
+        name: "a lock that one of two takes",
+        files: &[
+            TWO,
+            ("t1.trace", "acquire l\n"),
+            ("t2.trace", "acquire l\n"),
+        ],
+        kept: &[],
+        due: &[&[(1, 0, Due::Reached), (2, 0, Due::Reached)]],
+        tickets: 2,
+    },
+    // Nobody starts the second thread.
+    Case {
+        name: "a thread that is not started",
+        files: &[
+            ONE_STARTED,
+            ("t1.trace", "write x 1\n"),
+            ("t2.trace", "write x 2\n"),
+        ],
+        kept: &[],
+        due: &[&[(1, 0, Due::Reached), (2, 0, Due::Impossible)]],
+        tickets: 2,
+    },
+    // The schedule that is kept brings the first thread to its end, and no other.
+    Case {
+        name: "a schedule that is kept",
+        files: &THREE_ENDS,
+        kept: &[(1, 0), (1, 1)],
+        due: &[&[
+            (1, 1, Due::Given(&[(1, 0), (1, 1)])),
+            (2, 0, Due::Impossible),
+            (3, 0, Due::Reached),
+        ]],
+        tickets: 2,
+    },
+    // It replays in both windows, and ends the first thread in each.
+    Case {
+        name: "a schedule that is kept in two windows",
+        files: &[
+            TWO_WINDOWS,
+            ("t1.trace", "write x 1\nmark\nwrite x 2\n"),
+            ("t2.trace", "mark\nread x 2\n"),
+        ],
+        kept: &[(1, 0)],
+        due: &[
+            &[(1, 0, Due::Given(&[(1, 0)]))],
+            &[(1, 0, Due::Given(&[(1, 0)])), (2, 0, Due::Reached)],
+        ],
+        tickets: 1,
+    },
+    // The read finds 0, so that the schedule does not replay, and gives nothing.
+    Case {
+        name: "a schedule that does not replay",
+        files: &[TWO, ("t1.trace", "write x 1\n"), ("t2.trace", "read x 1\n")],
+        kept: &[(2, 0), (1, 0)],
+        due: &[&[(1, 0, Due::Reached), (2, 0, Due::Reached)]],
+        tickets: 2,
+    },
+];
+
+#[test]
+fn one_worker_answers_each_end(rt: HostRuntime) -> Result<(), Fail> {
+    for case in CASES {
+        assert!(rt; holds(&rt, &case, 1)?, "{}", case.name);
+    }
+    Ok(())
+}
+
+#[test]
+fn two_workers_answer_each_end(rt: HostRuntime) -> Result<(), Fail> {
+    for case in CASES {
+        assert!(rt; holds(&rt, &case, 2)?, "{}", case.name);
+    }
+    Ok(())
+}
+
+// How many of the three ends are asked with this schedule, where that is too much for the budget.
+fn asked<R: AllocGlobal + Threads + Sync>(
+    rt: &R,
+    kept: Ids,
+    budget: u64,
+) -> Result<Option<u64>, Fail> {
+    let recording = recording_of(rt, &THREE_ENDS)?;
+    let question = question_of(rt.alloc(), kept)?;
+    Ok(too_much(rt, rt.alloc(), &recording, &question, budget)?)
+}
+
+// With nothing kept three ends are asked: 1,200,000 is over 1,000,000. A schedule that ends the first thread leaves two, or
+// 800,000, and one that ends the third too leaves one. One that stops before the end of the first thread, or that does not
+// replay, since the third thread reads too early, leaves three.
+const LIMITS: [(Ids, u64, Option<u64>); 6] = [
+    (&[], 400_000, Some(3)),
+    (&[(1, 0), (1, 1)], 400_000, None),
+    (&[(1, 0), (1, 1)], 600_000, Some(2)),
+    (&[(1, 0), (3, 0), (1, 1)], 600_000, None),
+    (&[(1, 0)], 400_000, Some(3)),
+    (&[(3, 0), (1, 0), (1, 1)], 400_000, Some(3)),
+];
+
+#[test]
+fn what_is_given_has_no_ticket(rt: HostRuntime) -> Result<(), Fail> {
+    for (kept, budget, due) in LIMITS {
+        assert!(rt; asked(&rt, kept, budget)? == due, "{budget}");
+    }
+    Ok(())
+}

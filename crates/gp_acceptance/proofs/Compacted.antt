@@ -117,7 +117,7 @@ windows_answered properties count budget (window ∷ windows) (own ∷ records) 
 
 pub compacted_answered : CompactKeepsAcceptance → CompactIsAnswered
 compacted_answered keeps recording properties count budget report is =
-    let accepted = (keeps.definition recording properties report).1 (answered_accepted recording properties count budget report is) in
+    let accepted = (keeps recording properties report).1 (answered_accepted recording properties count budget report is) in
     record {
       same_budget = is.same_budget;
       windows = windows_answered properties count budget (all_windows recording) report.windows is.windows

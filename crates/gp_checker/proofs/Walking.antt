@@ -1,7 +1,7 @@
 -- How far the windows of a report are checked.
 use Rattle.std.proofs.Common.{◌≡◌, refl, sym, ap, ◌∙◌, subst, ℕ, suc, ◌+◌, ◌-◌, ◌<◌, ◌≤◌, List, ◌⊎◌, inl, inr, [], ◌∷◌, Option, None, Some, length, get_or, drop, take, add-one, arith}
 use Rattle.std.specs.List.{AllZip, slice_get}
-use Rattle.std.specs.Option.{IsSomeAnd, MatchOption}
+use Rattle.std.specs.Option.{IsSomeAnd}
 use Rattle.std.proofs.lemmas.Bool.{cases_lt}
 use Rattle.std.proofs.lemmas.List.{length-drop}
 use Rattle.std.proofs.Math.Seq.{drop-cons}
@@ -86,13 +86,6 @@ module _ (r : RecordingForm) (properties : List PropertyForm) (report : ReportFo
     pub within : passed ≤ r.manifest.epochs
     pub left_is : drop passed (all_windows r) ≡ left
     pub accepted : AllZip (AcceptsWindow properties report.budget) (take passed (all_windows r)) (take passed report.windows)
-
-  -- what is found at a window: its record is accepted, or there is none, or it fails
-  abbrev pub FindsAt : WindowForm → Option Failure → Type 0
-  FindsAt window found =
-      MatchOption found (IsSomeAnd (slice_get report.windows (window.number - 1)) (AcceptsWindow properties report.budget window))
-      (λ (failure : Failure). (failure.window ≡ window.number)
-      × FailsHere (FailsWindow properties report.budget failure) (IsOfWindow WindowCount failure) (Some window) (slice_get report.windows (window.number - 1)))
 
   -- none is checked yet
   pub none_checked : (left : List WindowForm) → left ≡ all_windows r → AreChecked left

@@ -3,6 +3,8 @@ pub mod Reasons
 pub mod Accepted
 pub mod Rejected
 pub mod Checked
+pub mod Basis
+pub mod Finds
 pub mod Sound
 pub mod Laws
 pub mod FrontLaws

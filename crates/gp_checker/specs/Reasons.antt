@@ -27,3 +27,7 @@ pub record IsOfProperty (reason : Reason) (failure : Failure) : Type 0 where
 pub record IsOfWindow (reason : Reason) (failure : Failure) : Type 0 where
   pub whole : IsOfProperty reason failure
   pub no_property : failure.property ≡ 0
+
+-- the failure of a window that is missing or surplus
+abbrev pub wrong_count : ℕ → Failure
+wrong_count number = record { window = number; property = 0; instance = 0; reason = WindowCount; place = 0 }

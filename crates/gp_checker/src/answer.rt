@@ -1,43 +1,37 @@
 ghost use Rattle.std.specs.Prelude.{◌≡◌, ◌≢◌, ◌+◌, true, IfOk, MatchOption};
-ghost use Rattle.gp_constraint.specs.Base.{base_of};
 ghost use Rattle.gp_instance.specs.Instance.{is_instance};
-ghost use Rattle.gp_checker.specs.Accepted.{AcceptsAnswer};
-ghost use Rattle.gp_certificate.specs.Shared.{SharedPasses};
-ghost use Rattle.gp_checker.specs.Rejected.{FailsAnswer};
+ghost use Rattle.gp_checker.specs.Finds.{FindsAnswer};
 
-use crate::basis::Basis;
-use crate::certificate::check_certificate;
+use crate::checker::Checker;
 use crate::failure::{Failure, Reason};
 use crate::schedule::check_schedule;
-use gp_certificate::Judge;
 use gp_instance::Instance;
 use gp_property::Property;
 use gp_report::Answer;
 use std::alloc::{AllocError, Global};
 
-// How the answer to an instance fails.
-pub(crate) fn check_answer(
-    alloc: Global,
-    basis: &Basis,
-    judge: &mut Judge,
-    property: &Property,
-    instance: &Instance,
-    answer: &Answer,
-) -> Result<Option<Failure>, AllocError>
-    requires shares { SharedPasses (base_of basis.now.encoded.now) basis.now.shared.now }
-    requires judge { judge.old ≡ base_of basis.now.encoded.now }
-    requires instance { is_instance basis.now.encoded.now property.now instance.now.events ≡ true }
-    ensures found { IfOk result (λ found. MatchOption found (AcceptsAnswer basis.now.encoded.now basis.now.budget basis.now.shared.now property.now instance.now.events answer.now) (λ failure. FailsAnswer basis.now.encoded.now basis.now.budget basis.now.shared.now property.now instance.now.events answer.now failure.reason failure.place)) }
-    ensures same { judge.new ≡ judge.old }
-{
-    match answer {
-        Answer::Found(schedule) => {
-            check_schedule(alloc, basis.encoded.window(), property, instance, schedule)
+impl<'a> Checker<'a> {
+    // How the answer to an instance fails.
+    pub(crate) fn check_answer(
+        &mut self,
+        alloc: Global,
+        property: &Property,
+        instance: &Instance,
+        answer: &Answer,
+    ) -> Result<Option<Failure>, AllocError>
+        requires { is_instance self.old.window property.now instance.now.events ≡ true }
+        ensures found { IfOk result (FindsAnswer self.old property.now instance.now.events answer.now) }
+        ensures same { self.new ≡ self.old }
+    {
+        match answer {
+            Answer::Found(schedule) => {
+                check_schedule(alloc, self.window(), property, instance, schedule)
+            }
+            Answer::Impossible(certificate) => {
+                self.check_certificate(alloc, property, instance, certificate)
+            }
+            Answer::Undecided { from, to, .. } => Ok(check_budget(self.budget(), *from, *to)),
         }
-        Answer::Impossible(certificate) => {
-            check_certificate(alloc, basis, judge, property, instance, certificate)
-        }
-        Answer::Undecided { from, to, .. } => Ok(check_budget(basis.budget, *from, *to)),
     }
 }
 

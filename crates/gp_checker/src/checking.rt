@@ -1,9 +1,7 @@
-ghost use Rattle.std.specs.Prelude.{◌≡◌, ◌+◌, ◌-◌, ◌<◌, ◌≤◌, IfOk, IsSomeAnd, MatchOption, Some, length, slice_get};
-ghost use Rattle.gp_checker.specs.Accepted.{AcceptsWindow};
+ghost use Rattle.std.specs.Prelude.{◌≡◌, ◌+◌, ◌<◌, ◌≤◌, IfOk, length};
 ghost use Rattle.gp_checker.specs.Checked.{IsChecked};
-ghost use Rattle.gp_checker.specs.First.{FailsHere};
-ghost use Rattle.gp_checker.specs.Reasons.{IsOfWindow};
-ghost use Rattle.gp_checker.specs.Rejected.{FailsWindow};
+ghost use Rattle.gp_checker.specs.Finds.{FindsAt};
+ghost use Rattle.gp_checker.specs.Reasons.{wrong_count};
 
 use crate::failure::{Checked, Failure, Reason};
 use crate::window::check_window;
@@ -39,7 +37,7 @@ fn check_at(
     report: &Report,
 ) -> Result<Option<Failure>, AllocError>
     requires { length properties.now ≤ 64 }
-    ensures { IfOk result (λ found. MatchOption found (IsSomeAnd (slice_get report.now.windows (window.number - 1)) (AcceptsWindow properties.now report.now.budget window)) (λ failure. (failure.window ≡ window.number) × FailsHere (FailsWindow properties.now report.now.budget failure) (IsOfWindow Reason.WindowCount failure) (Some window) (slice_get report.now.windows (window.number - 1)))) }
+    ensures { IfOk result (FindsAt properties.now report.now window) }
 {
     let number = window.number();
     let Some(told) = report.windows().get(number as usize - 1) else {
@@ -55,7 +53,7 @@ fn check_at(
 }
 
 fn wrong_count(number: u32) -> Failure
-    ensures { result ≡ record { window = number; property = 0; instance = 0; reason = Reason.WindowCount; place = 0 } }
+    ensures { result ≡ wrong_count number }
 {
     Failure {
         window: number,
@@ -67,7 +65,7 @@ fn wrong_count(number: u32) -> Failure
 fn at_end(number: u32, count: usize) -> Checked
     requires { number ≤ 4096 }
     ensures last { count ≤ number → result ≡ Checked.Accepted }
-    ensures more { number < count → result ≡ Checked.Rejected (record { window = number + 1; property = 0; instance = 0; reason = Reason.WindowCount; place = 0 }) }
+    ensures more { number < count → result ≡ Checked.Rejected (wrong_count (number + 1)) }
 {
     if (number as usize) < count {
         return Checked::Rejected(wrong_count(number + 1));

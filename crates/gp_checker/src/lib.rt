@@ -6,8 +6,8 @@
 #![tactic(auto)]
 
 mod answer;
-mod basis;
 mod certificate;
+mod checker;
 mod checking;
 mod entries;
 mod failure;

@@ -1,8 +1,7 @@
-ghost use Rattle.std.specs.Prelude.{◌≡◌, true, false, IfOk, MatchOption};
+ghost use Rattle.std.specs.Prelude.{◌≡◌, true, IfOk};
 ghost use Rattle.gp_instance.specs.Instance.{is_instance};
-ghost use Rattle.gp_instance.specs.Matches.{matches_events};
 ghost use Rattle.gp_replay.specs.Feasible.{IsFeasible};
-ghost use Rattle.gp_checker.specs.Rejected.{FailsSchedule};
+ghost use Rattle.gp_checker.specs.Finds.{FindsSchedule};
 
 use crate::failure::{Failure, Reason};
 use crate::laws::laws;
@@ -21,7 +20,7 @@ pub(crate) fn check_schedule(
     schedule: &Schedule,
 ) -> Result<Option<Failure>, AllocError>
     requires { is_instance window.now property.now instance.now.events ≡ true }
-    ensures { IfOk result (λ found. MatchOption found (IsFeasible window.now schedule.now.events × (matches_events property.now instance.now.events schedule.now.events ≡ true)) (λ failure. FailsSchedule window.now property.now instance.now.events schedule.now.events failure.reason failure.place)) }
+    ensures { IfOk result (FindsSchedule window.now property.now instance.now.events schedule.now.events) }
 {
     laws();
     match replay(alloc, window, schedule) {
@@ -43,7 +42,7 @@ fn check_match(
 ) -> Option<Failure>
     requires instance { is_instance window.now property.now instance.now.events ≡ true }
     requires feasible { IsFeasible window.now schedule.now.events }
-    ensures { MatchOption result (IsFeasible window.now schedule.now.events × (matches_events property.now instance.now.events schedule.now.events ≡ true)) (λ failure. FailsSchedule window.now property.now instance.now.events schedule.now.events failure.reason failure.place) }
+    ensures { FindsSchedule window.now property.now instance.now.events schedule.now.events result }
 {
     property.keeps_rules();
     laws();

@@ -1,15 +1,12 @@
-ghost use Rattle.std.specs.Prelude.{◌≡◌, ◌≤◌, ◌↔◌, IsTrue, IfOk, MatchOption, length, Ok};
-ghost use Rattle.gp_constraint.specs.Base.{base_of};
+ghost use Rattle.std.specs.Prelude.{◌≡◌, ◌≤◌, ◌↔◌, IsTrue, IfOk, MatchOption, length};
 ghost use Rattle.gp_report.specs.declared.record.WindowBodyOf.TheVariants.{Answers};
-ghost use Rattle.gp_checker.specs.Accepted.{AcceptsBody, AcceptsWindow, HasSize};
+ghost use Rattle.gp_checker.specs.Accepted.{HasSize};
+ghost use Rattle.gp_checker.specs.Finds.{FindsBody, FindsWindow};
 ghost use Rattle.gp_checker.specs.Reasons.{IsOfWindow};
-ghost use Rattle.gp_checker.specs.Rejected.{FailsBody, FailsWindow};
 
-use crate::basis::Basis;
+use crate::checker::Checker;
 use crate::failure::{Failure, Reason};
-use crate::laws::laws;
-use crate::properties::check_properties;
-use gp_certificate::Judge;
+use gp_certificate::{Judge, Step};
 use gp_constraint::{BaseFault, Encoded, base};
 use gp_property::Property;
 use gp_report::{PropertyRecord, WindowBody, WindowRecord};
@@ -25,7 +22,7 @@ pub(crate) fn check_window(
     told: &WindowRecord,
 ) -> Result<Option<Failure>, AllocError>
     requires { length properties.now ≤ 64 }
-    ensures { IfOk result (λ found. MatchOption found (AcceptsWindow properties.now budget window told.now) (λ failure. FailsWindow properties.now budget failure window told.now)) }
+    ensures { IfOk result (FindsWindow properties.now budget window told.now) }
 {
     match base(alloc, window) {
         Ok(encoded) => check_answers(alloc, &encoded, properties, budget, told),
@@ -67,17 +64,20 @@ fn check_answers(
     told: &WindowRecord,
 ) -> Result<Option<Failure>, AllocError>
     requires { length properties.now ≤ 64 }
-    ensures { IfOk result (λ found. MatchOption found (AcceptsBody encoded.now budget properties.now told.now.shared (Ok encoded.now) told.now.body) (λ failure. FailsBody encoded.now budget properties.now told.now.shared failure (Ok encoded.now) told.now.body)) }
+    ensures { IfOk result (FindsBody (record { window = encoded.now; budget = budget; shared = told.now.shared }) properties.now told.now.body) }
 {
-    let basis = Basis {
-        encoded,
-        shared: told.shared.as_slice(),
-        budget,
-    };
     match &told.body {
         WindowBody::TooLarge { .. } => Ok(Some(Failure::of(Reason::WrongSize, 0))),
         WindowBody::Answers(records) => {
-            check_records(alloc, &basis, properties, records.as_slice())
+            let shared = told.shared.as_slice();
+            check_records(
+                alloc,
+                encoded,
+                properties,
+                budget,
+                shared,
+                records.as_slice(),
+            )
         }
     }
 }
@@ -85,33 +85,19 @@ fn check_answers(
 // How the shared steps or the records of the properties fail.
 fn check_records(
     alloc: Global,
-    basis: &Basis,
+    encoded: &Encoded,
     properties: &[Property],
+    budget: u64,
+    shared: &[Step],
     records: &[PropertyRecord],
 ) -> Result<Option<Failure>, AllocError>
     requires { length properties.now ≤ 64 }
-    ensures { IfOk result (λ found. MatchOption found (AcceptsBody basis.now.encoded.now basis.now.budget properties.now basis.now.shared.now (Ok basis.now.encoded.now) (Answers records.now)) (λ failure. FailsBody basis.now.encoded.now basis.now.budget properties.now basis.now.shared.now failure (Ok basis.now.encoded.now) (Answers records.now))) }
+    ensures { IfOk result (FindsBody (record { window = encoded.now; budget = budget; shared = shared.now }) properties.now (Answers records.now)) }
 {
-    laws();
-    let mut judge = Judge::new(alloc, basis.encoded.problem())?;
-    judge_records(alloc, basis, &mut judge, properties, records)
-}
-
-// The same, by the judge of the window's problem.
-fn judge_records(
-    alloc: Global,
-    basis: &Basis,
-    judge: &mut Judge,
-    properties: &[Property],
-    records: &[PropertyRecord],
-) -> Result<Option<Failure>, AllocError>
-    requires few { length properties.now ≤ 64 }
-    requires judge { judge.old ≡ base_of basis.now.encoded.now }
-    ensures { IfOk result (λ found. MatchOption found (AcceptsBody basis.now.encoded.now basis.now.budget properties.now basis.now.shared.now (Ok basis.now.encoded.now) (Answers records.now)) (λ failure. FailsBody basis.now.encoded.now basis.now.budget properties.now basis.now.shared.now failure (Ok basis.now.encoded.now) (Answers records.now))) }
-{
-    let problem = basis.encoded.problem();
-    if let Some(place) = judge.first_shared_to_fail(problem, basis.shared)? {
+    let mut judge = Judge::new(alloc, encoded.problem())?;
+    if let Some(place) = judge.first_shared_to_fail(encoded.problem(), shared)? {
         return Ok(Some(Failure::of(Reason::BadSharedStep, place)));
     }
-    check_properties(alloc, basis, judge, properties, records)
+    let mut checker = Checker::new(encoded, budget, shared, judge);
+    checker.check_properties(alloc, properties, records)
 }

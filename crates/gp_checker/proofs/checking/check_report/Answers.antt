@@ -2,7 +2,8 @@
 use Rattle.std.proofs.Common.{◌≡◌, ◌∙◌, subst, ap, List, ◌∷◌, length}
 use Rattle.gp_report.specs.Records.{WindowRecord}
 use Rattle.gp_window.specs.Windows.{TakesFirst}
-use Rattle.gp_checker.proofs.Walking.{FindsAt, all_checked, none_checked, window_accepted, window_rejected}
+use Rattle.gp_checker.specs.Finds.{FindsAt}
+use Rattle.gp_checker.proofs.Walking.{all_checked, none_checked, window_accepted, window_rejected}
 use Rattle.gp_checker.proofs.checking.check_report.Goals as goal
 
 pub loop-left-init : goal.loop-left-init
@@ -15,7 +16,7 @@ returns-in-Some-2 c =
     let report = c.args.report.now in
     let first : c.loop-left.left ≡ c.in-Some.window ∷ c.next.new.self = subst (λ window. TakesFirst c.loop-left.left window c.next.new.self) c.in-Some.is c.in_ok-window.ensures in
     window_rejected r properties report c.loop-left.left c.next.new.self c.in-Some.window c.in-Some-2.failure c.loop-left.invariant first
-    (subst (FindsAt r properties report c.in-Some.window) c.in-Some-2.is c.in_ok-failure.ensures)
+    (subst (FindsAt properties report c.in-Some.window) c.in-Some-2.is c.in_ok-failure.ensures)
 
 pub loop-left-preserved : goal.loop-left-preserved
 loop-left-preserved c =
@@ -24,7 +25,7 @@ loop-left-preserved c =
     let report = c.args.report.now in
     let first : c.loop-left.left ≡ c.in-Some.window ∷ c.next.new.self = subst (λ window. TakesFirst c.loop-left.left window c.next.new.self) c.in-Some.is c.in_ok-window.ensures in
     window_accepted r properties report c.loop-left.left c.next.new.self c.in-Some.window c.loop-left.invariant first
-    (subst (FindsAt r properties report c.in-Some.window) c.in_default-2.is c.in_ok-failure.ensures)
+    (subst (FindsAt properties report c.in-Some.window) c.in_default-2.is c.in_ok-failure.ensures)
 
 pub returns : goal.returns
 returns c =

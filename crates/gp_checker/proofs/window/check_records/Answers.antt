@@ -1,0 +1,23 @@
+use Rattle.std.proofs.Common.{subst, Option}
+use Rattle.std.proofs.lemmas.Option.{MatchOption-at_none}
+use Rattle.std.proofs.lemmas.Result.{IfOk-weaker}
+use Rattle.gp_clause.specs.declared.problem.Problem.{Problem}
+use Rattle.gp_certificate.specs.Shared.{FirstFails, SharedPasses}
+use Rattle.gp_report.specs.declared.record.WindowBodyOf.TheVariants.{Answers}
+use Rattle.gp_checker.specs.declared.failure.Failure.{Failure}
+use Rattle.gp_checker.specs.Basis.{Basis}
+use Rattle.gp_checker.specs.Finds.{FindsBody, FindsProperties}
+use Rattle.gp_checker.proofs.Finds.{body_found}
+use Rattle.gp_checker.proofs.window.check_records.Goals as goal
+
+pub returns : goal.returns
+returns c =
+    let properties = c.args.properties.now in
+    let records = c.args.records.now in
+    let shared = c.args.shared.now in
+    let problem : Problem = c.problem-2.result.now in
+    let basis : Basis = record { window = c.args.encoded.now; budget = c.args.budget; shared = c.args.shared.now } in
+    let passes = MatchOption-at_none (SharedPasses problem shared) (FirstFails problem shared) c.in_default.is c.in_ok-place.ensures.first in
+    let shares = subst (λ (base : Problem). SharedPasses base c.args.shared.now) c.problem-2.ensures.problem passes in
+    IfOk-weaker c.check_properties.result (FindsProperties c.new-checker.result properties records) (FindsBody basis properties (Answers records))
+    (λ (found : Option Failure) finds. body_found basis properties records shares found (subst (λ (own : Basis). FindsProperties own properties records found) c.new-checker.ensures finds)) c.check_properties.ensures.found

@@ -13,7 +13,7 @@ use Rattle.gp_instance.specs.declared.instance.InstancesFault.TheVariants.{TooMa
 use Rattle.gp_instance.specs.Instances.{due_instances}
 use Rattle.gp_patterns.specs.Tickets.{properties_count}
 use Rattle.gp_predict.specs.declared.reply.Reply.{Reply}
-use Rattle.gp_predict.specs.declared.listing.ToList.{ToList}
+use Rattle.gp_predict.specs.declared.to_list.ToList.{ToList}
 use Rattle.gp_predict.specs.declared.listing.Listing.{Listing}
 use Rattle.gp_predict.specs.Content.{content_at, recording_at}
 use Rattle.gp_predict.specs.Lines.{instance_line, property_line, total_line, window_line}

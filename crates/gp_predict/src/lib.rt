@@ -26,6 +26,7 @@ mod reporting;
 mod results;
 mod stop;
 mod submission;
+mod to_list;
 mod top;
 mod verdict;
 mod writing;

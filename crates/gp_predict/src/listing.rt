@@ -15,14 +15,12 @@ ghost use Rattle.gp_window.specs.Gives.{Gives};
 
 use crate::content::{content_at, recording_at};
 use crate::lines::{instance_line, property_line, window_line};
-use crate::outcome::Outcome;
 use crate::refusal::Refusal;
-use crate::results::Tells;
 use crate::stop::Stop;
-use crate::writing::put_listing;
+use crate::to_list::ToList;
 use gp_base::Row;
 use gp_instance::{Instance, InstancesFault, instances};
-use gp_outside::{Folder, PutFault, Sink};
+use gp_outside::Folder;
 use gp_property::{Property, PropertyFault, read_properties, reads_exactly};
 use gp_text::Name;
 use gp_window::{FileName, Recording, Window};
@@ -34,27 +32,6 @@ use std::thread::Threads;
 pub struct Listing {
     pub recording: Recording,
     pub properties: Row<Property>,
-}
-
-/// What is to be listed. Its text is made window by window while it is written.
-#[derive(Debug, Drop)]
-pub struct ToList {
-    pub listing: Listing,
-    ghost few: { length listing.properties ≤ 64 },
-}
-
-impl Tells for ToList {
-    ghost use Rattle.gp_predict.specs.Listing.{of_to_list};
-
-    ghost told = { of_to_list };
-
-    fn put<S: Sink>(&self, alloc: Global, sink: &mut S) -> Result<(), PutFault> {
-        put_listing(alloc, sink, &self.listing)
-    }
-
-    fn end(self) -> Outcome {
-        Outcome::of(0)
-    }
 }
 
 /// Task list: what is to be listed.

@@ -1,5 +1,5 @@
 -- The compact form of a report that is answered is answered: it is accepted, and but for steps it says what was said.
-use Rattle.std.proofs.Common.{◌≡◌, subst, ℕ, ◌+◌, Bool, true, false, List, [], ◌∷◌, Result, Ok, Err, map, if◌then◌else◌}
+use Rattle.std.proofs.Common.{subst, ℕ, ◌+◌, Bool, true, false, List, [], ◌∷◌, Result, Ok, Err, map, if◌then◌else◌}
 use Rattle.std.specs.List.{AllZip, enumerate_from}
 use Rattle.gp_constraint.specs.declared.fault.BaseFault.{BaseFault}
 use Rattle.gp_constraint.specs.Base.{base_of}

@@ -1,0 +1,3 @@
+pub mod Linked
+pub mod Whole
+pub mod WholeLaws

@@ -1,0 +1,9 @@
+pub mod Written
+pub mod Writes
+pub mod Fit
+pub mod Whole
+pub mod Sound
+pub mod Answered
+pub mod LastWrites
+pub mod Complete
+pub mod Answering

@@ -7,3 +7,4 @@ pub mod Answered
 pub mod LastWrites
 pub mod Complete
 pub mod Answering
+pub mod Due

@@ -1,0 +1,9 @@
+pub mod Due
+pub mod Spent
+pub mod Answered
+pub mod Drawn
+pub mod Replayed
+pub mod Report
+pub mod Kinds
+pub mod Printed
+pub mod Status

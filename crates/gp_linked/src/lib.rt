@@ -1,0 +1,17 @@
+// Answers to which windows are linked: of each window of a recording but the last, whether it can run wholly and end in the
+// start values of the next. One search is asked whether the problem of both has an answer. A model gives a schedule that links
+// the two, a refutation is a certificate that none does, and a search that spent its budget leaves its log. Windows are asked
+// side by side.
+#![tactic(auto)]
+
+mod answer;
+mod printing;
+mod recording;
+mod replaying;
+mod status;
+
+pub use answer::{LinkAnswer, LinkReport};
+pub use printing::print_links;
+pub use recording::link_recording;
+pub use replaying::linked_windows_replay;
+pub use status::status_of;

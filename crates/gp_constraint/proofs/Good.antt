@@ -18,9 +18,9 @@ use Rattle.gp_constraint.specs.declared.symbol.Symbol.{Symbol}
 use Rattle.gp_constraint.specs.declared.symbol.Symbol.TheVariants.{Executed, Last, Order, Signal}
 use Rattle.gp_constraint.specs.declared.symbol.SymbolicLit.{SymbolicLit}
 use Rattle.gp_constraint.specs.declared.term.Term.{Term}
-use Rattle.gp_constraint.specs.declared.term.Term.TheVariants.{Always, Never, Literal}
 use Rattle.gp_constraint.specs.Base.{clauses_of}
 use Rattle.gp_base.specs.ListLaws.{contains_found, recursion_append, recursion_flat_map}
+use Rattle.gp_constraint.specs.FitLaws.{each_either, each_lit, each_unless, each_when, few_lits, OfLit}
 use Rattle.gp_constraint.specs.HeldLocks.{held_apart}
 use Rattle.gp_constraint.specs.Joins.{ended, is_last_of, join_of, joined_by, joins}
 use Rattle.gp_constraint.specs.PointLaws.{one_point, point_within}
@@ -55,45 +55,20 @@ abbrev pub AreGood : ℕ → List (List SymbolicLit) → Type 0
 AreGood n clauses = AllByRecursion (IsGood n) clauses
 
 abbrev IsGoodTerm : ℕ → Term → Type 0
-IsGoodTerm n Always = Unit {0}
-IsGoodTerm n Never = Unit {0}
-IsGoodTerm n (Literal lit) = IsValidSymbol n lit.symbol
+IsGoodTerm n term = OfLit (λ (lit : SymbolicLit). IsValidSymbol n lit.symbol) term
 
 abbrev AreGoodTerms : ℕ → List Term → Type 0
 AreGoodTerms n terms = AllByRecursion (IsGoodTerm n) terms
-
-good_unless : (n : ℕ) (b : Bool) (clauses : List (List SymbolicLit)) → AreGood n clauses → AreGood n (if b then [] else clauses)
-good_unless n true clauses h = tt
-good_unless n false clauses h = h
-
-good_when : (n : ℕ) (b : Bool) (clauses : List (List SymbolicLit)) → AreGood n clauses → AreGood n (if b then clauses else [])
-good_when n true clauses h = h
-good_when n false clauses h = tt
-
-good_either : (n : ℕ) (b : Bool) (clauses others : List (List SymbolicLit)) → AreGood n clauses → AreGood n others → AreGood n (if b then clauses else others)
-good_either n true clauses others h k = h
-good_either n false clauses others h k = k
 
 good_term : (n : ℕ) (b : Bool) (x y : Term) → (b ≡ true → IsGoodTerm n x) → (b ≡ false → IsGoodTerm n y) → IsGoodTerm n (if b then x else y)
 good_term n true x y h k = h refl
 good_term n false x y h k = k refl
 
-few_lits : (terms : List Term) → length (flat_map lit_of terms) ≤ length terms
-few_lits [] = omega arith
-few_lits (Always ∷ terms) = let rest = few_lits terms in omega (arith, rest)
-few_lits (Never ∷ terms) = let rest = few_lits terms in omega (arith, rest)
-few_lits (Literal lit ∷ terms) = let rest = few_lits terms in omega (arith, rest)
-
-good_lits : (n : ℕ) (terms : List Term) → AreGoodTerms n terms → AreValidLits n (flat_map lit_of terms)
-good_lits n [] h = tt
-good_lits n (Always ∷ terms) h = good_lits n terms h.1
-good_lits n (Never ∷ terms) h = good_lits n terms h.1
-good_lits n (Literal lit ∷ terms) h = (h.0, good_lits n terms h.1)
-
 good_simplified : (n : ℕ) (terms : List Term) → length terms ≤ 2052 → AreGoodTerms n terms → AreGood n (simplified terms)
 good_simplified n terms short h =
     let few = few_lits terms in
-    good_unless n (list_any is_always terms) (flat_map lit_of terms ∷ []) ((omega (arith, few, short), good_lits n terms h), tt)
+    let valid : AreValidLits n (flat_map lit_of terms) = each_lit (λ (lit : SymbolicLit). IsValidSymbol n lit.symbol) terms h in
+    each_unless (IsGood n) (list_any is_always terms) (flat_map lit_of terms ∷ []) ((omega (arith, few, short), valid), tt)
 
 good_constant : (n : ℕ) (b : Bool) → IsGoodTerm n (constant b)
 good_constant n true = tt
@@ -162,7 +137,7 @@ good_choices window r few =
     let some = few_choices r points in
     let one = at_most (finds_at_start window r.action) (start_chosen r true) in
     let joined = length-append terms last in
-    good_when n (is_read r.action) (simplified (executed r false ∷ terms ++ last))
+    each_when (IsGood n) (is_read r.action) (simplified (executed r false ∷ terms ++ last))
     (good_simplified n (executed r false ∷ terms ++ last) (omega (arith, few, some, one, joined)) (
       tt,
       recursion_append (IsGoodTerm n) terms last (recursion_flat_map (IsGoodTerm n) (choice r) points (λ w i. good_one n (is_choice r w) (chosen r w true) tt))
@@ -178,12 +153,12 @@ good_seen window r w i j =
     let one : List (List SymbolicLit) = simplified (not_chosen ∷ executed w true ∷ []) in
     let two : List (List SymbolicLit) = simplified (not_chosen ∷ before w r ∷ []) in
     let three : List (List SymbolicLit) = flat_map (kept_apart r w) points in
-    good_when n (is_choice r w) ((one ++ two) ++ three)
+    each_when (IsGood n) (is_choice r w) ((one ++ two) ++ three)
     (recursion_append (IsGood n) (one ++ two) three
     (recursion_append (IsGood n) one two (good_simplified n (not_chosen ∷ executed w true ∷ []) (omega arith) (tt, (tt, tt)))
     (good_simplified n (not_chosen ∷ before w r ∷ []) (omega arith) (tt, (good_before window w r j i, tt))))
     (recursion_flat_map (IsGood n) (kept_apart r w) points (λ other k.
-    good_when n (is_rival r.action other.action) (simplified (not_chosen ∷ executed other false ∷ before other w ∷ before r other ∷ []))
+    each_when (IsGood n) (is_rival r.action other.action) (simplified (not_chosen ∷ executed other false ∷ before other w ∷ before r other ∷ []))
     (good_simplified n (not_chosen ∷ executed other false ∷ before other w ∷ before r other ∷ []) (omega arith)
     (tt, (tt, (good_before window other w k j, (good_before window r other i k, tt))))))))
 
@@ -191,7 +166,7 @@ good_start : (window : WindowForm) (r other : Point) → Contains (points_of win
     → AreGood (length (points_of window)) (kept_later window r other)
 good_start window r other i k =
     let n : ℕ = length (points_of window) in
-    good_when n (finds_at_start window r.action && is_rival r.action other.action) (simplified (start_chosen r false ∷ executed other false ∷ before r other ∷ []))
+    each_when (IsGood n) (finds_at_start window r.action && is_rival r.action other.action) (simplified (start_chosen r false ∷ executed other false ∷ before r other ∷ []))
     (good_simplified n (start_chosen r false ∷ executed other false ∷ before r other ∷ []) (omega arith) (tt, (tt, (good_before window r other i k, tt))))
 
 good_either_order : (window : WindowForm) (a : Point) (mode : LockMode) (c : Point) (other : LockMode) (lock : List ℕ) → Contains (points_of window) a → Contains (points_of window) c
@@ -208,7 +183,7 @@ good_either_order window a mode c other lock i j =
 good_apart : (window : WindowForm) (a c : Point) (one two : Action) → Contains (points_of window) a → Contains (points_of window) c
     → AreGood (length (points_of window)) (apart (points_of window) a c one two)
 good_apart window a c (action.Lock (Take mode lock)) (action.Lock (Take other again)) i j =
-    good_when (length (points_of window)) (bytes_eq lock again && (exclude mode other && nat_lt a.id.thread c.id.thread))
+    each_when (IsGood (length (points_of window))) (bytes_eq lock again && (exclude mode other && nat_lt a.id.thread c.id.thread))
     (in_either_order (points_of window) a mode c other lock) (good_either_order window a mode c other lock i j)
 good_apart window a c (action.Lock (Take mode lock)) (action.Lock (GiveBack other again)) i j = tt
 good_apart window a c (action.Lock (Take mode lock)) (action.Read name value) i j = tt
@@ -229,13 +204,13 @@ good_ended window j thread i =
     let points : List Point = points_of window in
     let n : ℕ = length points in
     let start : List (List SymbolicLit) = needs j (find (is_start_of thread) points) in
-    good_either n (size_of window thread == 0) (if is_among window.started thread then [] else start) (needs j (find (is_last_of window thread) points))
-    (good_unless n (is_among window.started thread) start (good_needs window (is_start_of thread) j i)) (good_needs window (is_last_of window thread) j i)
+    each_either (IsGood n) (size_of window thread == 0) (if is_among window.started thread then [] else start) (needs j (find (is_last_of window thread) points))
+    (each_unless (IsGood n) (is_among window.started thread) start (good_needs window (is_start_of thread) j i)) (good_needs window (is_last_of window thread) j i)
 
 good_join : (window : WindowForm) (j : Point) (does : Action) → Contains (points_of window) j → AreGood (length (points_of window)) (joined_by window (points_of window) j does)
 good_join window j (action.Join thread) i =
     let n : ℕ = length (points_of window) in
-    good_either n (is_among window.exited thread) (ended window (points_of window) j thread) (simplified (executed j false ∷ []))
+    each_either (IsGood n) (is_among window.exited thread) (ended window (points_of window) j thread) (simplified (executed j false ∷ []))
     (good_ended window j thread i) (good_simplified n (executed j false ∷ []) (omega arith) (tt, tt))
 good_join window j (action.Read name value) i = tt
 good_join window j (action.Write name value) i = tt
@@ -246,7 +221,7 @@ good_join window j action.Other i = tt
 good_held : (window : WindowForm) (hold : Holding) (c : Point) → Contains (points_of window) c → AreGood (length (points_of window)) (held_apart (points_of window) hold c)
 good_held window hold c i =
     let points : List Point = points_of window in
-    good_when (length points) (takes_against hold.1 hold.0.0 c.action && not (c.id.thread == hold.0.1))
+    each_when (IsGood (length points)) (takes_against hold.1 hold.0.0 c.action && not (c.id.thread == hold.0.1))
     (needs c (find (ends_hold hold.1 hold.0.0 hold.0.1 0) points)) (good_needs window (ends_hold hold.1 hold.0.0 hold.0.1 0) c i)
 
 pub good_families : (window : WindowForm) → length (points_of window) ≤ 2048 → AreGood (length (points_of window)) (clauses_of window)
@@ -254,10 +229,10 @@ good_families window few =
     let points : List Point = points_of window in
     let n : ℕ = length points in
     let c1 = recursion_flat_map (IsGood n) linked points (λ f i.
-    good_unless n (f.id.index == 0) (simplified (executed f false ∷ literal (Executed (f.number - 1)) true ∷ []))
+    each_unless (IsGood n) (f.id.index == 0) (simplified (executed f false ∷ literal (Executed (f.number - 1)) true ∷ []))
     (good_simplified n (executed f false ∷ literal (Executed (f.number - 1)) true ∷ []) (omega arith) (tt, (tt, tt)))) in
     let c2 = recursion_flat_map (IsGood n) (start_of window points) points (λ f i.
-    good_when n (f.id.index == 0 && not (is_among window.started f.id.thread)) (needs f (find (is_start_of f.id.thread) points))
+    each_when (IsGood n) (f.id.index == 0 && not (is_among window.started f.id.thread)) (needs f (find (is_start_of f.id.thread) points))
     (good_needs window (is_start_of f.id.thread) f i)) in
     let c3 = recursion_flat_map (IsGood n) (join_of window points) points (λ j i. good_join window j j.action i) in
     let c4 = recursion_flat_map (IsGood n) (choices_of window points) points (λ r i. good_choices window r few) in

@@ -24,6 +24,7 @@ use Rattle.gp_constraint.specs.declared.term.Term.TheVariants.{Always, Never, Li
 use Rattle.gp_constraint.specs.Action.{action_of}
 use Rattle.gp_constraint.specs.Base.{clauses_of}
 use Rattle.gp_base.specs.ListLaws.{contains_found, Pairwise, recursion_append, recursion_at, recursion_flat_map, recursion_from_each}
+use Rattle.gp_constraint.specs.FitLaws.{each_either, each_unless}
 use Rattle.gp_constraint.specs.HeldLocks.{held_apart}
 use Rattle.gp_constraint.specs.Joins.{ended, is_last_of, join_of, joined_by}
 use Rattle.gp_constraint.specs.PointLaws.{one_point, points_named}
@@ -110,10 +111,6 @@ executed_fits window p q i j differ = λ same. absurd (differ (one_point window 
 tags_fit : (a b : Symbol) (positive other : Bool) → (tag_of a ≡ tag_of b → ⊥) → Fits (literal a positive) (literal b other)
 tags_fit a b positive other differ = λ same. absurd (differ (ap tag_of same))
 
-signed_unless : (b : Bool) (clauses : List (List SymbolicLit)) → AreSigned clauses → AreSigned (if b then [] else clauses)
-signed_unless true clauses h = tt
-signed_unless false clauses h = h
-
 signed_when : (b : Bool) (clauses : List (List SymbolicLit)) → (b ≡ true → AreSigned clauses) → AreSigned (if b then clauses else [])
 signed_when true clauses h = h refl
 signed_when false clauses h = tt
@@ -121,10 +118,6 @@ signed_when false clauses h = tt
 signed_later : (b : Bool) (clauses : List (List SymbolicLit)) → (b ≡ false → AreSigned clauses) → AreSigned (if b then [] else clauses)
 signed_later true clauses h = tt
 signed_later false clauses h = h refl
-
-signed_either : (b : Bool) (clauses others : List (List SymbolicLit)) → AreSigned clauses → AreSigned others → AreSigned (if b then clauses else others)
-signed_either true clauses others h k = h
-signed_either false clauses others h k = k
 
 agree_lits : (l : SymbolicLit) (terms : List Term) → AllByRecursion (Fits (Literal l)) terms → AllByRecursion (Agree l) (flat_map lit_of terms)
 agree_lits l [] h = tt
@@ -139,7 +132,7 @@ signed_lits (Never ∷ terms) h = signed_lits terms h.1
 signed_lits (Literal l ∷ terms) h = (agree_lits l terms h.0, signed_lits terms h.1)
 
 signed : (terms : List Term) → Pairwise Fits terms → AreSigned (simplified terms)
-signed terms h = signed_unless (list_any is_always terms) (flat_map lit_of terms ∷ []) (signed_lits terms h, tt)
+signed terms h = each_unless (Pairwise Agree) (list_any is_always terms) (flat_map lit_of terms ∷ []) (signed_lits terms h, tt)
 
 two : (x y : Term) → Fits x y → Pairwise Fits (x ∷ y ∷ [])
 two x y h = ((h, tt), (tt, tt))
@@ -232,9 +225,9 @@ signed_ended : (window : WindowForm) → IsFormed window → (j : Point) → Con
     → AreSigned (ended window (points_of window) j thread)
 signed_ended window w j i thread joins =
     let points : List Point = points_of window in
-    signed_either (size_of window thread == 0) (if is_among window.started thread then [] else needs j (find (is_start_of thread) points))
+    each_either (Pairwise Agree) (size_of window thread == 0) (if is_among window.started thread then [] else needs j (find (is_start_of thread) points))
     (needs j (find (is_last_of window thread) points))
-    (signed_unless (is_among window.started thread) (needs j (find (is_start_of thread) points))
+    (each_unless (Pairwise Agree) (is_among window.started thread) (needs j (find (is_start_of thread) points))
     (signed_needs window j (is_start_of thread) i (λ s k starts same.
     join_no_start thread thread (sym joins ∙ ap (λ (p : Point). p.action) same ∙ start_is thread s.action starts))))
     (signed_needs window j (is_last_of window thread) i (λ g k found same.
@@ -245,7 +238,7 @@ signed_ended window w j i thread joins =
 signed_join : (window : WindowForm) → IsFormed window → (j : Point) → Contains (points_of window) j → (action : Action) → j.action ≡ action
     → AreSigned (joined_by window (points_of window) j action)
 signed_join window w j i (Join thread) is =
-    signed_either (is_among window.exited thread) (ended window (points_of window) j thread) (simplified (executed j false ∷ []))
+    each_either (Pairwise Agree) (is_among window.exited thread) (ended window (points_of window) j thread) (simplified (executed j false ∷ []))
     (signed_ended window w j i thread is) (signed (executed j false ∷ []) (one (executed j false)))
 signed_join window w j i (Read variable value) is = tt
 signed_join window w j i (Write variable value) is = tt

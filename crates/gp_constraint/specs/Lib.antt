@@ -30,6 +30,7 @@ pub mod EncodedLaws
 pub mod Extended
 pub mod Limited
 pub mod Extending
+pub mod FitLaws
 pub mod ByPlace
 pub mod ClauseLaws
 pub mod PointIds

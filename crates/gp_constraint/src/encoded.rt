@@ -87,21 +87,22 @@ impl Encoded {
         self.points.as_slice()
     }
 
-    /// The problem with the numbers of its symbols and of its events, without the window.
-    pub(crate) fn into_parts(self) -> (Problem, Names, Row<u32>)
-        ensures problem { result.0 ≡ base_of self }
-        ensures names { result.1 ≡ names_in self }
-        ensures sizes { result.2 ≡ sizes_of self }
-        ensures small { IsSmall result.2 }
+    /// The window and its problem, with the numbers of its symbols and of its events.
+    pub(crate) fn into_parts(self) -> (Window, Problem, Names, Row<u32>)
+        ensures window { result.0 ≡ self }
+        ensures problem { result.1 ≡ base_of self }
+        ensures names { result.2 ≡ names_in self }
+        ensures sizes { result.3 ≡ sizes_of self }
+        ensures small { IsSmall result.3 }
     {
         let Encoded {
-            window: _,
+            window,
             points: _,
             names,
             sizes,
             problem,
         } = self;
-        (problem, names, sizes)
+        (window, problem, names, sizes)
     }
 
     pub(crate) fn names(&self) -> &Names

@@ -17,13 +17,14 @@ use crate::points::Points;
 use crate::symbol::{Symbol, SymbolicLit};
 use gp_base::Row;
 use gp_clause::Problem;
-use gp_window::EventId;
+use gp_window::{EventId, Window};
 use std::alloc::{AllocError, Global};
 use std::marker::Model;
 
-/// The problem of a window with further clauses, with the numbers of its symbols and of its events.
+/// A window and its problem with further clauses, with the numbers of its symbols and of its events.
 #[derive(Drop)]
 pub struct ExtendedProblem {
+    window: Window,
     problem: Problem,
     names: Names,
     sizes: Row<u32>,
@@ -35,12 +36,18 @@ impl Model for ExtendedProblem {
 
     ghost Value = { ExtendedForm };
 
-    ghost view = { λ extended. record { problem = extended.problem; names = extended.names; sizes = extended.sizes } };
+    ghost view = { λ extended. record { window = extended.window; problem = extended.problem; names = extended.names; sizes = extended.sizes } };
 
     ghost invariant = { λ extended. IsSmall extended.sizes };
 }
 
 impl ExtendedProblem {
+    pub fn window(&self) -> &Window
+        ensures { result.now ≡ self.now.window }
+    {
+        &self.window
+    }
+
     pub fn problem(&self) -> &Problem
         ensures { result.now ≡ self.now.problem }
     {
@@ -130,12 +137,13 @@ fn extend(
     requires { AreSigned more.now }
     ensures { IfOk result (λ extended. extended ≡ extended_of encoded more.now) }
 {
-    let (problem, names, sizes) = encoded.into_parts();
-    with_further(alloc, problem, names, sizes, more)
+    let (window, problem, names, sizes) = encoded.into_parts();
+    with_further(alloc, window, problem, names, sizes, more)
 }
 
 fn with_further(
     alloc: Global,
+    window: Window,
     problem: Problem,
     mut names: Names,
     sizes: Row<u32>,
@@ -143,7 +151,7 @@ fn with_further(
 ) -> Result<ExtendedProblem, AllocError>
     requires small { IsSmall sizes }
     requires signed { AreSigned more.now }
-    ensures { IfOk result (λ extended. extended ≡ with_further problem names sizes more.now) }
+    ensures { IfOk result (λ extended. extended ≡ with_further window problem names sizes more.now) }
 {
     let Problem {
         points,
@@ -160,6 +168,7 @@ fn with_further(
         clauses,
     };
     Ok(ExtendedProblem {
+        window,
         problem,
         names,
         sizes,

@@ -1,4 +1,4 @@
--- The executed events of an answer to the problem of a window and the next, by their places, link the two.
+-- The executed events of an answer to the problem of a window and the next, by their places, link the two where they are feasible.
 use Rattle.std.proofs.Common.{◌≡◌, ◌⊎◌, sym, ◌∙◌, inl, inr, List, [], ◌∷◌, arith}
 use Rattle.std.specs.Prelude.{ℤ, ◌<ℤ◌}
 use Rattle.std.proofs.lemmas.Int.{ints}
@@ -10,11 +10,10 @@ use Rattle.gp_replay.specs.Start.{BeginsAsWindow}
 use Rattle.gp_replay.specs.Value.{ValuesAreLastWrites}
 use Rattle.gp_constraint.specs.declared.symbol.SymbolicLit.{SymbolicLit}
 use Rattle.gp_constraint.specs.ByPlace.{ComesBefore, IsByPlace, place_in}
-use Rattle.gp_constraint.specs.Extended.{ExtendedMeans, ExtensionsMean, names_with, nothing_asked}
+use Rattle.gp_constraint.specs.Extended.{ExtendedMeans, ExtensionsMean, names_with}
 use Rattle.gp_constraint.specs.PointLaws.{event_below}
 use Rattle.gp_constraint.specs.Points.{number_in}
 use Rattle.gp_constraint.specs.SymbolTruth.{read_by}
-use Rattle.gp_witness.specs.Witness.{WitnessesAreSound}
 use Rattle.gp_link.specs.LinkClauses.{link_clauses}
 use Rattle.gp_link.specs.LinkLaws.{LinksAreSound}
 use Rattle.gp_link.proofs.Sound.{FollowsPlaces, links}
@@ -46,9 +45,9 @@ follows_places window more v ids means by = record {
   sorted = sorted_places window v ids (pairwise_from_pairs (ComesBefore window v) ids by.sorted);
 }
 
-pub sound : BeginsAsWindow → ValuesAreLastWrites → ExtensionsMean → WitnessesAreSound → LinksAreSound
-sound begins lasts extend witnesses window next query v schedule is is_next meets by =
+pub sound : BeginsAsWindow → ValuesAreLastWrites → ExtensionsMean → LinksAreSound
+sound begins lasts extend window next query v schedule is is_next meets by feasible =
     let more : List (List SymbolicLit) = link_clauses window next in
     let means = extend.answers window more query v meets in
     links window next (read_by (names_with window more) v) schedule (begins.values window is) (begins.values next is_next) means.base.edges lasts means.further
-    (follows_places window more v schedule means by) (witnesses.base window nothing_asked v schedule is means.meets by)
+    (follows_places window more v schedule means by) feasible

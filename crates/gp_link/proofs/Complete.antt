@@ -1,6 +1,6 @@
 -- A schedule that links a window to the next makes the clauses true.
 use Rattle.std.proofs.Common.{ℕ, suc, ◌≡◌, ◌<◌, ◌≤◌, ap, sym, ◌∙◌, refl, subst, inl, inr, List, [], ◌∷◌, ◌++◌, Bool, true, false, not, arith, eq-eqb, eqb-true, length}
-use Rattle.std.specs.Prelude.{ℤ, pos, ◌-ℤ◌, ◌<ℤ◌, ◌≤ℤ◌, ◌==◌, ◌&&◌, ◌||◌, Contains, Option, Some, flat_map, int_le, int_lt, map, nat_lt, slice_get}
+use Rattle.std.specs.Prelude.{ℤ, pos, ◌-ℤ◌, ◌<ℤ◌, ◌≤ℤ◌, ◌==◌, ◌&&◌, ◌||◌, Contains, Some, flat_map, int_le, int_lt, map, nat_lt, slice_get}
 use Rattle.std.specs.List.{list_any}
 use Rattle.std.specs.Ordering.{int_eq}
 use Rattle.std.proofs.lemmas.Bool.{and_from, and_parts, cases_Bool, cases_order, false_from_ne_true, true≢false}
@@ -11,7 +11,6 @@ use Rattle.gp_base.specs.ListLaws.{contains_map, contains_parts, first_or_rest, 
 use Rattle.gp_clause.specs.Clause.{HoldsAll}
 use Rattle.gp_clause.specs.Kind.{FitsKind}
 use Rattle.gp_clause.specs.Valuation.{IsValuation}
-use Rattle.gp_trace.specs.declared.event.Event.{Event}
 use Rattle.gp_trace.specs.declared.event.Event.TheVariants as event
 use Rattle.gp_window.specs.declared.schedule.EventId.{EventId}
 use Rattle.gp_window.specs.Events.{event_at}
@@ -37,7 +36,7 @@ use Rattle.gp_whole.specs.Linked.{Links}
 use Rattle.gp_link.proofs.LastWrites.{fresh_value, is_last_at, is_past}
 use Rattle.gp_link.specs.LinkClauses.{are_rivals, choices_in, comes_last, ended_of, ends_at, kept_before, last, link_clauses, linked_at, stays, writes_value}
 use Rattle.gp_link.specs.Variables.{variables_of}
-use Rattle.gp_link.proofs.Written.{any_back, any_from, is_value, is_written, point_writes, rival_is, writer, writer_there, written_is}
+use Rattle.gp_link.proofs.Written.{any_back, any_from, is_value, is_written, one_value, point_writes, rival_is, writer, writer_there, written_is}
 
 int_lt_to : (a b : ℤ) → a <ℤ b → int_lt a b ≡ true
 int_lt_to a b less =
@@ -96,10 +95,6 @@ in_front id (first ∷ front) back i =
 at_middle : (front back : List EventId) (id : EventId) → slice_get (front ++ id ∷ back) (length front) ≡ Some id
 at_middle [] back id = refl
 at_middle (first ∷ front) back id = at_middle front back id
-
-one_value : (window : WindowForm) (id : EventId) (variable : List ℕ) (one other : ℤ) → Writes window id variable one → Writes window id variable other → one ≡ other
-one_value window id variable one other first second =
-    let both_are : ◌≡◌ {A = Option Event} (Some (event.Write variable one)) (Some (event.Write variable other)) = sym first ∙ second in cc
 
 pos_less : (j k : ℕ) → j < k → pos j <ℤ pos k
 pos_less j k h = omega (arith, ints, h)

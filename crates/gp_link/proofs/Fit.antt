@@ -13,6 +13,7 @@ use Rattle.gp_constraint.specs.declared.symbol.SymbolicLit.{SymbolicLit}
 use Rattle.gp_constraint.specs.declared.term.Term.{Term}
 use Rattle.gp_constraint.specs.declared.term.Term.TheVariants.{Always, Never, Literal}
 use Rattle.gp_constraint.specs.Extended.{AreFit}
+use Rattle.gp_constraint.specs.FitLaws.{each_either, each_lit, each_unless, each_when, few_lits, OfLit}
 use Rattle.gp_constraint.specs.Lasts.{is_last}
 use Rattle.gp_base.specs.FilterLaws.{contains_from_filter}
 use Rattle.gp_base.specs.ListLaws.{first_or_rest, here, nothing_in, Pairwise, recursion_append, recursion_flat_map}
@@ -33,38 +34,13 @@ abbrev AreGood : ℕ → List (List SymbolicLit) → Type 0
 AreGood n clauses = AllByRecursion (IsGood n) clauses
 
 abbrev IsGoodTerm : ℕ → Term → Type 0
-IsGoodTerm n Always = Unit {0}
-IsGoodTerm n Never = Unit {0}
-IsGoodTerm n (Literal lit) = IsValidKind n (kind_of lit.symbol)
-
-good_unless : (n : ℕ) (b : Bool) (clauses : List (List SymbolicLit)) → AreGood n clauses → AreGood n (if b then [] else clauses)
-good_unless n true clauses h = tt
-good_unless n false clauses h = h
-
-good_when : (n : ℕ) (b : Bool) (clauses : List (List SymbolicLit)) → AreGood n clauses → AreGood n (if b then clauses else [])
-good_when n true clauses h = h
-good_when n false clauses h = tt
-
-good_either : (n : ℕ) (b : Bool) (clauses others : List (List SymbolicLit)) → AreGood n clauses → AreGood n others → AreGood n (if b then clauses else others)
-good_either n true clauses others h k = h
-good_either n false clauses others h k = k
-
-few_lits : (terms : List Term) → length (flat_map lit_of terms) ≤ length terms
-few_lits [] = omega arith
-few_lits (Always ∷ terms) = let rest = few_lits terms in omega (arith, rest)
-few_lits (Never ∷ terms) = let rest = few_lits terms in omega (arith, rest)
-few_lits (Literal lit ∷ terms) = let rest = few_lits terms in omega (arith, rest)
-
-good_lits : (n : ℕ) (terms : List Term) → AllByRecursion (IsGoodTerm n) terms → AllByRecursion (λ (lit : SymbolicLit). IsValidKind n (kind_of lit.symbol)) (flat_map lit_of terms)
-good_lits n [] h = tt
-good_lits n (Always ∷ terms) h = good_lits n terms h.1
-good_lits n (Never ∷ terms) h = good_lits n terms h.1
-good_lits n (Literal lit ∷ terms) h = (h.0, good_lits n terms h.1)
+IsGoodTerm n term = OfLit (λ (lit : SymbolicLit). IsValidKind n (kind_of lit.symbol)) term
 
 good_clause : (n : ℕ) (terms : List Term) → length terms ≤ n + 4 → AllByRecursion (IsGoodTerm n) terms → Pairwise Agree (flat_map lit_of terms) → AreGood n (simplified terms)
 good_clause n terms short h signed =
     let few = few_lits terms in
-    good_unless n (list_any is_always terms) (flat_map lit_of terms ∷ []) (((omega (arith, few, short), good_lits n terms h), signed), tt)
+    let valid = each_lit (λ (lit : SymbolicLit). IsValidKind n (kind_of lit.symbol)) terms h in
+    each_unless (IsGood n) (list_any is_always terms) (flat_map lit_of terms ∷ []) (((omega (arith, few, short), valid), signed), tt)
 
 -- an order of two points is of a valid kind, and has another symbol than that a write is the last
 abbrev IsOrder : ℕ → Term → Type 0
@@ -151,12 +127,12 @@ module _ (window next : WindowForm) where
   n = length (points_of window)
 
   ended_good : (p : Point) → AreGood n (ended_of window p)
-  ended_good p = good_when n (is_last window p) (simplified (executed p true ∷ [])) (good_clause n (executed p true ∷ []) (omega arith) (tt, tt) (tt, tt))
+  ended_good p = each_when (IsGood n) (is_last window p) (simplified (executed p true ∷ [])) (good_clause n (executed p true ∷ []) (omega arith) (tt, tt) (tt, tt))
 
   kept_good : (w other : Point) → Contains points w → Contains points other → AreGood n (kept_before w other)
   kept_good w other i j =
       let order = order_good window w.number other w j i in
-      good_when n (are_rivals w.action other.action) (simplified (last w false ∷ before other w ∷ []))
+      each_when (IsGood n) (are_rivals w.action other.action) (simplified (last w false ∷ before other w ∷ []))
       (good_clause n (last w false ∷ before other w ∷ []) (omega arith) (tt, (order.0, tt)) (pair_signed w.number (before other w) order.1))
 
   -- no more choices than points
@@ -177,9 +153,9 @@ module _ (window next : WindowForm) where
 
   variable_good : (variable : List ℕ) → AreGood n (linked_at window next points variable)
   variable_good variable =
-      good_either n (list_any (λ (p : Point). writes_to variable p.action) points) (ends_at points variable (start_value next variable)) (stays window next variable)
+      each_either (IsGood n) (list_any (λ (p : Point). writes_to variable p.action) points) (ends_at points variable (start_value next variable)) (stays window next variable)
       (ends_good variable (start_value next variable))
-      (good_unless n (int_eq (start_value window variable) (start_value next variable)) ([] ∷ []) (((omega arith, tt), tt), tt))
+      (each_unless (IsGood n) (int_eq (start_value window variable) (start_value next variable)) ([] ∷ []) (((omega arith, tt), tt), tt))
 
   all_good : AreGood n (link_clauses window next)
   all_good =

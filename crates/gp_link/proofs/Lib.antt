@@ -1,7 +1,6 @@
 pub mod Written
 pub mod Writes
 pub mod Fit
-pub mod Whole
 pub mod Sound
 pub mod Answered
 pub mod LastWrites

@@ -76,6 +76,11 @@ point_writes window p variable value has is =
     let own = (points_named window).own p has in
     own.1 ∙ ap Some (write_event own.0 variable value (sym own.2 ∙ is))
 
+-- an event writes one value
+pub one_value : (window : WindowForm) (id : EventId) (variable : List ℕ) (one other : ℤ) → Writes window id variable one → Writes window id variable other → one ≡ other
+one_value window id variable one other first second =
+    let both_are : ◌≡◌ {A = Option Event} (Some (event.Write variable one)) (Some (event.Write variable other)) = sym first ∙ second in cc
+
 -- the point of an event that writes
 abbrev pub writer : WindowForm → EventId → List ℕ → ℤ → Point
 writer window id variable value = record { number = number_in window id; id = id; action = Write variable value }

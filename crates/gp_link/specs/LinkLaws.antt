@@ -1,45 +1,35 @@
--- What the problem of a window and the next says: each answer gives a schedule that links the two, and each schedule that
--- links them gives an answer.
-use Rattle.std.specs.Prelude.{ℕ, ℤ, ◌≤◌, ◌+◌, Bool, List, length}
+-- What the problem of a window and the next says: where the executed events of an answer are feasible by place, they link the
+-- two; and a schedule that links them extends each model of the window that says what it does.
+use Rattle.std.specs.Prelude.{◌≤◌, ◌+◌, List, [], length}
 use Rattle.gp_clause.specs.declared.problem.Query.{Query}
 use Rattle.gp_clause.specs.declared.valuation.Valuation.{Valuation}
 use Rattle.gp_clause.specs.Problem.{IsValidProblem}
 use Rattle.gp_clause.specs.Valuation.{Meets}
 use Rattle.gp_window.specs.declared.schedule.EventId.{EventId}
 use Rattle.gp_window.specs.WindowForm.{IsWindow, WindowForm}
-use Rattle.gp_constraint.specs.Base.{clauses_of}
+use Rattle.gp_replay.specs.Feasible.{IsFeasible}
+use Rattle.gp_constraint.specs.Base.{base_of, clauses_of}
 use Rattle.gp_constraint.specs.ByPlace.{IsByPlace}
-use Rattle.gp_constraint.specs.Extended.{IsExtendedModel, nothing_asked}
 use Rattle.gp_constraint.specs.Points.{points_of}
-use Rattle.gp_constraint.specs.ScheduleModels.{SaysSchedule}
+use Rattle.gp_constraint.specs.ScheduleModels.{ScheduleModel}
 use Rattle.gp_constraint.specs.Signed.{AreSigned}
-use Rattle.gp_whole.specs.Linked.{IsLinked, Links}
+use Rattle.gp_whole.specs.Linked.{Links}
 use Rattle.gp_link.specs.LinkClauses.{link_clauses}
 use Rattle.gp_link.specs.LinkProblem.{link_problem_of}
 
 -- the executed events of an answer to the problem of a window and the next, whatever the query, are by their places a
--- schedule that links the two
+-- schedule that links the two, where they are feasible
 abbrev pub LinksAreSound : Type 0
 LinksAreSound = (window next : WindowForm) (query : Query) (valuation : Valuation) (schedule : List EventId) → IsWindow window → IsWindow next
-    → Meets (link_problem_of window next) query valuation → IsByPlace window valuation schedule → Links window next schedule
+    → Meets (link_problem_of window next) query valuation → IsByPlace window valuation schedule
+    → IsFeasible window schedule → Links window next schedule
 
--- a valuation of the problem of a window and the next that makes its clauses true and says what the schedule does
-pub record LinkModel (window next : WindowForm) (schedule : List EventId) : Type 0 where
-  pub truth : ℕ → Bool
-  pub place : ℕ → ℤ
-  pub model : IsExtendedModel window (link_clauses window next) truth place
-  pub says : SaysSchedule window schedule truth place
-
--- a schedule that links a window of at most 2,048 events to the next is such a valuation; where their clauses are not too
--- many, it is an answer; and where no valuation makes the clauses true, no schedule links the two
-pub record LinksAreComplete : Type 0 where
-  pub model : (window next : WindowForm) (schedule : List EventId) → IsWindow window → IsWindow next → length (points_of window) ≤ 2048
-      → Links window next schedule → LinkModel window next schedule
-  pub answer : (window next : WindowForm) (schedule : List EventId) → IsWindow window → IsWindow next → length (points_of window) ≤ 2048
-      → length (clauses_of window) + length (link_clauses window next) ≤ 500000 → Links window next schedule
-      → (valuation : Valuation) × Meets (link_problem_of window next) nothing_asked valuation
-  pub unlinked : (window next : WindowForm) → IsWindow window → IsWindow next → length (points_of window) ≤ 2048
-      → ((truth : ℕ → Bool) (place : ℕ → ℤ) → IsExtendedModel window (link_clauses window next) truth place → ⊥) → IsLinked window next → ⊥
+-- where a schedule links a window of at most 2,048 events to the next, a model of the window's own problem that says what the
+-- schedule does extends to one of the problem of both
+abbrev pub LinksAreComplete : Type 0
+LinksAreComplete = (window next : WindowForm) (schedule : List EventId) → IsWindow window → IsWindow next → length (points_of window) ≤ 2048
+    → Links window next schedule → ScheduleModel window schedule (base_of window) (base_of window).kinds []
+    → ScheduleModel window schedule (link_problem_of window next) (link_problem_of window next).kinds []
 
 -- where a window is not too large, and its clauses and those of it and the next together are at most 500,000, the problem of
 -- both is valid; and in none of the link's clauses has a symbol both signs

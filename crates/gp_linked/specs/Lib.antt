@@ -1,9 +1,12 @@
+pub mod LinkedLaws
 pub mod Due
 pub mod Spent
+pub mod Asked
 pub mod Answered
 pub mod Drawn
 pub mod Replayed
 pub mod Report
 pub mod Kinds
+pub mod Tally
 pub mod Printed
 pub mod Status

@@ -11,6 +11,7 @@ mod schedules;
 mod sound;
 
 pub use encoded_laws::{law_base, law_complete, law_sound};
+pub use executed::executed_events;
 pub use laws::schedules_are_complete;
 pub use schedules::{executed_of, schedule_of};
 pub use sound::witnesses_are_sound;

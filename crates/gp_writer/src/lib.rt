@@ -12,4 +12,4 @@ mod steps;
 
 pub use lines::{put_counted_list, put_line, put_list, put_numbered_line, put_word, put_words};
 pub use spelled::Spelled;
-pub use steps::put_steps;
+pub use steps::{put_each_step, put_steps};

@@ -17,7 +17,8 @@ pub fn put_steps(text: &mut Vec<u8>, keyword: &[u8], steps: &[Step]) -> Result<(
     put_each_step(text, steps)
 }
 
-fn put_each_step(text: &mut Vec<u8>, steps: &[Step]) -> Result<(), AllocError>
+/// Puts the lines of each step, without a line before them that tells how many there are.
+pub fn put_each_step(text: &mut Vec<u8>, steps: &[Step]) -> Result<(), AllocError>
     ensures { OnOk result (text.new.items ≡ text.old.items ++ spelling (flat_map step_lines steps.now)) }
 {
     for step in steps {

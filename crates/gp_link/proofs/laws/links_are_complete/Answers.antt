@@ -2,6 +2,4 @@ use Rattle.gp_link.proofs.Answering.{complete}
 use Rattle.gp_link.proofs.laws.links_are_complete.Goals as goal
 
 pub returns : goal.returns
-returns c =
-    complete c.states_begin_as_windows.ensures c.values_are_last_writes.ensures c.extensions_mean.ensures c.models_extend.ensures c.points_come_first.ensures
-    c.valuations_meet.ensures c.schedules_are_complete.ensures
+returns c = complete c.states_begin_as_windows.ensures c.values_are_last_writes.ensures c.models_extend.ensures c.points_come_first.ensures

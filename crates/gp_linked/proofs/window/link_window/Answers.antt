@@ -1,0 +1,46 @@
+-- A window and the next that are not too large are answered by their problem, and others are told so.
+use Rattle.std.proofs.Common.{◌≡◌, ◌∙◌, ap, sym, refl, subst, ℕ}
+use Rattle.std.specs.Prelude.{Result, Ok, Err, IfOk}
+use Rattle.gp_window.specs.WindowForm.{WindowForm}
+use Rattle.gp_constraint.specs.Extending.{ExtendedForm}
+use Rattle.gp_link.specs.declared.fault.LinkFault.{LinkFault}
+use Rattle.gp_link.specs.declared.fault.LinkFault.TheVariants as of_link
+use Rattle.gp_link.specs.LinkProblem.{link_problem_of}
+use Rattle.gp_linked.specs.declared.answer.LinkAnswer.{LinkAnswer}
+use Rattle.gp_linked.specs.declared.answer.LinkAnswer.TheVariants.{TooLarge}
+use Rattle.gp_linked.specs.Answered.{AnswersBy, IsAnswer}
+use Rattle.gp_linked.specs.Due.{IsSized, sized_due}
+use Rattle.gp_linked.proofs.Due.{is_due}
+use Rattle.gp_linked.proofs.window.link_window.Goals as goal
+
+pub answer_to-requires-clause-problem : goal.answer_to-requires-clause-problem
+answer_to-requires-clause-problem c =
+    let next : WindowForm = c.args.next.now in
+    let due : ◌≡◌ {A = Result ExtendedForm LinkFault} (Ok c.in-Ok.extended) (sized_due c.args.window next) = c.in-Ok.ensures (λ e. cc) in
+    let own = is_due c.args.window next c.in-Ok.extended (sym due) in
+    ap (λ (form : ExtendedForm). form.problem) own.same ∙ ap (λ (w : WindowForm). link_problem_of w next) (sym (ap (λ (form : ExtendedForm). form.window) own.same))
+
+pub answer_to-requires-clause-sized : goal.answer_to-requires-clause-sized
+answer_to-requires-clause-sized c =
+    let next : WindowForm = c.args.next.now in
+    let due : ◌≡◌ {A = Result ExtendedForm LinkFault} (Ok c.in-Ok.extended) (sized_due c.args.window next) = c.in-Ok.ensures (λ e. cc) in
+    let own = is_due c.args.window next c.in-Ok.extended (sym due) in
+    subst (λ (w : WindowForm). IsSized w next) (sym (ap (λ (form : ExtendedForm). form.window) own.same)) own.sized
+
+pub returns-in-Ok : goal.returns-in-Ok
+returns-in-Ok c =
+    let next : WindowForm = c.args.next.now in
+    let due : ◌≡◌ {A = Result ExtendedForm LinkFault} (Ok c.in-Ok.extended) (sized_due c.args.window next) = c.in-Ok.ensures (λ e. cc) in
+    let own = is_due c.args.window next c.in-Ok.extended (sym due) in
+    let answer : IfOk c.answer_to.result (λ (link : LinkAnswer). IsAnswer c.args.window next c.args.budget link) =
+    subst (λ (w : WindowForm). IfOk c.answer_to.result (λ (link : LinkAnswer). IsAnswer w next c.args.budget link)) (ap (λ (form : ExtendedForm). form.window) own.same) c.answer_to.ensures in
+    subst (λ (d : Result ExtendedForm LinkFault). IfOk c.answer_to.result (λ (link : LinkAnswer). AnswersBy c.args.window next c.args.budget d link)) due answer
+
+pub returns-in-Err-TooLarge : goal.returns-in-Err-TooLarge
+returns-in-Err-TooLarge c =
+    let next : WindowForm = c.args.next.now in
+    let events : ℕ = c.in-Err-TooLarge.events in
+    let clauses : ℕ = c.in-Err-TooLarge.clauses in
+    let large = rw c.in-Err-TooLarge.field-0-is at c.in-Err-TooLarge.ensures in
+    let due : ◌≡◌ {A = Result ExtendedForm LinkFault} (Err (of_link.TooLarge events clauses)) (sized_due c.args.window next) = large (λ e. cc) in
+    subst (λ (d : Result ExtendedForm LinkFault). AnswersBy c.args.window next c.args.budget d (TooLarge events clauses)) due refl

@@ -1,0 +1,75 @@
+ghost use Rattle.std.specs.Prelude.{◌≡◌, ◌≤◌, IfOk};
+ghost use Rattle.gp_link.specs.LinkProblem.{link_problem_of};
+ghost use Rattle.gp_linked.specs.Answered.{AnswersLink, IsAnswer};
+ghost use Rattle.gp_linked.specs.Due.{IsSized};
+
+use crate::answer::LinkAnswer;
+use crate::asking::{Asked, ask};
+use crate::laws::links_are_answered;
+use crate::problem::problem_of;
+use gp_certificate::refuted_means;
+use gp_constraint::{ExtendedProblem, extensions_mean, problems_are_valid};
+use gp_derivation::WorkerRecord;
+use gp_link::{LinkFault, links_are_valid};
+use gp_window::Window;
+use gp_witness::executed_events;
+use gp_workers::WorkAnswer;
+use std::alloc::{AllocError, Global};
+
+/// Whether a window is linked to the next, by one search with this budget.
+pub fn link_window(
+    alloc: Global,
+    window: Window,
+    next: &Window,
+    budget: u64,
+) -> Result<LinkAnswer, AllocError>
+    requires budget { (1 ≤ budget) × (budget ≤ 1000000) }
+    ensures { IfOk result (AnswersLink window next.now budget) }
+{
+    match problem_of(alloc, window, next) {
+        Ok(extended) => answer_to(alloc, &extended, next, budget),
+        Err(LinkFault::TooLarge { events, clauses }) => {
+            Ok(LinkAnswer::TooLarge { events, clauses })
+        }
+        Err(LinkFault::Memory) => Err(AllocError),
+    }
+}
+
+// The answer to the problem of a window and the next.
+fn answer_to(
+    alloc: Global,
+    extended: &ExtendedProblem,
+    next: &Window,
+    budget: u64,
+) -> Result<LinkAnswer, AllocError>
+    requires problem { extended.now.problem ≡ link_problem_of extended.now.window next.now }
+    requires sized { IsSized extended.now.window next.now }
+    requires budget { (1 ≤ budget) × (budget ≤ 1000000) }
+    ensures { IfOk result (IsAnswer extended.now.window next.now budget) }
+{
+    extensions_mean();
+    problems_are_valid();
+    links_are_valid();
+    links_are_answered();
+    refuted_means();
+    let window = extended.window();
+    window.comes_from_recording();
+    next.comes_from_recording();
+    let Asked { answer, own } = ask(alloc, extended.problem(), budget)?;
+    match answer {
+        WorkAnswer::Model(valuation) => {
+            let schedule = executed_events(alloc, window, &valuation)?;
+            Ok(LinkAnswer::Linked(schedule))
+        }
+        WorkAnswer::Refuted(certificate) => Ok(LinkAnswer::Unlinkable(certificate)),
+        WorkAnswer::Spent { from, to, .. } => Ok(undecided(own, from, to)),
+    }
+}
+
+// The log of a worker whose one turn spent the budget on these entries.
+fn undecided(own: WorkerRecord, from: u32, to: u32) -> LinkAnswer
+    ensures { result ≡ LinkAnswer.Undecided own.log from to }
+{
+    let WorkerRecord { log, .. } = own;
+    LinkAnswer::Undecided { log, from, to }
+}

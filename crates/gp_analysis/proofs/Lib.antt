@@ -7,5 +7,4 @@ mod Fitting
 mod Windows
 mod Parted
 mod Counted
-mod Ahead
 mod Drawing

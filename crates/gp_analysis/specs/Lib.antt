@@ -7,4 +7,3 @@ pub mod Recording
 pub mod Recorded
 pub mod Drawn
 pub mod Task
-pub mod Ahead

@@ -18,7 +18,6 @@ mod runs;
 mod side_by_side;
 mod task;
 mod window;
-mod windows_ahead;
 
 pub use analysing::analyse;
 pub use counting::too_much;

@@ -26,3 +26,4 @@ pub mod Walked
 pub mod StartsTold
 pub mod MarksTold
 pub mod NoFile
+pub mod Ahead

@@ -1,3 +1,4 @@
+pub mod Ahead
 pub mod AmongLaws
 pub mod Contents
 pub mod Contested

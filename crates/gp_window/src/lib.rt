@@ -24,6 +24,7 @@ mod users;
 mod walk;
 mod window;
 mod windows;
+mod windows_ahead;
 
 pub use content::{ContentFault, content_of};
 pub use event_id::{event_id_of, event_ids_read_exactly, put_event_id};
@@ -42,3 +43,4 @@ pub use starts::is_among;
 pub use walk::cut;
 pub use window::Window;
 pub use windows::Windows;
+pub use windows_ahead::WindowsAhead;

@@ -1,7 +1,7 @@
 use Rattle.std.proofs.Common.{◌≡◌, ◌-◌, All, length}
+use Rattle.gp_window.specs.Ahead.{AreAhead}
 use Rattle.gp_tickets.specs.Drawn.{numbers_of}
 use Rattle.gp_tickets.specs.Tickets.{IsSingle, hand_of}
-use Rattle.gp_analysis.specs.Ahead.{AreAhead}
 use Rattle.gp_analysis.specs.Drawn.{RecordsOwn}
 use Rattle.gp_analysis.specs.Task.{IsOrder}
 use Rattle.gp_analysis.proofs.drawn.recorded_as_drawn.Given as goal

@@ -1,8 +1,8 @@
 -- The window that is taken is the first of those that are left past the ones before it.
 use Rattle.std.proofs.Common.{subst}
 use Rattle.gp_window.specs.Windows.{TakesFirst}
-use Rattle.gp_analysis.proofs.Ahead.{is_taken, some_left}
-use Rattle.gp_analysis.proofs.windows_ahead.WindowsAhead.window.Goals as goal
+use Rattle.gp_window.proofs.Ahead.{is_taken, some_left}
+use Rattle.gp_window.proofs.windows_ahead.WindowsAhead.window.Goals as goal
 
 pub unreachable-requires : goal.unreachable-requires
 unreachable-requires c =

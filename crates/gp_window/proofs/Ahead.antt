@@ -4,8 +4,8 @@ use Rattle.gp_window.specs.RecordingForm.{RecordingForm}
 use Rattle.gp_window.specs.WindowForm.{WindowForm, window_of}
 use Rattle.gp_window.specs.Windows.{TakesFirst, windows_from}
 use Rattle.gp_window.specs.WindowsLaws.{first_window, windows_dropped}
-use Rattle.gp_analysis.specs.declared.windows_ahead.WindowsAhead.{WindowsAhead}
-use Rattle.gp_analysis.specs.Ahead.{AreAhead}
+use Rattle.gp_window.specs.declared.windows_ahead.WindowsAhead.{WindowsAhead}
+use Rattle.gp_window.specs.Ahead.{AreAhead}
 
 module _ (r : RecordingForm) (k : ℕ) (ahead : WindowsAhead) (left : List WindowForm) (are : AreAhead r ahead) (below : ahead.passed < k) (within : k ≤ r.manifest.epochs) (gone : left ≡ drop (k - 1 - ahead.passed) ahead.windows) where
   begins : left ≡ window_of r k ∷ windows_from r (k + 1) (r.manifest.epochs - k)

@@ -1,25 +1,24 @@
 ghost use Rattle.std.specs.Prelude.{◌≡◌, ◌<◌, ◌≤◌, IfOk, OnOk};
 ghost use Rattle.gp_window.specs.WindowForm.{window_of};
-ghost use Rattle.gp_analysis.specs.Ahead.{AreAhead};
+ghost use Rattle.gp_window.specs.Ahead.{AreAhead};
 
-use gp_window::{Recording, Window, Windows};
+use crate::recording::Recording;
+use crate::window::Window;
+use crate::windows::Windows;
 use std::alloc::{AllocError, Global};
 
-// The windows of a recording after those that were passed. Windows that are taken in rising order cost one walk over the
-// recording together.
+/// The windows of a recording after those that were passed. Windows that are taken in rising order cost one walk over the
+/// recording together.
 #[derive(Drop)]
-pub(crate) struct WindowsAhead<'a> {
+pub struct WindowsAhead<'a> {
     windows: Windows<'a>,
     // how many windows come before
     passed: u32,
 }
 
 impl<'a> WindowsAhead<'a> {
-    // All windows: none was passed.
-    pub(crate) fn new(
-        alloc: Global,
-        recording: &'a Recording,
-    ) -> Result<WindowsAhead<'a>, AllocError>
+    /// All windows: none was passed.
+    pub fn new(alloc: Global, recording: &'a Recording) -> Result<WindowsAhead<'a>, AllocError>
         ensures all { IfOk result (AreAhead recording.now) }
         ensures none { IfOk result (λ ahead. ahead.passed ≡ 0) }
     {
@@ -29,8 +28,8 @@ impl<'a> WindowsAhead<'a> {
         })
     }
 
-    // Window `k`, with which all windows up to it are passed.
-    pub(crate) fn window(
+    /// Window `k`, with which all windows up to it are passed.
+    pub fn window(
         &mut self,
         alloc: Global,
         recording: &'a Recording,
@@ -50,7 +49,7 @@ impl<'a> WindowsAhead<'a> {
         Ok(window)
     }
 
-    // Begins anew where window `k` was passed.
+    /// Begins anew where window `k` was passed.
     fn turn_back(
         &mut self,
         alloc: Global,

@@ -2,7 +2,7 @@
 use Rattle.std.specs.Prelude.{◌≡◌, ◌+◌, ◌-◌}
 use Rattle.gp_window.specs.RecordingForm.{RecordingForm}
 use Rattle.gp_window.specs.Windows.{windows_from}
-use Rattle.gp_analysis.specs.declared.windows_ahead.WindowsAhead.{WindowsAhead}
+use Rattle.gp_window.specs.declared.windows_ahead.WindowsAhead.{WindowsAhead}
 
 -- all windows after those that were passed are still to come
 abbrev pub AreAhead : RecordingForm → WindowsAhead → Type 0

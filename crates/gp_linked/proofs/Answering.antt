@@ -1,5 +1,5 @@
 -- What is asked of a window and the next, and what the answer says.
-use Rattle.std.proofs.Common.{ℕ, ◌≡◌, ◌+◌, ◌<◌, ◌≤◌, ◌∙◌, ap, sym, subst, List, [], ◌∷◌, ◌++◌, length, length-append, All, arith}
+use Rattle.std.proofs.Common.{ℕ, ◌≡◌, ◌+◌, ◌<◌, ◌≤◌, ◌∙◌, ap, sym, subst, List, [], ◌∷◌, ◌++◌, length, length-append, arith}
 use Rattle.std.proofs.lemmas.List.Elements.{All-cons, All-from_recursion, All-nil}
 use Rattle.gp_certificate.specs.declared.certificate.Certificate.{Certificate}
 use Rattle.gp_certificate.specs.Certificate.{RefutedMeans, Refutes}
@@ -12,7 +12,6 @@ use Rattle.gp_constraint.specs.Base.{clauses_of, first_names}
 use Rattle.gp_constraint.specs.EncodedLaws.{numbered_size}
 use Rattle.gp_constraint.specs.Extended.{ExtensionsMean, nothing_asked}
 use Rattle.gp_constraint.specs.Laws.{ProblemsAreValid}
-use Rattle.gp_constraint.specs.Numbering.{numbered}
 use Rattle.gp_workers.specs.Work.{CanBeAsked}
 use Rattle.gp_whole.specs.Linked.{IsLinked}
 use Rattle.gp_link.specs.LinkClauses.{link_clauses}

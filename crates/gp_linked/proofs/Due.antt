@@ -11,9 +11,13 @@ use Rattle.gp_constraint.specs.EncodedLaws.{is_encoded}
 use Rattle.gp_constraint.specs.Extending.{extended_of, ExtendedForm}
 use Rattle.gp_constraint.specs.Points.{points_of}
 use Rattle.gp_link.specs.declared.fault.LinkFault.{LinkFault}
-use Rattle.gp_link.specs.declared.fault.LinkFault.TheVariants.{Memory, TooLarge}
+use Rattle.gp_link.specs.declared.fault.LinkFault.TheVariants.{Memory}
+use Rattle.gp_link.specs.declared.fault.LinkFault.TheVariants as of_link
 use Rattle.gp_link.specs.LinkClauses.{link_clauses}
 use Rattle.gp_link.specs.LinkProblem.{fault_of, link_due}
+use Rattle.gp_linked.specs.declared.answer.LinkAnswer.{LinkAnswer}
+use Rattle.gp_linked.specs.declared.answer.LinkAnswer.TheVariants.{Linked, Unlinkable, Undecided, TooLarge}
+use Rattle.gp_linked.specs.Answered.{TellsFault}
 use Rattle.gp_linked.specs.Due.{IsSized, sized_due}
 
 -- a fault of the window as one of the link
@@ -54,7 +58,7 @@ link_is_due window next encoded is =
 
 -- a fault of the link
 abbrev fault_at : ℕ → ℕ → Result ExtendedForm LinkFault
-fault_at events clauses = Err (TooLarge events clauses)
+fault_at events clauses = Err (of_link.TooLarge events clauses)
 
 -- what is due is the problem, and neither the window nor the link is too large
 pub record IsDue (window next : WindowForm) (extended : ExtendedForm) : Type 0 where
@@ -73,3 +77,10 @@ due_where window next extended false false few fits is =
 pub is_due : (window next : WindowForm) (extended : ExtendedForm) → sized_due window next ≡ Ok extended → IsDue window next extended
 is_due window next extended is =
     due_where window next extended (nat_lt 2048 (length (points_of window))) (nat_lt 500000 (length (clauses_of window) + length (link_clauses window next))) refl refl is
+
+-- a fault that is told is no want of memory
+pub fault_apart : (fault : LinkFault) (link : LinkAnswer) → TellsFault fault link → ◌≡◌ {A = Result ExtendedForm LinkFault} (Err fault) (Err Memory) → ⊥
+fault_apart fault (TooLarge events clauses) is same = absurd (cc)
+fault_apart fault (Linked schedule) is same = absurd is
+fault_apart fault (Unlinkable certificate) is same = absurd is
+fault_apart fault (Undecided log from to) is same = absurd is

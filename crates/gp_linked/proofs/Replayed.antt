@@ -1,5 +1,5 @@
 -- Schedules of linked windows replay one after another.
-use Rattle.std.proofs.Common.{ℕ, suc, ◌≡◌, ◌∙◌, ap, List, [], ◌∷◌, map, length, Result, Ok, Err}
+use Rattle.std.proofs.Common.{ℕ, suc, ◌∙◌, ap, List, [], ◌∷◌, map, Result, Ok, Err}
 use Rattle.std.proofs.lemmas.List.{length-map}
 use Rattle.gp_window.specs.declared.schedule.Schedule.{Schedule}
 use Rattle.gp_window.specs.RecordingForm.{RecordingForm}

@@ -23,13 +23,15 @@ IsAnswer window next budget (Unlinkable certificate) =
 IsAnswer window next budget (Undecided log from to) = IsSpentAlone (link_problem_of window next) budget log from to
 IsAnswer window next budget (TooLarge events clauses) = ⊥
 
--- an answer by what is due: where that is no problem, it tells the two numbers that are due
+-- an answer that tells the two numbers of a fault
+abbrev pub TellsFault : LinkFault → LinkAnswer → Type 0
+TellsFault fault (TooLarge events clauses) = fault ≡ of_link.TooLarge events clauses
+TellsFault fault _ = ⊥
+
+-- an answer by what is due: where that is no problem, it tells so
 abbrev pub AnswersBy : WindowForm → WindowForm → ℕ → Result ExtendedForm LinkFault → LinkAnswer → Type 0
 AnswersBy window next budget (Ok problem) answer = IsAnswer window next budget answer
-AnswersBy window next budget (Err fault) (TooLarge events clauses) = fault ≡ of_link.TooLarge events clauses
-AnswersBy window next budget (Err fault) (Linked schedule) = ⊥
-AnswersBy window next budget (Err fault) (Unlinkable certificate) = ⊥
-AnswersBy window next budget (Err fault) (Undecided log from to) = ⊥
+AnswersBy window next budget (Err fault) answer = TellsFault fault answer
 
 -- an answer of a window and the next
 abbrev pub AnswersLink : WindowForm → WindowForm → ℕ → LinkAnswer → Type 0

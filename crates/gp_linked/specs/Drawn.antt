@@ -1,5 +1,5 @@
 -- Answers of windows that are drawn by ticket.
-use Rattle.std.specs.Prelude.{ℕ, suc, ◌≡◌, ◌+◌, All}
+use Rattle.std.specs.Prelude.{ℕ, ◌≡◌, ◌+◌, All}
 use Rattle.gp_tickets.specs.declared.drawn.Drawn.{Drawn}
 use Rattle.gp_tickets.specs.declared.drawn.Made.{Made}
 use Rattle.gp_tickets.specs.declared.tickets.Tickets.{Tickets}

@@ -9,7 +9,11 @@ use crate::answer::{LinkAnswer, LinkReport};
 pub fn status_of(report: &LinkReport) -> u8
     ensures { result ≡ links_status report.now }
 {
-    if are_linked(report.links.as_slice()) { 0 } else { 1 }
+    if are_linked(report.links.as_slice()) {
+        0
+    } else {
+        1
+    }
 }
 
 fn are_linked(links: &[LinkAnswer]) -> bool

@@ -1,6 +1,6 @@
 ghost use Rattle.std.specs.Prelude.{◌≡◌, ◌≤◌, IfOk};
 ghost use Rattle.gp_link.specs.LinkProblem.{link_problem_of};
-ghost use Rattle.gp_linked.specs.Answered.{AnswersLink, IsAnswer};
+ghost use Rattle.gp_linked.specs.Answered.{AnswersLink, IsAnswer, TellsFault};
 ghost use Rattle.gp_linked.specs.Due.{IsSized};
 
 use crate::answer::LinkAnswer;
@@ -28,10 +28,17 @@ pub fn link_window(
 {
     match problem_of(alloc, window, next) {
         Ok(extended) => answer_to(alloc, &extended, next, budget),
-        Err(LinkFault::TooLarge { events, clauses }) => {
-            Ok(LinkAnswer::TooLarge { events, clauses })
-        }
-        Err(LinkFault::Memory) => Err(AllocError),
+        Err(fault) => answer_of(fault),
+    }
+}
+
+// A fault as an answer. Want of memory is none.
+fn answer_of(fault: LinkFault) -> Result<LinkAnswer, AllocError>
+    ensures { IfOk result (TellsFault fault) }
+{
+    match fault {
+        LinkFault::TooLarge { events, clauses } => Ok(LinkAnswer::TooLarge { events, clauses }),
+        LinkFault::Memory => Err(AllocError),
     }
 }
 
@@ -55,7 +62,8 @@ fn answer_to(
     let window = extended.window();
     window.comes_from_recording();
     next.comes_from_recording();
-    let Asked { answer, own } = ask(alloc, extended.problem(), budget)?;
+    let asked = ask(alloc, extended.problem(), budget)?;
+    let Asked { answer, own } = asked;
     match answer {
         WorkAnswer::Model(valuation) => {
             let schedule = executed_events(alloc, window, &valuation)?;

@@ -1,14 +1,15 @@
 -- One worker answers the one query.
-use Rattle.std.proofs.Common.{◌≡◌, ◌∙◌, sym, subst, List, [], ◌∷◌}
+use Rattle.std.proofs.Common.{◌∙◌, sym, subst, List, [], ◌∷◌}
 use Rattle.gp_clause.specs.declared.problem.Query.{Query}
 use Rattle.gp_constraint.specs.Extended.{nothing_asked}
 use Rattle.gp_workers.specs.Work.{CanBeAsked, IsWork}
 use Rattle.gp_linked.proofs.Asked.{is_asked, one_answer}
 use Rattle.gp_linked.proofs.asking.ask.Goals as goal
 
-pub work_one-requires-clause-asked : goal.work_one-requires-clause-asked
-work_one-requires-clause-asked c =
-    subst (λ (queries : List Query). CanBeAsked c.args.problem.now queries c.args.budget) (sym (c.as_slice.ensures.value ∙ c.in_ok-queries.ensures)) c.requires
+pub work_one-requires : goal.work_one-requires
+work_one-requires c = record {
+  asked = subst (λ (queries : List Query). CanBeAsked c.args.problem.now queries c.args.budget) (sym (c.as_slice.ensures.value ∙ c.in_ok-queries.ensures)) c.requires;
+}
 
 pub only-requires-clause-answers : goal.only-requires-clause-answers
 only-requires-clause-answers c =

@@ -1,11 +1,11 @@
 -- What all drawers drew is all windows.
-use Rattle.std.proofs.Common.{◌≡◌, ◌∙◌, sym, subst, ℕ}
+use Rattle.std.proofs.Common.{◌∙◌, sym, subst, ℕ}
 use Rattle.gp_linked.specs.Drawn.{AnswersDrawn}
 use Rattle.gp_linked.proofs.Drawing.{answered_in_order}
 use Rattle.gp_linked.proofs.drawn.links_side_by_side.Goals as goal
 
 pub returns-clause-count : goal.returns-clause-count
-returns-clause-count c =
+returns-clause-count g c =
     let recording = c.args.recording.now in
     let tickets = c.in_ok-tickets.tickets in
     let all = c.in_ok-parts.ensures.len ∙ c.in_ok-tickets.ensures.len ∙ sym c.in_ok-tickets.ensures.crew in
@@ -15,7 +15,7 @@ returns-clause-count c =
     ∙ c.in_ok-tickets.ensures.count ∙ c.from.ensures
 
 pub returns-clause-answers : goal.returns-clause-answers
-returns-clause-answers c =
+returns-clause-answers g c =
     let recording = c.args.recording.now in
     let tickets = c.in_ok-tickets.tickets in
     let all = c.in_ok-parts.ensures.len ∙ c.in_ok-tickets.ensures.len ∙ sym c.in_ok-tickets.ensures.crew in

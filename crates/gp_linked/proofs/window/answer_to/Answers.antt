@@ -1,8 +1,9 @@
 -- A model gives a schedule, a refutation shows that there is none, and a spent budget leaves its log.
-use Rattle.std.proofs.Common.{sym, subst, [], ◌∷◌}
+use Rattle.std.proofs.Common.{◌∙◌, sym, subst, [], ◌∷◌}
 use Rattle.gp_certificate.specs.Certificate.{Refutes}
 use Rattle.gp_clause.specs.declared.problem.Problem.{Problem}
 use Rattle.gp_clause.specs.Valuation.{Meets}
+use Rattle.gp_constraint.specs.ByPlace.{IsByPlace}
 use Rattle.gp_constraint.specs.Extended.{nothing_asked}
 use Rattle.gp_link.specs.LinkProblem.{link_problem_of}
 use Rattle.gp_window.specs.WindowForm.{IsWindow, WindowForm}
@@ -16,40 +17,40 @@ use Rattle.gp_linked.proofs.window.answer_to.Goals as goal
 
 pub ask-requires : goal.ask-requires
 ask-requires c =
-    can_be_asked c.extensions_mean.ensures c.problems_are_valid.ensures c.links_are_valid.ensures c.args.extended.now.window c.args.next.now c.args.extended.now.problem c.args.budget
-    c.requires.problem c.requires.sized c.requires.budget.0 c.requires.budget.1
+    can_be_asked c.extensions_mean.ensures c.problems_are_valid.ensures c.links_are_valid.ensures c.args.extended.now.window c.args.next.now c.problem.result.now c.args.budget
+    (c.problem.ensures ∙ c.requires.problem) c.requires.sized c.requires.budget.0 c.requires.budget.1
 
-pub returns-in-Model : goal.returns-in-Model
-returns-in-Model c =
-    let extended = c.args.extended.now in
-    let next : WindowForm = c.args.next.now in
-    let own = c.in_ok-answer.own in
-    let told = subst (λ (a : WorkAnswer). IsAnswerTo extended.problem nothing_asked c.args.budget (own ∷ []) 0 a) c.in-Model.is c.in_ok-answer.ensures.answers in
-    let meets = subst (λ (p : Problem). Meets p nothing_asked c.in-Model.valuation) c.requires.problem told in
-    let is : IsWindow extended.window = subst IsWindow c.window-window.ensures c.comes_from_recording.ensures in
-    c.links_are_answered.ensures.links extended.window next nothing_asked c.in-Model.valuation c.in_ok-schedule.schedule.events is c.comes_from_recording-2.ensures meets c.in_ok-schedule.ensures
+pub returns-in_ok-schedule-in-Model : goal.returns-in_ok-schedule-in-Model
+returns-in_ok-schedule-in-Model c =
+    let window : WindowForm = c.args.extended.now.window in
+    let own = c.in_ok-asked.asked.own in
+    let told = subst (λ (a : WorkAnswer). IsAnswerTo c.problem.result.now nothing_asked c.args.budget (own ∷ []) 0 a) c.in-Model.is c.in_ok-asked.ensures.answers in
+    let meets = subst (λ (p : Problem). Meets p nothing_asked c.in-Model.valuation) (c.problem.ensures ∙ c.requires.problem) told in
+    let is : IsWindow window = subst IsWindow c.window-window.ensures c.comes_from_recording.ensures in
+    let order = subst (λ (w : WindowForm). IsByPlace w c.in-Model.valuation c.in_ok-schedule-in-Model.schedule.events) c.window-window.ensures c.in_ok-schedule-in-Model.ensures in
+    c.links_are_answered.ensures.links window c.args.next.now nothing_asked c.in-Model.valuation c.in_ok-schedule-in-Model.schedule.events is c.comes_from_recording-2.ensures meets order
 
 pub returns-in-Refuted : goal.returns-in-Refuted
 returns-in-Refuted c =
-    let extended = c.args.extended.now in
+    let window : WindowForm = c.args.extended.now.window in
     let next : WindowForm = c.args.next.now in
-    let own = c.in_ok-answer.own in
-    let told = subst (λ (a : WorkAnswer). IsAnswerTo extended.problem nothing_asked c.args.budget (own ∷ []) 0 a) c.in-Refuted.is c.in_ok-answer.ensures.answers in
-    let refutes : Refutes (link_problem_of extended.window next) nothing_asked c.in-Refuted.certificate =
-    subst (λ (p : Problem). Refutes p nothing_asked c.in-Refuted.certificate) c.requires.problem told in
-    let is : IsWindow extended.window = subst IsWindow c.window-window.ensures c.comes_from_recording.ensures in (
-      unlinkable c.refuted_means.ensures c.links_are_answered.ensures extended.window next c.in-Refuted.certificate is c.comes_from_recording-2.ensures c.requires.sized refutes,
+    let own = c.in_ok-asked.asked.own in
+    let told = subst (λ (a : WorkAnswer). IsAnswerTo c.problem.result.now nothing_asked c.args.budget (own ∷ []) 0 a) c.in-Refuted.is c.in_ok-asked.ensures.answers in
+    let refutes : Refutes (link_problem_of window next) nothing_asked c.in-Refuted.certificate =
+    subst (λ (p : Problem). Refutes p nothing_asked c.in-Refuted.certificate) (c.problem.ensures ∙ c.requires.problem) told in
+    let is : IsWindow window = subst IsWindow c.window-window.ensures c.comes_from_recording.ensures in (
+      unlinkable c.refuted_means.ensures c.links_are_answered.ensures window next c.in-Refuted.certificate is c.comes_from_recording-2.ensures c.requires.sized refutes,
       refutes,
     )
 
 pub returns-in-Spent : goal.returns-in-Spent
 returns-in-Spent c =
-    let extended = c.args.extended.now in
+    let window : WindowForm = c.args.extended.now.window in
     let next : WindowForm = c.args.next.now in
-    let asked = c.in_ok-answer.ensures in
-    let own = c.in_ok-answer.own in
-    let told = subst (λ (a : WorkAnswer). IsAnswerTo extended.problem nothing_asked c.args.budget (own ∷ []) 0 a) c.in-Spent.is asked.answers in
-    let spent : IsSpentAlone extended.problem c.args.budget own.log c.in-Spent.from c.in-Spent.to =
-    spent_alone extended.problem c.args.budget own _ c.in-Spent.from c.in-Spent.to told asked.worked asked.once asked.alone in
-    subst (IsAnswer extended.window next c.args.budget) (sym c.undecided.ensures)
-    (subst (λ (p : Problem). IsSpentAlone p c.args.budget own.log c.in-Spent.from c.in-Spent.to) c.requires.problem spent)
+    let asked = c.in_ok-asked.ensures in
+    let own = c.in_ok-asked.asked.own in
+    let told = subst (λ (a : WorkAnswer). IsAnswerTo c.problem.result.now nothing_asked c.args.budget (own ∷ []) 0 a) c.in-Spent.is asked.answers in
+    let spent : IsSpentAlone c.problem.result.now c.args.budget own.log c.in-Spent.from c.in-Spent.to =
+    spent_alone c.problem.result.now c.args.budget own _ c.in-Spent.from c.in-Spent.to told asked.worked asked.once asked.alone in
+    subst (IsAnswer window next c.args.budget) (sym c.undecided.ensures)
+    (subst (λ (p : Problem). IsSpentAlone p c.args.budget own.log c.in-Spent.from c.in-Spent.to) (c.problem.ensures ∙ c.requires.problem) spent)

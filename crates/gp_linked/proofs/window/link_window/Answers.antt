@@ -1,16 +1,15 @@
 -- A window and the next that are not too large are answered by their problem, and others are told so.
-use Rattle.std.proofs.Common.{◌≡◌, ◌∙◌, ap, sym, refl, subst, ℕ}
+use Rattle.std.proofs.Common.{◌≡◌, ◌∙◌, ap, sym, subst}
 use Rattle.std.specs.Prelude.{Result, Ok, Err, IfOk}
+use Rattle.std.proofs.lemmas.Result.{IfOk-weaker}
 use Rattle.gp_window.specs.WindowForm.{WindowForm}
 use Rattle.gp_constraint.specs.Extending.{ExtendedForm}
 use Rattle.gp_link.specs.declared.fault.LinkFault.{LinkFault}
-use Rattle.gp_link.specs.declared.fault.LinkFault.TheVariants as of_link
 use Rattle.gp_link.specs.LinkProblem.{link_problem_of}
 use Rattle.gp_linked.specs.declared.answer.LinkAnswer.{LinkAnswer}
-use Rattle.gp_linked.specs.declared.answer.LinkAnswer.TheVariants.{TooLarge}
 use Rattle.gp_linked.specs.Answered.{AnswersBy, IsAnswer}
 use Rattle.gp_linked.specs.Due.{IsSized, sized_due}
-use Rattle.gp_linked.proofs.Due.{is_due}
+use Rattle.gp_linked.proofs.Due.{fault_apart, is_due}
 use Rattle.gp_linked.proofs.window.link_window.Goals as goal
 
 pub answer_to-requires-clause-problem : goal.answer_to-requires-clause-problem
@@ -36,11 +35,10 @@ returns-in-Ok c =
     subst (λ (w : WindowForm). IfOk c.answer_to.result (λ (link : LinkAnswer). IsAnswer w next c.args.budget link)) (ap (λ (form : ExtendedForm). form.window) own.same) c.answer_to.ensures in
     subst (λ (d : Result ExtendedForm LinkFault). IfOk c.answer_to.result (λ (link : LinkAnswer). AnswersBy c.args.window next c.args.budget d link)) due answer
 
-pub returns-in-Err-TooLarge : goal.returns-in-Err-TooLarge
-returns-in-Err-TooLarge c =
+pub returns-in-Err : goal.returns-in-Err
+returns-in-Err c =
     let next : WindowForm = c.args.next.now in
-    let events : ℕ = c.in-Err-TooLarge.events in
-    let clauses : ℕ = c.in-Err-TooLarge.clauses in
-    let large = rw c.in-Err-TooLarge.field-0-is at c.in-Err-TooLarge.ensures in
-    let due : ◌≡◌ {A = Result ExtendedForm LinkFault} (Err (of_link.TooLarge events clauses)) (sized_due c.args.window next) = large (λ e. cc) in
-    subst (λ (d : Result ExtendedForm LinkFault). AnswersBy c.args.window next c.args.budget d (TooLarge events clauses)) due refl
+    let fault : LinkFault = c.in-Err.fault in
+    IfOk-weaker _ _ _ (λ (link : LinkAnswer) tells.
+    let due : ◌≡◌ {A = Result ExtendedForm LinkFault} (Err fault) (sized_due c.args.window next) = c.in-Err.ensures (fault_apart fault link tells) in
+    subst (λ (d : Result ExtendedForm LinkFault). AnswersBy c.args.window next c.args.budget d link) due tells) c.answer_of.ensures

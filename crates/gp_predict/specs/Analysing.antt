@@ -1,5 +1,5 @@
 -- What is due to task analyse: an analysis of the recording with its properties, or the refusal of too much work.
-use Rattle.std.specs.Prelude.{ℕ, ◌++◌, ◌*◌, ◌≡◌, ◌≤◌, List, Option, None, Some, Result, Ok, Err, if◌then◌else◌, length, codes, decimal}
+use Rattle.std.specs.Prelude.{ℕ, ◌*◌, ◌≡◌, ◌≤◌, List, Option, None, Some, Result, Ok, Err, if◌then◌else◌, length}
 use Rattle.std.specs.List.{list_any}
 use Rattle.gp_outside.specs.Folders.{File}
 use Rattle.gp_compact.specs.Compact.{compacted}
@@ -15,7 +15,7 @@ use Rattle.gp_predict.specs.declared.reply.Reply.{Reply}
 use Rattle.gp_predict.specs.declared.analysing.Asked.{Asked}
 use Rattle.gp_predict.specs.declared.listing.Listing.{Listing}
 use Rattle.gp_predict.specs.Listing.{listing_at}
-use Rattle.gp_predict.specs.Refusal.{one_line}
+use Rattle.gp_predict.specs.Refusal.{limit_refused}
 use Rattle.gp_predict.specs.Telling.{report_text}
 use Rattle.gp_predict.specs.Told.{Analysed, Told}
 
@@ -37,10 +37,6 @@ analysis_form listing asked = record {
   budget = asked.budget;
   format = asked.format;
 }
-
--- the refusal of so many instances with this budget each
-abbrev pub limit_refused : ℕ → ℕ → Reply
-limit_refused total budget = one_line 7 (codes "limit " ++ decimal total ++ codes " " ++ decimal budget)
 
 -- an analysis, or the refusal of so many instances, where they are too many
 abbrev pub analysis_by : Listing → Asked → Option ℕ → Result AnalysisForm Reply

@@ -5,6 +5,7 @@ pub mod Content
 pub mod Due
 pub mod Finished
 pub mod Lines
+pub mod Linking
 pub mod Listing
 pub mod Making
 pub mod Refusal

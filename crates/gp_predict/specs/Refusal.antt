@@ -1,4 +1,4 @@
--- The texts by which input files are refused: `refused FILE LINE RULE`, or without a line.
+-- The texts by which input files are refused: `refused FILE LINE RULE`, or without a line; and that of too much work.
 use Rattle.std.specs.Prelude.{ℕ, ◌++◌, List, [], ◌∷◌, codes, decimal}
 use Rattle.gp_text.specs.declared.lines.TextFault.{TextFault}
 use Rattle.gp_text.specs.declared.lines.TextFault.TheVariants as text
@@ -44,6 +44,10 @@ recording_refused rule thread = one_line 3 (codes "refused recording " ++ rule +
 -- a recording in which two threads hold this lock over the mark before this window
 abbrev pub two_holders : List ℕ → ℕ → Reply
 two_holders lock window = one_line 3 (codes "refused recording twoholders " ++ lock ++ codes " " ++ decimal window)
+
+-- too much work: so many questions with this budget each
+abbrev pub limit_refused : ℕ → ℕ → Reply
+limit_refused total budget = one_line 7 (codes "limit " ++ decimal total ++ codes " " ++ decimal budget)
 
 -- a file whose text has no lines
 abbrev pub text_refusal : FileName → TextFault → Reply

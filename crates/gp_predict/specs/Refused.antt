@@ -8,8 +8,7 @@ use Rattle.gp_predict.specs.declared.refusal.Refusal.TheVariants as refusal
 use Rattle.gp_predict.specs.declared.reply.Reply.{Reply}
 use Rattle.gp_predict.specs.declared.stop.Stop.{Stop}
 use Rattle.gp_predict.specs.declared.stop.Stop.TheVariants.{Refused, FolderFailed, Memory}
-use Rattle.gp_predict.specs.Analysing.{limit_refused}
-use Rattle.gp_predict.specs.Refusal.{content_refusal, properties_refusal, recording_refusal, report_refusal, schedule_refusal}
+use Rattle.gp_predict.specs.Refusal.{content_refusal, limit_refused, properties_refusal, recording_refusal, report_refusal, schedule_refusal}
 
 -- the status and the text of a refusal
 abbrev pub reply_of : Refusal → Reply

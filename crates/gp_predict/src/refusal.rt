@@ -26,7 +26,7 @@ pub enum Refusal {
     Properties(PropertyFault),
     /// The text is no report.
     Report(ReportFault),
-    /// So many instances with this budget each are too much work.
+    /// So many questions with this budget each are too much work.
     Limit { total: u64, budget: u64 },
 }
 

@@ -1,6 +1,6 @@
 ghost use Rattle.std.specs.Prelude.{◌≡◌, [], ◌∷◌, IfOk, string_bytes};
-ghost use Rattle.gp_predict.specs.Analysing.{limit_refused};
 ghost use Rattle.gp_predict.specs.Due.{words_refused};
+ghost use Rattle.gp_predict.specs.Refusal.{limit_refused};
 ghost use Rattle.gp_predict.specs.Replaying.{feasible, stuck};
 
 use gp_base::Row;
@@ -52,7 +52,7 @@ pub fn stuck(alloc: Global, place: u64, rule: Rule) -> Result<Reply, AllocError>
     one_line(alloc, 1, format!(in alloc; "stuck {place} {number}\n")?)
 }
 
-/// The refusal of so many instances with this budget each.
+/// The refusal of so many questions with this budget each.
 pub fn limit_refused(alloc: Global, total: u64, budget: u64) -> Result<Reply, AllocError>
     ensures { IfOk result (λ answer. answer ≡ limit_refused total budget) }
 {

@@ -1,4 +1,4 @@
-ghost use Rattle.std.specs.Prelude.{◌≡◌, ◌≤◌, ◌<◌, ◌++◌, Err, OnOk, OnErr, length};
+ghost use Rattle.std.specs.Prelude.{◌≡◌, ◌≤◌, Err, OnOk, OnErr};
 ghost use Rattle.std.specs.List.{list_any};
 ghost use Rattle.gp_outside.specs.Faults.{Rose};
 ghost use Rattle.gp_outside.specs.Sinks.{Appends, AppendsFront};
@@ -7,6 +7,7 @@ ghost use Rattle.gp_report.specs.Records.{Entry};
 ghost use Rattle.gp_predict.specs.Analysing.{report_status};
 ghost use Rattle.gp_predict.specs.Telling.{report_text};
 
+use crate::each_line::put_each_line;
 use crate::outcome::Outcome;
 use crate::results::Tells;
 use gp_outside::{PutFault, Sink};
@@ -26,6 +27,7 @@ impl Tells for Report {
         Outcome {
             status: status_of(&self),
             report: Some(self),
+            links: None,
         }
     }
 }
@@ -39,36 +41,6 @@ pub fn put_report<S: Sink>(alloc: Global, sink: &mut S, report: &Report) -> Resu
 {
     let text = print_report(alloc, report)?;
     put_each_line(sink, text.as_slice())
-}
-
-/// Writes a text, each of its lines by one call.
-fn put_each_line<S: Sink>(sink: &mut S, text: &[u8]) -> Result<(), PutFault>
-    ensures later { S.faults sink.old ≤ S.faults sink.new }
-    ensures ok { OnOk result (Appends (S.written sink.old) (S.written sink.new) text.now) }
-    ensures err { OnErr result (AppendsFront (S.written sink.old) (S.written sink.new) text.now) }
-    ensures failed { result ≡ Err PutFault.Failed → Rose (S.faults sink.old) (S.faults sink.new) }
-{
-    let mut rest = text;
-    while !rest.is_empty() {
-        let (line, after) = cut_line(rest);
-        sink.put(line)?;
-        rest = after;
-    }
-    Ok(())
-}
-
-/// Cuts a text behind its first newline.
-fn cut_line(text: &[u8]) -> (&[u8], &[u8])
-    requires { 1 ≤ length text.now }
-    ensures whole { text.now ≡ result.0.now ++ result.1.now }
-    ensures shorter { length result.1.now < length text.now }
-{
-    for (i, byte) in text.iter().enumerate() {
-        if *byte == b'\n' {
-            return text.split_at(i + 1);
-        }
-    }
-    (text, &[])
 }
 
 /// The status of a report that is written whole: 1 where some instance is found.

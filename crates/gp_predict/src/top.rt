@@ -10,6 +10,7 @@ ghost use Rattle.gp_words.specs.Command.{IsInRanges, command_of, form_of};
 use crate::analysing::{analysed, asked_of};
 use crate::compacting::compacted;
 use crate::finish::{finish, put_reply};
+use crate::linking::linked;
 use crate::listing::listed;
 use crate::making::make_at;
 use crate::outcome::Outcome;
@@ -26,8 +27,8 @@ use std::thread::Threads;
 ///
 /// `words` are the words after the program's name: options, of which `--task` is one, and the folder that holds
 /// `manifest`, `t1.trace` and so on, and `props`, `schedule` or `report`. A worker of task analyse passes the gate before
-/// each query. Two workers or more of one window pass each other what they learn, and one may wait there for another: that
-/// the call returns is said by no clause.
+/// each query; those of task link, each with windows of its own, pass none. Two workers or more of one window pass each other
+/// what they learn, and one may wait there for another: that the call returns is said by no clause.
 pub fn run<R: AllocGlobal + Threads + Wait + Sync, F: Folder, S: Sink, G: Gate + Sync>(
     rt: &R,
     words: &[String],
@@ -111,6 +112,10 @@ fn answer<R: AllocGlobal + Threads + Wait + Sync, F: Folder, S: Sink, G: Gate + 
         }
         Task::Compact => {
             let made = compacted(rt, folder, directory);
+            finish(alloc, sink, made)
+        }
+        Task::Link => {
+            let made = linked(rt, folder, directory, asked_of(command));
             finish(alloc, sink, made)
         }
         Task::Make => make_at(alloc, command, folder, sink),

@@ -16,6 +16,8 @@ pub enum Task {
     Make,
     /// To print a report with its shared steps once.
     Compact,
+    /// To say of each window whether it leads on to the next.
+    Link,
 }
 
 /// The task of this name.
@@ -29,6 +31,7 @@ pub fn task_named(name: &str) -> Option<Task>
         "check" => Some(Task::Check),
         "make" => Some(Task::Make),
         "compact" => Some(Task::Compact),
+        "link" => Some(Task::Link),
         _ => None,
     }
 }

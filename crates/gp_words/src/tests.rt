@@ -55,7 +55,7 @@ fn first_taken(alloc: Global, refused: &[&[&str]]) -> Result<Option<usize>, Allo
     Ok(None)
 }
 
-const ACCEPTED: [Row; 24] = [
+const ACCEPTED: [Row; 25] = [
     Row {
         words: &["--task=list", "d"],
         command: Some(LIST),
@@ -129,6 +129,13 @@ const ACCEPTED: [Row; 24] = [
         words: &["--task=compact", "d"],
         command: Some(Command {
             task: Task::Compact,
+            ..LIST
+        }),
+    },
+    Row {
+        words: &["--task=link", "d"],
+        command: Some(Command {
+            task: Task::Link,
             ..LIST
         }),
     },

@@ -15,6 +15,7 @@ mod corrupting;
 mod evidence;
 mod faults;
 mod hostile;
+mod linking;
 mod listing;
 mod making;
 mod reading;

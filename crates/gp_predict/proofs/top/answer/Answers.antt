@@ -5,8 +5,9 @@ use Rattle.gp_words.specs.declared.task.Task.TheVariants as task
 use Rattle.gp_predict.specs.declared.analysing.Asked.{Asked}
 use Rattle.gp_predict.specs.Analysing.{analysing_at, of_report}
 use Rattle.gp_predict.specs.Compacting.{of_compact_form}
+use Rattle.gp_predict.specs.Linking.{linking_at, of_links}
 use Rattle.gp_predict.specs.Listing.{of_to_list}
-use Rattle.gp_predict.specs.Tasks.{as_analysis, either_expected}
+use Rattle.gp_predict.specs.Tasks.{as_analysis, as_linking, either_expected}
 use Rattle.gp_predict.specs.Telling.{of_answer}
 use Rattle.gp_predict.specs.Finished.{CameTo, told_by}
 use Rattle.gp_predict.specs.Stage.{IsStage}
@@ -34,3 +35,9 @@ returns-in-Check-clause-run g c =
 pub returns-in-Compact-clause-run : goal.returns-in-Compact-clause-run
 returns-in-Compact-clause-run g c =
     ran_stage of_compact_form c.compacted-made.result (form_of c.args.command.now) task.Compact _ _ _ _ _ _ _ _ _ c.in-Compact.is refl c.compacted-made.ensures c.finish-in-Compact.ensures.finished
+
+pub returns-in-Link-clause-run : goal.returns-in-Link-clause-run
+returns-in-Link-clause-run g c =
+    ran_stage of_links c.linked-made.result (form_of c.args.command.now) task.Link _ _ _ _ _ _ _ _ _ c.in-Link.is refl
+    (subst (λ (asked : Asked). IsStage c.linked-made.result (λ files. CameTo (told_by of_links c.linked-made.result) (either_expected (as_linking (linking_at files c.args.command.now.folder.now asked.budget)))) (g.F.Folder.files c.args.folder.now) (g.F.Folder.files c.linked-made.new.folder) (g.F.Folder.faults c.args.folder.now) (g.F.Folder.faults c.linked-made.new.folder))
+    c.asked_of-in-Link.ensures.numbers c.linked-made.ensures) c.finish-in-Link.ensures.finished

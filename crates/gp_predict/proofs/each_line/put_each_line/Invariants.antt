@@ -1,6 +1,6 @@
 use Rattle.std.proofs.Common.{◌≤◌, length}
 use Rattle.gp_predict.proofs.Written.{IsWritten}
-use Rattle.gp_predict.proofs.reporting.put_each_line.Given as goal
+use Rattle.gp_predict.proofs.each_line.put_each_line.Given as goal
 
 abbrev pub decreases-loop-rest : goal.decreases-loop-rest
 decreases-loop-rest g l = length l.rest

@@ -1,0 +1,405 @@
+// Whole runs of task link: which windows are linked, and that the schedules which link them replay from the recording's start.
+use super::{ANALYSE, REPLAY, Script, recording, run_on, words_with};
+use gp_base::Row;
+use gp_certificate::{Certificate, check_certificate};
+use gp_clause::Query;
+use gp_constraint::base;
+use gp_link::link_problem;
+use gp_linked::{LinkAnswer, LinkReport};
+use gp_outside::{Folder, FreeGate, MemoryFolder, MemorySink};
+use gp_predict::{Outcome, run};
+use gp_replay::{State, StepFault, read_schedule};
+use gp_report::{Answer, Report};
+use gp_window::{EventId, Recording, Schedule, Window, cut, read_recording};
+use std::alloc::{AllocError, Global};
+use std::sync::Wait;
+use std::test::Fail;
+use std::thread::Threads;
+
+const LINK: &str = "--task=link";
+
+/// Two threads, both roots, and two windows, the second of which begins with 5 in x.
+const TWO_WINDOWS: &str = "gptrace 1\nthreads 2\nepochs 2\nroots 1 2\nvalue 2 x 5\n";
+
+/// The first thread keeps its lock over the mark.
+const KEEPS: &str = "acquire l\nmark\nop a\nrelease l\n";
+
+const READS: &str = "mark\nacquire l\nread x 5\nop u\n";
+
+/// Both threads write the mode, which is 2 when the second window begins.
+const MODES: [&str; 3] = [
+    "gptrace 1\nthreads 2\nepochs 2\nroots 1\nvalue 2 mode 2\n",
+    "start 2\nwrite mode 1\nmark\nop close log\n",
+    "write mode 2\nmark\nop use log\n",
+];
+
+/// What links its first window: the first thread writes first.
+const MODES_TEXT: &str = "gplink 1\nbudget 200\nlinked 1 3\n1.0 1.1 2.0\nsummary 1 0 0 0\n";
+
+/// Three windows, between which nothing changes.
+const THREE_WINDOWS: [&str; 3] = [
+    "gptrace 1\nthreads 2\nepochs 3\nroots 1 2\n",
+    "mark\nmark\nop a\n",
+    "mark\nmark\n",
+];
+
+/// What a task on these files ends with, and its text, where this fails.
+fn told<R: AllocGlobal + Threads + Wait + Sync>(
+    rt: &R,
+    words: &[&str],
+    texts: [&str; 3],
+    script: Script,
+) -> Result<(Outcome, MemorySink), AllocError> {
+    let files = recording(rt.alloc(), texts)?;
+    let given = words_with(rt.alloc(), words)?;
+    Ok(run_on(rt, given.as_slice(), files, script))
+}
+
+/// A recording of two threads and one more word, and the status and the text that task link ends with.
+type Linking<'a> = ([&'a str; 3], &'a str, u8, &'a str);
+
+const LINKINGS: [Linking; 5] = [
+    (MODES, "--workers=1", 0, MODES_TEXT),
+    (MODES, "--workers=16", 0, MODES_TEXT),
+    (
+        [
+            "gptrace 1\nthreads 2\nepochs 1\nroots 1\n",
+            "start 2\nop auth r\n",
+            "op use r\n",
+        ],
+        "--budget=200",
+        0,
+        "gplink 1\nbudget 200\nsummary 0 0 0 0\n",
+    ),
+    (
+        THREE_WINDOWS,
+        "--budget=500000",
+        0,
+        "gplink 1\nbudget 500000\nlinked 1 0\nlinked 2 0\nsummary 2 0 0 0\n",
+    ),
+    (THREE_WINDOWS, "--budget=500001", 7, "limit 2 500001\n"),
+];
+
+/// Whether a run keeps the links exactly where its task is done, and no report.
+fn keeps(outcome: &Outcome) -> bool {
+    outcome.report.is_none() && outcome.links.is_some() == (outcome.status <= 1)
+}
+
+fn links_to<R: AllocGlobal + Threads + Wait + Sync>(
+    rt: &R,
+    linking: &Linking,
+) -> Result<bool, AllocError> {
+    let (texts, word, status, text) = *linking;
+    let script = Script::nothing(rt.alloc());
+    let (outcome, sink) = told(rt, &[LINK, word, "d"], texts, script)?;
+    Ok(outcome.status == status && keeps(&outcome) && sink.bytes() == text.as_bytes())
+}
+
+fn all_link<R: AllocGlobal + Threads + Wait + Sync>(rt: &R) -> Result<bool, AllocError> {
+    let mut hold = true;
+    for linking in &LINKINGS {
+        hold &= links_to(rt, linking)?;
+    }
+    Ok(hold)
+}
+
+#[test]
+fn windows_are_linked_within_the_limit(rt: HostRuntime) -> Result<(), Fail> {
+    assert!(rt; all_link(&rt)?);
+    Ok(())
+}
+
+const FIRST_BEGINS: &str = "gplink 1\nbudget 200\nlinked 1 2\n1.0 2.0\nsummary 1 0 0 0\n";
+
+const SECOND_BEGINS: &str = "gplink 1\nbudget 200\nlinked 1 2\n2.0 1.0\nsummary 1 0 0 0\n";
+
+/// The two events of the first window may come in either order.
+fn either_order<R: AllocGlobal + Threads + Wait + Sync>(rt: &R) -> Result<bool, AllocError> {
+    let second = "write x 5\nmark\nacquire l\nread x 5\nop u\n";
+    let texts = [TWO_WINDOWS, KEEPS, second];
+    let script = Script::nothing(rt.alloc());
+    let (outcome, sink) = told(rt, &[LINK, "d"], texts, script)?;
+    let text = sink.bytes();
+    Ok(outcome.status == 0 && (text == FIRST_BEGINS.as_bytes() || text == SECOND_BEGINS.as_bytes()))
+}
+
+/// Whether a certificate refutes the link of the first window of a recording to the second.
+fn refutes_first(
+    alloc: Global,
+    recording: &Recording,
+    certificate: &Certificate,
+) -> Result<bool, Fail> {
+    if recording.manifest().epochs() < 2 {
+        return Ok(false);
+    }
+    let window = cut(alloc, recording, 1)?;
+    let next = cut(alloc, recording, 2)?;
+    let extended = link_problem(alloc, base(alloc, window)?, &next)?;
+    let nothing = Query {
+        locals: Row::new(alloc),
+        assumed: Row::new(alloc),
+    };
+    let passes = check_certificate(alloc, extended.problem(), &[], &nothing, certificate)?;
+    Ok(passes && ends_empty(certificate))
+}
+
+/// Whether the last step of a certificate is the clause without literals.
+fn ends_empty(certificate: &Certificate) -> bool {
+    match certificate.steps.as_slice() {
+        [.., last] => last.clause.lits().is_empty(),
+        [] => false,
+    }
+}
+
+/// The certificate of a report that has one answer.
+fn only_certificate(report: &LinkReport) -> Option<&Certificate> {
+    match report.links.as_slice() {
+        [LinkAnswer::Unlinkable(certificate)] => Some(certificate),
+        _ => None,
+    }
+}
+
+/// Whether the one window of a report is unlinkable, by a certificate that checks again.
+fn is_unlinkable<R: AllocGlobal + Threads + Sync>(
+    rt: &R,
+    texts: [&str; 3],
+    report: &LinkReport,
+) -> Result<bool, Fail> {
+    let files = recording(rt.alloc(), texts)?;
+    let mut folder = MemoryFolder::new(files, Vec::new(rt.alloc()));
+    let read = read_recording(rt, rt.alloc(), &mut folder, "d")?;
+    match only_certificate(report) {
+        Some(certificate) => refutes_first(rt.alloc(), &read, certificate),
+        None => Ok(false),
+    }
+}
+
+/// Nobody wrote the 5 with which the second window begins.
+fn nobody_wrote<R: AllocGlobal + Threads + Wait + Sync>(rt: &R) -> Result<bool, Fail> {
+    let texts = [TWO_WINDOWS, KEEPS, READS];
+    let script = Script::nothing(rt.alloc());
+    let (outcome, sink) = told(rt, &[LINK, "d"], texts, script)?;
+    let text = sink.bytes();
+    let tells = text.starts_with(b"gplink 1\nbudget 200\nunlinkable 1 ")
+        && text.ends_with(b"\nsummary 0 1 0 0\n");
+    match &outcome.links {
+        Some(report) => Ok(tells && outcome.status == 1 && is_unlinkable(rt, texts, report)?),
+        None => Ok(false),
+    }
+}
+
+#[test]
+fn a_value_that_nobody_wrote_is_no_link(rt: HostRuntime) -> Result<(), Fail> {
+    assert!(rt; either_order(&rt)? && nobody_wrote(&rt)?);
+    Ok(())
+}
+
+/// Whether nothing is told and kept where this call of the folder fails.
+fn call_fails<R: AllocGlobal + Threads + Wait + Sync>(
+    rt: &R,
+    call: u64,
+) -> Result<bool, AllocError> {
+    let script = Script {
+        reads: vec![in rt.alloc(); call]?,
+        puts: Vec::new(rt.alloc()),
+    };
+    let (outcome, sink) = told(rt, &[LINK, "d"], MODES, script)?;
+    Ok(outcome.status == 4 && keeps(&outcome) && sink.bytes().is_empty())
+}
+
+/// Whether so many bytes go out, and the links are kept, where this put fails.
+fn put_fails<R: AllocGlobal + Threads + Wait + Sync>(
+    rt: &R,
+    put: u64,
+    bytes: usize,
+) -> Result<bool, AllocError> {
+    let script = Script {
+        reads: Vec::new(rt.alloc()),
+        puts: vec![in rt.alloc(); (put, 0u64)]?,
+    };
+    let (outcome, sink) = told(rt, &[LINK, "d"], MODES, script)?;
+    let begun = MODES_TEXT.as_bytes().get(..bytes).unwrap_or(b"");
+    Ok(outcome.status == 5 && outcome.links.is_some() && sink.bytes() == begun)
+}
+
+/// Each line of the text is one put: the lines before the one that fails are out.
+fn faults_are_told<R: AllocGlobal + Threads + Wait + Sync>(rt: &R) -> Result<bool, AllocError> {
+    const BEGUN: [(u64, usize); 5] = [(1, 0), (2, 9), (3, 20), (4, 31), (5, 43)];
+    let mut hold = true;
+    for call in 1..4u64 {
+        hold &= call_fails(rt, call)?;
+    }
+    for (put, bytes) in &BEGUN {
+        hold &= put_fails(rt, *put, *bytes)?;
+    }
+    Ok(hold)
+}
+
+#[test]
+fn each_call_and_each_put_of_a_link_may_fail(rt: HostRuntime) -> Result<(), Fail> {
+    assert!(rt; faults_are_told(&rt)?);
+    Ok(())
+}
+
+/// What words on a folder end with, and their text.
+fn tells<R: AllocGlobal + Threads + Wait + Sync>(
+    rt: &R,
+    words: &[&str],
+    folder: &mut MemoryFolder,
+) -> Result<(Outcome, MemorySink), AllocError> {
+    let given = words_with(rt.alloc(), words)?;
+    let mut sink = MemorySink::new(rt.alloc(), Vec::new(rt.alloc()));
+    let outcome = run(rt, given.as_slice(), folder, &mut sink, &FreeGate);
+    Ok((outcome, sink))
+}
+
+/// The schedule of window `k` in the text of task link, as a file that task replay reads.
+fn schedule_file(alloc: Global, text: &[u8], k: u32) -> Result<Vec<u8>, AllocError> {
+    let head = format!(in alloc; "linked {k} ")?;
+    let mut file = Vec::new(alloc);
+    let mut inside = false;
+    for line in text.split(|byte| *byte == b'\n') {
+        if !is_list(line) {
+            inside = line.starts_with(head.as_bytes());
+        } else if inside {
+            file.extend_from_slice(line)?;
+            file.push(b'\n')?;
+        }
+    }
+    with_head(alloc, k, file.as_slice())
+}
+
+/// Whether a line is one of a list of events.
+fn is_list(line: &[u8]) -> bool {
+    line.first().is_some_and(|byte| byte.is_ascii_digit())
+}
+
+fn with_head(alloc: Global, k: u32, list: &[u8]) -> Result<Vec<u8>, AllocError> {
+    let mut file = format!(in alloc; "window {k}\n")?.into_bytes();
+    file.extend_from_slice(list)?;
+    Ok(file)
+}
+
+/// How many events a window has.
+fn size_of(window: &Window) -> usize {
+    let mut size = 0usize;
+    for segment in window.segments() {
+        size = size.wrapping_add(segment.len());
+    }
+    size
+}
+
+/// Whether task replay finds a schedule in the folder feasible, and it has all events of its window.
+fn replays_whole<R: AllocGlobal + Threads + Wait + Sync>(
+    rt: &R,
+    folder: &mut MemoryFolder,
+    file: &[u8],
+    window: &Window,
+) -> Result<bool, Fail> {
+    let size = size_of(window);
+    folder.write("d/schedule", file)?;
+    let (outcome, sink) = tells(rt, &[REPLAY, "d"], folder)?;
+    let due = format!(in rt.alloc(); "feasible {size}\n")?;
+    Ok(outcome.status == 0 && sink.bytes() == due.as_bytes())
+}
+
+/// Does an event, where it may happen.
+fn does(state: &mut State, window: &Window, id: EventId) -> Result<bool, AllocError> {
+    if state.counts.len() != window.segments().len() {
+        return Ok(false);
+    }
+    match state.step(window, id) {
+        Ok(()) => Ok(true),
+        Err(StepFault::Broken(_)) => Ok(false),
+        Err(StepFault::Memory) => Err(AllocError),
+    }
+}
+
+/// Does the events of a schedule, where each may happen in turn, from a state in which nothing of the window is done.
+fn does_all(
+    alloc: Global,
+    state: &mut State,
+    window: &Window,
+    schedule: &Schedule,
+) -> Result<bool, AllocError> {
+    let counts = vec![in alloc; 0u32; window.segments().len()]?;
+    state.counts = Row::from_vec(counts);
+    let mut happen = true;
+    for id in schedule.events.as_slice() {
+        happen = happen && does(state, window, *id)?;
+    }
+    Ok(happen)
+}
+
+/// Does the events of a file with a schedule, from a state that an earlier window left.
+fn does_file(alloc: Global, state: &mut State, window: &Window, file: &[u8]) -> Result<bool, Fail> {
+    if file.len() > 1_000_000 {
+        return Ok(false);
+    }
+    let read = read_schedule(alloc, 4096, file)?;
+    Ok(read.window == window.number() && does_all(alloc, state, window, &read.schedule)?)
+}
+
+/// Whether the schedules in a text of links replay, each in its window and all of them from the recording's start, and then
+/// one of the last window.
+fn replay_from_start<R: AllocGlobal + Threads + Wait + Sync>(
+    rt: &R,
+    folder: &mut MemoryFolder,
+    text: &[u8],
+    found: &Schedule,
+) -> Result<bool, Fail> {
+    let alloc = rt.alloc();
+    let read = read_recording(rt, alloc, folder, "d")?;
+    let epochs = read.manifest().epochs();
+    let mut state = State::new(alloc, &cut(alloc, &read, 1)?)?;
+    let mut hold = true;
+    for k in 1..epochs {
+        let window = cut(alloc, &read, k)?;
+        let file = schedule_file(alloc, text, k)?;
+        hold &= replays_whole(rt, folder, file.as_slice(), &window)?;
+        hold &= does_file(alloc, &mut state, &window, file.as_slice())?;
+    }
+    Ok(hold && does_all(alloc, &mut state, &cut(alloc, &read, epochs)?, found)?)
+}
+
+/// The first schedule in the last window of a report that has one property.
+fn last_found(report: &Report) -> Option<&Schedule> {
+    let [.., window] = report.windows() else {
+        return None;
+    };
+    let [property] = window.body.properties() else {
+        return None;
+    };
+    property
+        .body
+        .entries()
+        .iter()
+        .find_map(|entry| match &entry.answer {
+            Answer::Found(schedule) => Some(schedule),
+            _ => None,
+        })
+}
+
+/// Whether what is found in the last of ten windows of a made recording replays from its start, behind what links the others.
+fn found_replays<R: AllocGlobal + Threads + Wait + Sync>(rt: &R) -> Result<bool, Fail> {
+    let mut folder = MemoryFolder::new(Vec::new(rt.alloc()), Vec::new(rt.alloc()));
+    let _made = tells(
+        rt,
+        &["--task=make", "--seed=7", "--events=2000", "d"],
+        &mut folder,
+    )?;
+    let (linked, sink) = tells(rt, &[LINK, "d"], &mut folder)?;
+    let (answered, _report) = tells(rt, &[ANALYSE, "d"], &mut folder)?;
+    let text = sink.bytes();
+    let all = linked.status == 0 && text.ends_with(b"\nsummary 9 0 0 0\n");
+    match answered.report.as_ref().and_then(last_found) {
+        Some(found) => Ok(all && replay_from_start(rt, &mut folder, text, found)?),
+        None => Ok(false),
+    }
+}
+
+#[test]
+fn what_is_found_replays_from_the_start(rt: HostRuntime) -> Result<(), Fail> {
+    assert!(rt; found_replays(&rt)?);
+    Ok(())
+}

@@ -1,108 +1,48 @@
+// Inboxes of two senders: in which order clauses come, and that one serves another problem once it is empty.
 ghost use Rattle.crossbeam_queue.specs.Passes.{view};
-ghost use Rattle.gp_clause.specs.Clause.{NamesBelow};
-ghost use Rattle.gp_derivation.specs.Exchange.{IsGood};
+ghost use Rattle.gp_clause.specs.Problem.{IsValidProblem};
 ghost use Rattle.gp_inbox.specs.Passes.{IsOf};
-ghost use Rattle.gp_inbox.specs.Views.{IsDrained, joined, MayPush, pushed_one, sender_view, taker_view};
-ghost use Rattle.std.specs.Prelude.{◌≡◌, ◌<◌, ◌≤◌, ◌+◌, true, Some, [], ◌∷◌, Contains, IfOk, IfSome, IsTrue, length};
+ghost use Rattle.gp_inbox.specs.Views.{IsDrained, MayPush, sender_view, taker_view};
+ghost use Rattle.std.specs.Prelude.{◌≡◌, ◌<◌, ◌+◌, true, Some, [], ◌∷◌, IfOk, IfSome, IsTrue, length};
 
-use crate::inbox::{Inbox, Pass};
-use gp_base::Row;
-use gp_certificate::{Certificate, Step};
-use gp_clause::{Clause, Kind, Lit, Problem};
+use crate::fixture::{Rows, are_lits, is_valid, problem_of};
+use crate::passing::shared_of;
+use gp_clause::{Kind, Problem};
 use gp_derivation::SharedClause;
+use gp_inbox::{Inbox, Pass};
 use std::alloc::Global;
-use std::sync::{Arc, Wait};
+use std::process::Abort;
+use std::sync::Wait;
 use std::test::Fail;
 
-// The clause that one variable is true.
-fn unit(alloc: Global, variable: u32) -> Result<Clause, Fail> {
-    let mut lits = Vec::new(alloc);
-    lits.push(Lit {
-        variable,
-        positive: true,
-    })?;
-    Ok(Clause::of(lits)?)
-}
-
-// So many points, four free variables and a clause that is false, by which every clause passes.
-fn no_way_out(alloc: Global, points: u32) -> Result<Problem, Fail> {
-    let mut kinds = Row::new(alloc);
-    for _ in 0..4 {
-        kinds.push(Kind::Free)?;
-    }
-    let mut clauses = Row::new(alloc);
-    clauses.push(Clause::of(Vec::new(alloc))?)?;
-    Ok(Problem {
+// Four free variables and a clause that is false, by which every clause passes. The points tell one problem from another.
+fn no_way_out(points: u32) -> Rows<'static> {
+    Rows {
         points,
-        kinds,
-        edges: Row::new(alloc),
-        clauses,
-    })
+        kinds: &[Kind::Free, Kind::Free, Kind::Free, Kind::Free],
+        edges: &[],
+        clauses: &[&[]],
+    }
 }
 
-fn is_no_way_out(base: &Problem) -> bool
-    ensures { IsTrue result → (length base.now.kinds ≡ 4) × Contains base.now.clauses [] }
-{
-    base.kinds.len() == 4 && base.clauses.len() == 1 && base.clauses.as_slice()[0].is_empty()
-}
-
-fn is_small(clause: &Clause) -> bool
-    ensures { IsTrue result → (length clause.now ≤ 8) × NamesBelow 4 clause.now }
-{
-    clause.len() <= 8 && clause.lits().iter().all(|lit| lit.variable < 4)
-}
-
-// The clause of one variable, with a certificate of one step.
-fn shared(alloc: Global, base: &Problem, sender: u32, clause: Clause) -> Result<SharedClause, Fail>
-    requires base { (length base.now.kinds ≡ 4) × Contains base.now.clauses [] }
-    requires clause { (length clause ≤ 8) × NamesBelow 4 clause }
-    ensures { IfOk result (λ shared. (shared.sender ≡ sender) × IsGood base.now shared) }
-{
-    let mut steps = Vec::new(alloc);
-    let step = Step {
-        clause: clause.clone()?,
-        hints: Row::new(alloc),
-    };
-    steps.push(step)?;
-    let certificate = Arc::new(
-        alloc,
-        Certificate {
-            steps: Row::from_vec(steps),
-        },
-    )?;
-    Ok(SharedClause {
-        sender,
-        clause,
-        certificate,
-    })
-}
-
-fn is_unit(got: &Option<SharedClause>, sender: u32, variable: u32) -> bool {
+fn is_unit(got: &Option<SharedClause>, sender: u32, word: i32) -> bool {
     match got {
-        Some(shared) => {
-            shared.sender == sender
-                && shared.clause.len() == 1
-                && shared
-                    .clause
-                    .lits()
-                    .iter()
-                    .all(|lit| lit.variable == variable && lit.positive)
-        }
+        Some(shared) => shared.sender == sender && are_lits(shared.clause.lits(), &[word]),
         None => false,
     }
 }
 
-// Offers the clause of one variable, where its sender pushed less than a thousand through the pass.
-fn send<R: Wait>(
+// Offers the clause that a word spells, where less than a thousand were pushed through the pass.
+fn send<R: Wait + Abort>(
     rt: &R,
     alloc: Global,
     inbox: &Inbox,
     base: &Problem,
     pass: &mut Pass,
     sender: u32,
-    variable: u32,
+    word: i32,
 ) -> Result<(), Fail>
-    requires base { (length base.now.kinds ≡ 4) × Contains base.now.clauses [] }
+    requires base { IsValidProblem base.now }
     requires own { IsOf inbox.now pass.old }
     requires same { (view pass.old).base ≡ Some base.now }
     requires number { MayPush (view pass.old) sender }
@@ -114,11 +54,7 @@ fn send<R: Wait>(
     ensures takes { IfOk result (λ _. (view pass.new).takes ≡ (view pass.old).takes) }
     ensures more { IfOk result (λ _. length (view pass.new).pushed ≡ length (view pass.old).pushed + 1) }
 {
-    let clause = unit(alloc, variable)?;
-    if !is_small(&clause) {
-        return Err(Fail::new("a large clause"));
-    }
-    let shared = shared(alloc, base, sender, clause)?;
+    let shared = shared_of(rt, alloc, base, sender, &[word])?;
     inbox.offer(rt, pass, shared);
     Ok(())
 }
@@ -138,7 +74,7 @@ fn next<R: Wait>(rt: &R, inbox: &Inbox, pass: &mut Pass) -> Option<SharedClause>
 }
 
 // Three clauses of two senders, each through its own pass, and one more through the joined pass.
-fn exchange<R: Wait>(
+fn exchange<R: Wait + Abort>(
     rt: &R,
     alloc: Global,
     base: &Problem,
@@ -147,7 +83,7 @@ fn exchange<R: Wait>(
     three: Pass,
     taker: Pass,
 ) -> Result<bool, Fail>
-    requires base { (length base.now.kinds ≡ 4) × Contains base.now.clauses [] }
+    requires base { IsValidProblem base.now }
     requires two { IsOf inbox.now two × (view two ≡ sender_view base.now (2 ∷ 3 ∷ []) 2) }
     requires three { IsOf inbox.now three × (view three ≡ sender_view base.now (2 ∷ 3 ∷ []) 3) }
     requires taker { IsOf inbox.now taker × (view taker ≡ taker_view base.now (2 ∷ 3 ∷ [])) }
@@ -156,25 +92,25 @@ fn exchange<R: Wait>(
     let mut three = three;
     let mut taker = taker;
     let none = next(rt, inbox, &mut taker);
-    send(rt, alloc, inbox, base, &mut two, 2, 0)?;
-    send(rt, alloc, inbox, base, &mut three, 3, 1)?;
-    send(rt, alloc, inbox, base, &mut two, 2, 2)?;
+    send(rt, alloc, inbox, base, &mut two, 2, 1)?;
+    send(rt, alloc, inbox, base, &mut three, 3, 2)?;
+    send(rt, alloc, inbox, base, &mut two, 2, 3)?;
     let first = next(rt, inbox, &mut taker);
     let second = next(rt, inbox, &mut taker);
     let third = next(rt, inbox, &mut taker);
     let empty = next(rt, inbox, &mut taker);
     inbox.rejoin(&mut taker, two);
     inbox.rejoin(&mut taker, three);
-    send(rt, alloc, inbox, base, &mut taker, 3, 3)?;
+    send(rt, alloc, inbox, base, &mut taker, 3, 4)?;
     let last = next(rt, inbox, &mut taker);
     let end = next(rt, inbox, &mut taker);
     Ok(
         none.is_none()
-            && is_unit(&first, 2, 0)
-            && is_unit(&second, 3, 1)
-            && is_unit(&third, 2, 2)
+            && is_unit(&first, 2, 1)
+            && is_unit(&second, 3, 2)
+            && is_unit(&third, 2, 3)
             && empty.is_none()
-            && is_unit(&last, 3, 3)
+            && is_unit(&last, 3, 4)
             && end.is_none(),
     )
 }
@@ -190,7 +126,7 @@ fn is_drained<R: Wait>(rt: &R, inbox: &Inbox, pass: &mut Pass) -> bool
 }
 
 // One clause of the first problem, and an exchange over the second once the passes are joined.
-fn renew<R: Wait>(
+fn renew<R: Wait + Abort>(
     rt: &R,
     alloc: Global,
     first: &Problem,
@@ -200,15 +136,15 @@ fn renew<R: Wait>(
     three: Pass,
     taker: Pass,
 ) -> Result<bool, Fail>
-    requires first { (length first.now.kinds ≡ 4) × Contains first.now.clauses [] }
-    requires second { (length second.now.kinds ≡ 4) × Contains second.now.clauses [] }
+    requires first { IsValidProblem first.now }
+    requires second { IsValidProblem second.now }
     requires two { IsOf inbox.now two × (view two ≡ sender_view first.now (2 ∷ 3 ∷ []) 2) }
     requires three { IsOf inbox.now three × (view three ≡ sender_view first.now (2 ∷ 3 ∷ []) 3) }
     requires taker { IsOf inbox.now taker × (view taker ≡ taker_view first.now (2 ∷ 3 ∷ [])) }
 {
     let mut two = two;
     let mut taker = taker;
-    send(rt, alloc, inbox, first, &mut two, 2, 3)?;
+    send(rt, alloc, inbox, first, &mut two, 2, 4)?;
     let got = next(rt, inbox, &mut taker);
     inbox.rejoin(&mut taker, two);
     inbox.rejoin(&mut taker, three);
@@ -218,7 +154,7 @@ fn renew<R: Wait>(
     let passes = inbox.renew(alloc, &mut taker, second, &[2, 3])?;
     match both(passes) {
         Some((two, three)) => Ok(
-            is_unit(&got, 2, 3) && exchange(rt, alloc, second, inbox, two, three, taker)?,
+            is_unit(&got, 2, 4) && exchange(rt, alloc, second, inbox, two, three, taker)?,
         ),
         None => Ok(false),
     }
@@ -250,8 +186,8 @@ fn both(passes: Vec<Pass>) -> Option<(Pass, Pass)>
 #[test]
 fn in_the_order_of_the_offers(rt: HostRuntime) -> Result<(), Fail> {
     let alloc = rt.alloc();
-    let base = no_way_out(alloc, 0)?;
-    assert!(rt; is_no_way_out(&base));
+    let base = problem_of(alloc, &no_way_out(0))?;
+    assert!(rt; is_valid(&base));
     match of_two(alloc, &base)? {
         Some((inbox, two, three, taker)) => {
             let due = exchange(&rt, alloc, &base, &inbox, two, three, taker)?;
@@ -267,9 +203,9 @@ fn in_the_order_of_the_offers(rt: HostRuntime) -> Result<(), Fail> {
 #[test]
 fn serves_one_problem_after_another(rt: HostRuntime) -> Result<(), Fail> {
     let alloc = rt.alloc();
-    let first = no_way_out(alloc, 0)?;
-    let second = no_way_out(alloc, 1)?;
-    assert!(rt; is_no_way_out(&first) && is_no_way_out(&second));
+    let first = problem_of(alloc, &no_way_out(0))?;
+    let second = problem_of(alloc, &no_way_out(1))?;
+    assert!(rt; is_valid(&first) && is_valid(&second));
     match of_two(alloc, &first)? {
         Some((inbox, two, three, taker)) => {
             let due = renew(&rt, alloc, &first, &second, &inbox, two, three, taker)?;

@@ -1,5 +1,5 @@
 use Rattle.std.proofs.Common.{◌≡◌, ℕ, ◌-◌, ◌<◌, List, ◌++◌, length, slice_get, IfSome}
-use Rattle.gp_queue.proofs.order.tests.numbers.Given as goal
+use Rattle.gp_solver_rows.proofs.queue.numbers.Given as goal
 
 -- what is listed stands before the rest of the order, at whose front the walk is
 abbrev pub invariant-loop-at : goal.invariant-loop-at

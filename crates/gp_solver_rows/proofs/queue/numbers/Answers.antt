@@ -1,6 +1,6 @@
 use Rattle.std.proofs.Common.{◌≡◌, ℕ, List, [], ◌∷◌, ◌++◌, slice_get, Some, None, sym, ◌∙◌, ap}
 use Rattle.std.proofs.lemmas.List.{append_assoc, append-nil}
-use Rattle.gp_queue.proofs.order.tests.numbers.Goals as goal
+use Rattle.gp_solver_rows.proofs.queue.numbers.Goals as goal
 
 -- the rest begins with the number at its front
 begins : (i : ℕ) (rest : List ℕ) → slice_get rest 0 ≡ Some i → (back : List ℕ) × (rest ≡ i ∷ back)

@@ -34,11 +34,13 @@
 
 mod book;
 mod case;
+mod encodings;
 mod ended;
 mod escape;
 mod evidence;
 mod file;
 mod kept;
+mod layers;
 mod reading;
 mod style;
 mod sweep;
@@ -100,6 +102,11 @@ fn obey_verb<R: AllocGlobal + Print + Threads + Wait + Sync>(
     rest: &str,
 ) -> io::Result<()> {
     if book.change(rt.alloc(), verb, rest)? || whole::obeys(rt, book, verb, rest)? {
+        return Ok(());
+    }
+    if layers::obeys(rt, book.case(), verb, rest)?
+        || encodings::obeys(rt, book.case(), verb, rest)?
+    {
         return Ok(());
     }
     println!(rt; "no verb {verb}")

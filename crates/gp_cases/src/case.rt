@@ -91,6 +91,16 @@ impl Case {
         Ok(())
     }
 
+    /// Lengthens the last word up to so many bytes.
+    fn stretch(&mut self, length: usize) -> Result<(), AllocError> {
+        if let Some(word) = self.words.as_mut_slice().last_mut() {
+            for _ in word.len()..length {
+                word.push('d')?;
+            }
+        }
+        Ok(())
+    }
+
     /// Adds to the file that was begun last.
     fn put(&mut self, bytes: &[u8]) -> Result<(), AllocError> {
         match self.files.as_mut_slice().last_mut() {
@@ -109,12 +119,30 @@ impl Case {
         self.put(b"\n")
     }
 
+    /// A line that spaces lengthen up to so many bytes.
+    fn put_long(&mut self, alloc: Global, rest: &str) -> Result<(), AllocError> {
+        let (length, text) = rest.split_once(' ').unwrap_or((rest, ""));
+        let mut line = unescaped(alloc, text)?;
+        line.resize(number(length) as usize, b' ')?;
+        line.push(b'\n')?;
+        self.put(line.as_slice())
+    }
+
+    /// A line so many times, with its number from 1 in place of `%`.
     fn repeat(&mut self, alloc: Global, rest: &str) -> Result<(), AllocError> {
         let (count, text) = rest.split_once(' ').unwrap_or((rest, ""));
-        for _ in 0..number(count) {
-            self.put_line(alloc, text)?;
+        for before in 0..number(count) {
+            self.put_numbered(alloc, text, before.wrapping_add(1))?;
         }
         Ok(())
+    }
+
+    fn put_numbered(&mut self, alloc: Global, text: &str, number: u64) -> Result<(), AllocError> {
+        let Some((front, behind)) = text.split_once('%') else {
+            return self.put_line(alloc, text);
+        };
+        let line = format!(in alloc; "{front}{number}{behind}")?;
+        self.put_line(alloc, line.as_str())
     }
 
     fn fill(&mut self, length: usize) -> Result<(), AllocError> {
@@ -161,6 +189,7 @@ impl Case {
         match verb {
             "words" => self.say(alloc, rest)?,
             "word" => self.add_word(alloc, rest)?,
+            "stretch" => self.stretch(number(rest) as usize)?,
             "file" => self.give(alloc, rest, b"")?,
             "absent" => self.drop_file(rest),
             "fail" => self.failing.push(number(rest))?,
@@ -177,6 +206,7 @@ impl Case {
         match verb {
             "|" => self.put_line(alloc, rest)?,
             ">" => self.put_text(alloc, rest)?,
+            "long" => self.put_long(alloc, rest)?,
             "repeat" => self.repeat(alloc, rest)?,
             "fill" => self.fill(number(rest) as usize)?,
             "replace" => self.replace(alloc, rest)?,

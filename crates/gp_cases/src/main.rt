@@ -5,10 +5,12 @@
 //     case NAME            begins a case: what was said of the one before is forgotten. The line is printed
 //     words A B C          the words of the command, parted by spaces, in place of those before
 //     word TEXT            one word more, with all its bytes
+//     stretch N            lengthens the last word to N bytes
 //     file PATH            begins a file, in place of the one with this path
 //     | TEXT               a line of the file that was begun last
 //     > TEXT               the same without a newline
-//     repeat N TEXT        so many equal lines
+//     long N TEXT          a line that spaces lengthen up to N bytes
+//     repeat N TEXT        so many lines, each with its number from 1 in place of `%`
 //     fill N               comments up to this length
 //     replace N PATH       takes line N of a file away, or `N-M` the lines from N to M; what follows stands in its place
 //     absent PATH          takes a file away

@@ -59,8 +59,10 @@ fn tell_short(rt: &impl Print, case: &Case, ended: &Ended) -> io::Result<()> {
     let length = ended.text().len();
     print!(rt; ": status {status}{}, {length} bytes", kept(ended))?;
     tell_changed(rt, case, ended)?;
-    let last = last_line(ended.text());
-    println!(rt; ": {last}")
+    match last_line(ended.text()) {
+        "" => println!(rt; ""),
+        last => println!(rt; ": {last}"),
+    }
 }
 
 fn tell_changed(rt: &impl Print, case: &Case, ended: &Ended) -> io::Result<()> {

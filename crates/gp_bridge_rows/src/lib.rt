@@ -1,19 +1,20 @@
-// The worked rows of what lies between a window and the solver: recordings, and what is due for each, written down by
-// hand. They stand beside the crates and call nothing but what these make public, so that no crate is proved a second
-// time for its tests.
+// What is added to the crates from outside, by nothing but what these make public: a small family of clauses, that an event is
+// executed, and a second question of each window of a recording, which threads can come to the end of their segment. It goes
+// through the same analysis as the question for patterns. The rows of both stand here too.
 #![tactic(auto)]
 
 #[cfg(test)]
-mod asking;
+mod ending;
+mod ends;
+mod giving;
+mod happens;
+mod laws;
+mod listing;
 #[cfg(test)]
-mod encoding;
-#[cfg(test)]
-mod executing;
+mod numbers;
 #[cfg(test)]
 mod recorded;
-#[cfg(test)]
-mod rows;
-#[cfg(test)]
-mod sizes;
-#[cfg(test)]
-mod written;
+
+pub use ends::Ends;
+pub use happens::Happens;
+pub use laws::happens_means;

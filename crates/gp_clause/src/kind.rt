@@ -34,25 +34,3 @@ impl Kind {
         }
     }
 }
-
-#[cfg(test)]
-mod tests {
-    use super::*;
-
-    #[test]
-    fn bounds_of_literals(rt: HostRuntime) {
-        let order = Kind::Order { a: 2, b: 5 };
-        let span = Kind::Span { a: 2, b: 5, c: 3 };
-        let rows = [
-            (Kind::Free, true, None),
-            (Kind::Free, false, None),
-            (order, true, Some(Edge { a: 2, b: 5, c: -1 })),
-            (order, false, Some(Edge { a: 5, b: 2, c: -1 })),
-            (span, true, Some(Edge { a: 2, b: 5, c: 3 })),
-            (span, false, Some(Edge { a: 5, b: 2, c: -4 })),
-        ];
-        for (kind, positive, want) in rows {
-            assert_eq!(rt; kind.bound(positive), want, "at {kind:?} {positive}");
-        }
-    }
-}

@@ -10,4 +10,3 @@ mod Joining
 mod Learning
 mod Steps
 mod Cutting
-mod Units

@@ -15,6 +15,3 @@ mod rule;
 pub use history::history_moves;
 pub use inbox::{Inbox, Pass};
 pub use rule::View;
-
-#[cfg(test)]
-mod tests;

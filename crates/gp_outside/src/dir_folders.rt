@@ -92,8 +92,8 @@ fn read_file<R: Files>(rt: &R, name: &str, limit: u64, out: &mut Vec<u8>) -> Res
     }
 }
 
-// Reads to the end of the input, or to one byte more than the limit. No byte is lost or made up.
-fn read_within<F: Read>(file: &mut F, limit: u64, out: &mut Vec<u8>) -> Result<(), ReadFault>
+/// Reads to the end of the input, or to one byte more than the limit. No byte is lost or made up.
+pub fn read_within<F: Read>(file: &mut F, limit: u64, out: &mut Vec<u8>) -> Result<(), ReadFault>
     ensures moved { result ≢ Err ReadFault.Memory →
         Moves (F.remaining file.old) (F.remaining file.new) out.old.items out.new.items }
     ensures end { OnOk result (IsAtEnd (F.remaining file.new)) }
@@ -116,62 +116,5 @@ fn read_within<F: Read>(file: &mut F, limit: u64, out: &mut Vec<u8>) -> Result<(
             return Err(ReadFault::TooLong);
         }
         left -= count as u64;
-    }
-}
-
-#[cfg(test)]
-mod tests {
-    use super::*;
-    use std::io::Error;
-    use std::test::Fail;
-
-    // Gives the number of the read twice at each read, and fails at the third.
-    #[derive(Drop)]
-    struct Broken {
-        reads: u8,
-    }
-
-    impl Read for Broken {
-        fn read(&mut self, buf: &mut [u8]) -> io::Result<usize> {
-            self.reads = self.reads.saturating_add(1);
-            if self.reads == 3 {
-                return Err(Error::from(ErrorKind::UnexpectedEof));
-            }
-            let count = buf.len().min(2);
-            buf[..count].fill(self.reads);
-            Ok(count)
-        }
-    }
-
-    #[test]
-    fn a_read_that_fails_is_no_end(rt: HostRuntime) {
-        for (limit, answer, bytes) in [
-            (9, Err(ReadFault::Failed), [1u8, 1, 2, 2].as_slice()),
-            (4, Err(ReadFault::Failed), &[1, 1, 2, 2]),
-            (3, Err(ReadFault::TooLong), &[1, 1, 2, 2]),
-            (0, Err(ReadFault::TooLong), &[1]),
-        ] {
-            let mut out = Vec::new(rt.alloc());
-            let given = read_within(&mut Broken { reads: 0 }, limit, &mut out);
-            assert!(rt; given == answer && out.as_slice() == bytes, "{limit}");
-        }
-    }
-
-    fn holds(rt: &HostRuntime, path: &str, bytes: &[u8]) -> Result<bool, Fail> {
-        Ok(fs::read(rt, path)?.as_slice() == bytes)
-    }
-
-    #[test]
-    fn a_file_that_was_written_holds_the_bytes(rt: HostRuntime) -> Result<(), Fail> {
-        let path = "dir_folder_test";
-        let mut long = [7u8; 5000];
-        long[4999] = 8;
-        let mut folder = DirFolder::new(rt.clone()?);
-        for bytes in [long.as_slice(), b"short\n", b""] {
-            assert!(rt; folder.write(path, bytes) == Ok(()) && holds(&rt, path, bytes)?);
-        }
-        assert!(rt; folder.write("dir_folder_test/inner", b"x") == Err(WriteFault::Failed));
-        fs::remove_file(&rt, path)?;
-        Ok(())
     }
 }

@@ -16,7 +16,7 @@ mod sinks;
 mod std_sinks;
 mod writing;
 
-pub use dir_folders::DirFolder;
+pub use dir_folders::{DirFolder, read_within};
 pub use folders::{Folder, ReadFault, WriteFault};
 pub use gates::{FreeGate, Gate};
 pub use hold_gate::HoldGate;

@@ -165,36 +165,3 @@ impl Folder for MemoryFolder {
         Ok(())
     }
 }
-
-#[cfg(test)]
-mod tests {
-    use super::*;
-    use std::alloc::Global;
-    use std::test::Fail;
-
-    // Writes a file, writes it again, fails once, and writes a second file.
-    fn writes_hold(alloc: Global) -> Result<bool, AllocError> {
-        const ROWS: [(&str, &[u8], Result<(), WriteFault>); 4] = [
-            ("one", b"first", Ok(())),
-            ("one", b"again", Ok(())),
-            ("two", b"lost", Err(WriteFault::Failed)),
-            ("two", b"kept", Ok(())),
-        ];
-        let mut folder = MemoryFolder::new(Vec::new(alloc), vec![in alloc; 3u64]?);
-        let mut hold = true;
-        for (name, bytes, answer) in &ROWS {
-            hold &= folder.write(name, bytes) == *answer;
-        }
-        for (name, bytes) in [("one", b"again".as_slice()), ("two", b"kept")] {
-            let mut out = Vec::new(alloc);
-            hold &= folder.read(name, 9, &mut out) == Ok(()) && out.as_slice() == bytes;
-        }
-        Ok(hold && folder.files().len() == 2)
-    }
-
-    #[test]
-    fn a_file_is_written_in_place_or_at_the_end(rt: HostRuntime) -> Result<(), Fail> {
-        assert!(rt; writes_hold(rt.alloc())?);
-        Ok(())
-    }
-}

@@ -1,24 +1,10 @@
-// Rows of the layers below whole runs: texts, the outside, traces, properties, windows, replays and
-// instances, each against values from outside. Each layer has one module of tests, which stand here so
-// that no layer is proved twice. The library's own code is one function that the rows need.
+// Rows of the outside: what folders and sinks answer, over memory and at the edges, and when workers meet at a gate. They are
+// tests, since a text cannot say them, and stand here so that the crate is not proved twice.
 #![tactic(auto)]
 
 #[cfg(test)]
-mod instance;
-mod numbered;
+mod files;
+#[cfg(test)]
+mod gates;
 #[cfg(test)]
 mod outside;
-#[cfg(test)]
-mod property;
-#[cfg(test)]
-mod recorded;
-#[cfg(test)]
-mod replay;
-#[cfg(test)]
-mod text;
-#[cfg(test)]
-mod trace;
-#[cfg(test)]
-mod window;
-
-pub use numbered::window_numbered;

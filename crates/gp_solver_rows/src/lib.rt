@@ -3,17 +3,23 @@
 #![tactic(auto)]
 
 #[cfg(test)]
+mod clause;
+#[cfg(test)]
 mod derivation;
 #[cfg(test)]
 mod difference;
 #[cfg(test)]
 mod fixture;
 #[cfg(test)]
+mod inbox;
+#[cfg(test)]
 mod meeting;
 #[cfg(test)]
 mod memory_mail;
 #[cfg(test)]
 mod passing;
+#[cfg(test)]
+mod queue;
 #[cfg(test)]
 mod sat;
 #[cfg(test)]

@@ -77,33 +77,37 @@ fn is_good(
 
 fn with_sender(
     alloc: Global,
+    sender: u32,
     clause: Clause,
     certificate: Certificate,
 ) -> Result<SharedClause, Fail>
-    ensures { IfOk result (λ shared. (shared.clause ≡ clause) × (arc_value shared.certificate ≡ certificate)) }
+    ensures sender { IfOk result (λ shared. shared.sender ≡ sender) }
+    ensures parts { IfOk result (λ shared. (shared.clause ≡ clause) × (arc_value shared.certificate ≡ certificate)) }
 {
     Ok(SharedClause {
-        sender: SENDER,
+        sender,
         clause,
         certificate: Arc::new(alloc, certificate)?,
     })
 }
 
-// A clause that is good by one step without hints.
-fn shared_of(
+/// A clause of a sender that is good by one step without hints.
+pub fn shared_of(
     rt: &impl Abort,
     alloc: Global,
     problem: &Problem,
+    sender: u32,
     words: &[i32],
 ) -> Result<SharedClause, Fail>
     requires { IsValidProblem problem.now }
-    ensures { IfOk result (IsGood problem.now) }
+    ensures sender { IfOk result (λ shared. shared.sender ≡ sender) }
+    ensures good { IfOk result (IsGood problem.now) }
 {
     let clause = Clause::of(lits_of(alloc, words)?)?;
     let certificate = plain(alloc, &clause)?;
     let query = nothing(alloc);
     assert!(rt; is_good(alloc, problem, &query, &clause, &certificate)?);
-    with_sender(alloc, clause, certificate)
+    with_sender(alloc, sender, clause, certificate)
 }
 
 fn waiting_of(
@@ -117,7 +121,7 @@ fn waiting_of(
 {
     let mut waiting = VecDeque::new(alloc);
     for words in clauses {
-        let shared = shared_of(rt, alloc, problem, words)?;
+        let shared = shared_of(rt, alloc, problem, SENDER, words)?;
         waiting.push_back(shared)?;
     }
     Ok(waiting)

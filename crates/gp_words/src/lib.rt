@@ -15,8 +15,6 @@ mod number;
 mod order;
 mod reading;
 mod task;
-#[cfg(test)]
-mod tests;
 mod value;
 
 pub use command::{Command, command_of};

@@ -1,9 +1,7 @@
-// Whole runs of task check on a report that chance has spoilt: each is accepted, rejected or refused in one line.
-use super::checking::CHECK;
-use super::making::{large_folder, large_report};
-use super::words_with;
-use gp_outside::{Folder, FreeGate, MemoryFolder, MemorySink};
-use gp_predict::run;
+// Whole runs of task check on reports that are spoilt: what chance has spoilt is accepted, rejected or refused in one line; what
+// means the same is accepted, and what lacks a line is not.
+use super::large::{is_accepted, large_folder, large_report, verdict_on};
+use gp_outside::{FreeGate, MemoryFolder};
 use std::alloc::{AllocError, Global};
 use std::sync::Wait;
 use std::test::Fail;
@@ -121,34 +119,97 @@ fn is_verdict(status: u8, text: &[u8]) -> bool {
     begins && text.iter().position(|byte| *byte == b'\n') == text.len().checked_sub(1)
 }
 
-/// Whether task check on this report has a verdict.
-fn ends_in_a_verdict<R: AllocGlobal + Threads + Wait + Sync>(
+/// Whether task check has a verdict on reports that chance has spoilt.
+fn have_verdicts<R: AllocGlobal + Threads + Wait + Sync>(
     rt: &R,
     folder: &mut MemoryFolder,
     report: &[u8],
 ) -> Result<bool, Fail> {
-    folder.write("d/report", report)?;
-    let words = words_with(rt.alloc(), &[CHECK, "d"])?;
-    let mut sink = MemorySink::new(rt.alloc(), Vec::new(rt.alloc()));
-    let outcome = run(rt, words.as_slice(), folder, &mut sink, &FreeGate);
-    Ok(is_verdict(outcome.status, sink.bytes()))
-}
-
-fn all_end_in_a_verdict<R: AllocGlobal + Threads + Wait + Sync>(rt: &R) -> Result<bool, Fail> {
-    let mut folder = large_folder(rt)?;
-    let report = large_report(rt, &mut folder, "--workers=1", &FreeGate)?;
     let mut hold = true;
     let mut state = 20_261_128u64;
     for _ in 0..50 {
         state = next(next(next(next(state))));
-        let text = spoilt(rt.alloc(), report.as_slice(), state)?;
-        hold &= ends_in_a_verdict(rt, &mut folder, text.as_slice())?;
+        let text = spoilt(rt.alloc(), report, state)?;
+        let (status, told) = verdict_on(rt, folder, text.as_slice())?;
+        hold &= is_verdict(status, told.as_slice());
     }
     Ok(hold)
 }
 
+/// Whether a report has a verdict wherever chance has spoilt it, and is accepted before and after.
+fn spoilt_reports_have_verdicts<R: AllocGlobal + Threads + Wait + Sync>(
+    rt: &R,
+) -> Result<bool, Fail> {
+    let mut folder = large_folder(rt)?;
+    let report = large_report(rt, &mut folder, "--workers=1", &FreeGate)?;
+    let report = report.as_slice();
+    Ok(
+        is_accepted(rt, &mut folder, report)?
+            && have_verdicts(rt, &mut folder, report)?
+            && is_accepted(rt, &mut folder, report)?,
+    )
+}
+
 #[test]
 fn a_spoilt_report_has_a_verdict(rt: HostRuntime) -> Result<(), Fail> {
-    assert!(rt; all_end_in_a_verdict(&rt)?);
+    assert!(rt; spoilt_reports_have_verdicts(&rt)?);
+    Ok(())
+}
+
+/// A text with a space more wherever there is one, and a comment behind each line.
+fn spread(alloc: Global, text: &[u8]) -> Result<Vec<u8>, AllocError> {
+    let mut told = Vec::new(alloc);
+    for byte in text {
+        match *byte {
+            b' ' => told.extend_from_slice(b"  ")?,
+            b'\n' => told.extend_from_slice(b" \n# no more\n")?,
+            byte => told.push(byte)?,
+        }
+    }
+    Ok(told)
+}
+
+/// A text without the line behind the first ones, so many of them.
+fn without_line(alloc: Global, text: &[u8], place: usize) -> Result<Vec<u8>, AllocError> {
+    let mut told = Vec::new(alloc);
+    let lines = text.split_inclusive(|byte| *byte == b'\n');
+    for (number, line) in lines.enumerate() {
+        if number != place {
+            told.extend_from_slice(line)?;
+        }
+    }
+    Ok(told)
+}
+
+/// Whether a report is rejected or refused without one of its lines, at each of these places.
+fn lines_are_missed<R: AllocGlobal + Threads + Wait + Sync>(
+    rt: &R,
+    folder: &mut MemoryFolder,
+    report: &[u8],
+) -> Result<bool, Fail> {
+    let mut missed = true;
+    for place in 0..40usize {
+        let text = without_line(rt.alloc(), report, place)?;
+        let (status, told) = verdict_on(rt, folder, text.as_slice())?;
+        missed &= status != 0 && is_verdict(status, told.as_slice());
+    }
+    Ok(missed)
+}
+
+fn changes_are_told_apart<R: AllocGlobal + Threads + Wait + Sync>(rt: &R) -> Result<bool, Fail> {
+    let mut folder = large_folder(rt)?;
+    let report = large_report(rt, &mut folder, "--workers=1", &FreeGate)?;
+    let wide = spread(rt.alloc(), report.as_slice())?;
+    Ok(
+        is_accepted(rt, &mut folder, wide.as_slice())?
+            && lines_are_missed(rt, &mut folder, report.as_slice())?,
+    )
+}
+
+#[test]
+fn what_means_the_same_is_accepted_and_what_lacks_a_line_is_not(
+    rt: HostRuntime,
+) -> Result<(), Fail> {
+    assert!(rt; changes_are_told_apart(&rt)?);
     Ok(())
 }

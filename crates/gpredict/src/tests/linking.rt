@@ -1,5 +1,5 @@
 // Whole runs of task link: which windows are linked, and that the schedules which link them replay from the recording's start.
-use super::{ANALYSE, REPLAY, Script, recording, run_on, words_with};
+use super::{files_of, run_on, words_of};
 use gp_base::Row;
 use gp_certificate::{Certificate, check_certificate};
 use gp_clause::Query;
@@ -16,112 +16,15 @@ use std::sync::Wait;
 use std::test::Fail;
 use std::thread::Threads;
 
-const LINK: &str = "--task=link";
-
-/// Two threads, both roots, and two windows, the second of which begins with 5 in x.
-const TWO_WINDOWS: &str = "gptrace 1\nthreads 2\nepochs 2\nroots 1 2\nvalue 2 x 5\n";
-
-/// The first thread keeps its lock over the mark.
-const KEEPS: &str = "acquire l\nmark\nop a\nrelease l\n";
-
-const READS: &str = "mark\nacquire l\nread x 5\nop u\n";
-
-/// Both threads write the mode, which is 2 when the second window begins.
-const MODES: [&str; 3] = [
-    "gptrace 1\nthreads 2\nepochs 2\nroots 1\nvalue 2 mode 2\n",
-    "start 2\nwrite mode 1\nmark\nop close log\n",
-    "write mode 2\nmark\nop use log\n",
-];
-
-/// What links its first window: the first thread writes first.
-const MODES_TEXT: &str = "gplink 1\nbudget 200\nlinked 1 3\n1.0 1.1 2.0\nsummary 1 0 0 0\n";
-
-/// Three windows, between which nothing changes.
-const THREE_WINDOWS: [&str; 3] = [
-    "gptrace 1\nthreads 2\nepochs 3\nroots 1 2\n",
-    "mark\nmark\nop a\n",
-    "mark\nmark\n",
-];
-
-/// What a task on these files ends with, and its text, where this fails.
-fn told<R: AllocGlobal + Threads + Wait + Sync>(
-    rt: &R,
-    words: &[&str],
-    texts: [&str; 3],
-    script: Script,
-) -> Result<(Outcome, MemorySink), AllocError> {
-    let files = recording(rt.alloc(), texts)?;
-    let given = words_with(rt.alloc(), words)?;
-    Ok(run_on(rt, given.as_slice(), files, script))
-}
-
-/// A recording of two threads and one more word, and the status and the text that task link ends with.
-type Linking<'a> = ([&'a str; 3], &'a str, u8, &'a str);
-
-const LINKINGS: [Linking; 5] = [
-    (MODES, "--workers=1", 0, MODES_TEXT),
-    (MODES, "--workers=16", 0, MODES_TEXT),
+/// Two windows, the second of which begins with 5 in x, which nobody wrote. The first thread keeps its lock over the mark.
+const NOBODY_WROTE: [(&str, &str); 3] = [
     (
-        [
-            "gptrace 1\nthreads 2\nepochs 1\nroots 1\n",
-            "start 2\nop auth r\n",
-            "op use r\n",
-        ],
-        "--budget=200",
-        0,
-        "gplink 1\nbudget 200\nsummary 0 0 0 0\n",
+        "d/manifest",
+        "gptrace 1\nthreads 2\nepochs 2\nroots 1 2\nvalue 2 x 5\n",
     ),
-    (
-        THREE_WINDOWS,
-        "--budget=500000",
-        0,
-        "gplink 1\nbudget 500000\nlinked 1 0\nlinked 2 0\nsummary 2 0 0 0\n",
-    ),
-    (THREE_WINDOWS, "--budget=500001", 7, "limit 2 500001\n"),
+    ("d/t1.trace", "acquire l\nmark\nop a\nrelease l\n"),
+    ("d/t2.trace", "mark\nacquire l\nread x 5\nop u\n"),
 ];
-
-/// Whether a run keeps the links exactly where its task is done, and no report.
-fn keeps(outcome: &Outcome) -> bool {
-    outcome.report.is_none() && outcome.links.is_some() == (outcome.status <= 1)
-}
-
-fn links_to<R: AllocGlobal + Threads + Wait + Sync>(
-    rt: &R,
-    linking: &Linking,
-) -> Result<bool, AllocError> {
-    let (texts, word, status, text) = *linking;
-    let script = Script::nothing(rt.alloc());
-    let (outcome, sink) = told(rt, &[LINK, word, "d"], texts, script)?;
-    Ok(outcome.status == status && keeps(&outcome) && sink.bytes() == text.as_bytes())
-}
-
-fn all_link<R: AllocGlobal + Threads + Wait + Sync>(rt: &R) -> Result<bool, AllocError> {
-    let mut hold = true;
-    for linking in &LINKINGS {
-        hold &= links_to(rt, linking)?;
-    }
-    Ok(hold)
-}
-
-#[test]
-fn windows_are_linked_within_the_limit(rt: HostRuntime) -> Result<(), Fail> {
-    assert!(rt; all_link(&rt)?);
-    Ok(())
-}
-
-const FIRST_BEGINS: &str = "gplink 1\nbudget 200\nlinked 1 2\n1.0 2.0\nsummary 1 0 0 0\n";
-
-const SECOND_BEGINS: &str = "gplink 1\nbudget 200\nlinked 1 2\n2.0 1.0\nsummary 1 0 0 0\n";
-
-/// The two events of the first window may come in either order.
-fn either_order<R: AllocGlobal + Threads + Wait + Sync>(rt: &R) -> Result<bool, AllocError> {
-    let second = "write x 5\nmark\nacquire l\nread x 5\nop u\n";
-    let texts = [TWO_WINDOWS, KEEPS, second];
-    let script = Script::nothing(rt.alloc());
-    let (outcome, sink) = told(rt, &[LINK, "d"], texts, script)?;
-    let text = sink.bytes();
-    Ok(outcome.status == 0 && (text == FIRST_BEGINS.as_bytes() || text == SECOND_BEGINS.as_bytes()))
-}
 
 /// Whether a certificate refutes the link of the first window of a recording to the second.
 fn refutes_first(
@@ -162,10 +65,9 @@ fn only_certificate(report: &LinkReport) -> Option<&Certificate> {
 /// Whether the one window of a report is unlinkable, by a certificate that checks again.
 fn is_unlinkable<R: AllocGlobal + Threads + Sync>(
     rt: &R,
-    texts: [&str; 3],
     report: &LinkReport,
 ) -> Result<bool, Fail> {
-    let files = recording(rt.alloc(), texts)?;
+    let files = files_of(rt.alloc(), &NOBODY_WROTE)?;
     let mut folder = MemoryFolder::new(files, Vec::new(rt.alloc()));
     let read = read_recording(rt, rt.alloc(), &mut folder, "d")?;
     match only_certificate(report) {
@@ -174,70 +76,17 @@ fn is_unlinkable<R: AllocGlobal + Threads + Sync>(
     }
 }
 
-/// Nobody wrote the 5 with which the second window begins.
 fn nobody_wrote<R: AllocGlobal + Threads + Wait + Sync>(rt: &R) -> Result<bool, Fail> {
-    let texts = [TWO_WINDOWS, KEEPS, READS];
-    let script = Script::nothing(rt.alloc());
-    let (outcome, sink) = told(rt, &[LINK, "d"], texts, script)?;
-    let text = sink.bytes();
-    let tells = text.starts_with(b"gplink 1\nbudget 200\nunlinkable 1 ")
-        && text.ends_with(b"\nsummary 0 1 0 0\n");
+    let (outcome, _sink) = run_on(rt, &["--task=link", "d"], &NOBODY_WROTE)?;
     match &outcome.links {
-        Some(report) => Ok(tells && outcome.status == 1 && is_unlinkable(rt, texts, report)?),
+        Some(report) => is_unlinkable(rt, report),
         None => Ok(false),
     }
 }
 
 #[test]
 fn a_value_that_nobody_wrote_is_no_link(rt: HostRuntime) -> Result<(), Fail> {
-    assert!(rt; either_order(&rt)? && nobody_wrote(&rt)?);
-    Ok(())
-}
-
-/// Whether nothing is told and kept where this call of the folder fails.
-fn call_fails<R: AllocGlobal + Threads + Wait + Sync>(
-    rt: &R,
-    call: u64,
-) -> Result<bool, AllocError> {
-    let script = Script {
-        reads: vec![in rt.alloc(); call]?,
-        puts: Vec::new(rt.alloc()),
-    };
-    let (outcome, sink) = told(rt, &[LINK, "d"], MODES, script)?;
-    Ok(outcome.status == 4 && keeps(&outcome) && sink.bytes().is_empty())
-}
-
-/// Whether so many bytes go out, and the links are kept, where this put fails.
-fn put_fails<R: AllocGlobal + Threads + Wait + Sync>(
-    rt: &R,
-    put: u64,
-    bytes: usize,
-) -> Result<bool, AllocError> {
-    let script = Script {
-        reads: Vec::new(rt.alloc()),
-        puts: vec![in rt.alloc(); (put, 0u64)]?,
-    };
-    let (outcome, sink) = told(rt, &[LINK, "d"], MODES, script)?;
-    let begun = MODES_TEXT.as_bytes().get(..bytes).unwrap_or(b"");
-    Ok(outcome.status == 5 && outcome.links.is_some() && sink.bytes() == begun)
-}
-
-/// Each line of the text is one put: the lines before the one that fails are out.
-fn faults_are_told<R: AllocGlobal + Threads + Wait + Sync>(rt: &R) -> Result<bool, AllocError> {
-    const BEGUN: [(u64, usize); 5] = [(1, 0), (2, 9), (3, 20), (4, 31), (5, 43)];
-    let mut hold = true;
-    for call in 1..4u64 {
-        hold &= call_fails(rt, call)?;
-    }
-    for (put, bytes) in &BEGUN {
-        hold &= put_fails(rt, *put, *bytes)?;
-    }
-    Ok(hold)
-}
-
-#[test]
-fn each_call_and_each_put_of_a_link_may_fail(rt: HostRuntime) -> Result<(), Fail> {
-    assert!(rt; faults_are_told(&rt)?);
+    assert!(rt; nobody_wrote(&rt)?);
     Ok(())
 }
 
@@ -247,7 +96,7 @@ fn tells<R: AllocGlobal + Threads + Wait + Sync>(
     words: &[&str],
     folder: &mut MemoryFolder,
 ) -> Result<(Outcome, MemorySink), AllocError> {
-    let given = words_with(rt.alloc(), words)?;
+    let given = words_of(rt.alloc(), words)?;
     let mut sink = MemorySink::new(rt.alloc(), Vec::new(rt.alloc()));
     let outcome = run(rt, given.as_slice(), folder, &mut sink, &FreeGate);
     Ok((outcome, sink))
@@ -298,7 +147,7 @@ fn replays_whole<R: AllocGlobal + Threads + Wait + Sync>(
 ) -> Result<bool, Fail> {
     let size = size_of(window);
     folder.write("d/schedule", file)?;
-    let (outcome, sink) = tells(rt, &[REPLAY, "d"], folder)?;
+    let (outcome, sink) = tells(rt, &["--task=replay", "d"], folder)?;
     let due = format!(in rt.alloc(); "feasible {size}\n")?;
     Ok(outcome.status == 0 && sink.bytes() == due.as_bytes())
 }
@@ -388,8 +237,8 @@ fn found_replays<R: AllocGlobal + Threads + Wait + Sync>(rt: &R) -> Result<bool,
         &["--task=make", "--seed=7", "--events=2000", "d"],
         &mut folder,
     )?;
-    let (linked, sink) = tells(rt, &[LINK, "d"], &mut folder)?;
-    let (answered, _report) = tells(rt, &[ANALYSE, "d"], &mut folder)?;
+    let (linked, sink) = tells(rt, &["--task=link", "d"], &mut folder)?;
+    let (answered, _report) = tells(rt, &["--task=analyse", "d"], &mut folder)?;
     let text = sink.bytes();
     let all = linked.status == 0 && text.ends_with(b"\nsummary 9 0 0 0\n");
     match answered.report.as_ref().and_then(last_found) {

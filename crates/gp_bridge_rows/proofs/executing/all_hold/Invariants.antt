@@ -1,7 +1,0 @@
-use Rattle.std.proofs.Common.{take}
-use Rattle.gp_clause.specs.Clause.{HoldsAll}
-use Rattle.gp_clause.specs.Valuation.{truth_of}
-use Rattle.gp_bridge_rows.proofs.executing.all_hold.Given as goal
-
-abbrev pub invariant-loop-clause : goal.invariant-loop-clause
-invariant-loop-clause l = HoldsAll (truth_of l.valuation) (take l.clause-index l.clauses)

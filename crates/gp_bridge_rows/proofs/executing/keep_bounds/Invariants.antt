@@ -1,5 +1,0 @@
-use Rattle.gp_bridge_rows.specs.Kept.{KeepsBelow}
-use Rattle.gp_bridge_rows.proofs.executing.keep_bounds.Given as goal
-
-abbrev pub invariant-loop-variable : goal.invariant-loop-variable
-invariant-loop-variable l = KeepsBelow l.valuation l.kinds l.variable

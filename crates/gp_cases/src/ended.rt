@@ -1,0 +1,121 @@
+use crate::case::Case;
+use crate::style::{Style, tell_text};
+use gp_outside::{FreeGate, MemoryFolder, MemorySink};
+use gp_predict::{Outcome, run};
+use gp_report::Report;
+use std::alloc::{AllocError, Global};
+use std::sync::Wait;
+use std::thread::Threads;
+use std::{io, str};
+
+/// What a run ended with, what it wrote, and the files that it left.
+#[derive(Drop)]
+pub struct Ended {
+    outcome: Outcome,
+    sink: MemorySink,
+    folder: MemoryFolder,
+}
+
+impl Ended {
+    pub fn status(&self) -> u8 {
+        self.outcome.status
+    }
+
+    pub fn report(&self) -> Option<&Report> {
+        self.outcome.report.as_ref()
+    }
+
+    pub fn text(&self) -> &[u8] {
+        self.sink.bytes()
+    }
+
+    pub fn files(&self) -> &[(String, Vec<u8>)] {
+        self.folder.files()
+    }
+}
+
+/// Runs a case.
+pub fn ran<R: AllocGlobal + Threads + Wait + Sync>(
+    rt: &R,
+    case: &Case,
+) -> Result<Ended, AllocError> {
+    ran_where(rt, case, case.failing(), case.puts())
+}
+
+/// Runs a case where these calls and puts fail.
+pub fn ran_where<R: AllocGlobal + Threads + Wait + Sync>(
+    rt: &R,
+    case: &Case,
+    failing: &[u64],
+    puts: &[(u64, u64)],
+) -> Result<Ended, AllocError> {
+    let alloc = rt.alloc();
+    let files = case.files(alloc)?;
+    let failing = Vec::from_slice(alloc, failing)?;
+    let puts = Vec::from_slice(alloc, puts)?;
+    let mut folder = MemoryFolder::new(files, failing);
+    let mut sink = MemorySink::new(alloc, puts);
+    let outcome = run(rt, case.words(), &mut folder, &mut sink, &FreeGate);
+    Ok(Ended {
+        outcome,
+        sink,
+        folder,
+    })
+}
+
+/// What is kept beside the status.
+pub fn kept(ended: &Ended) -> &str {
+    match (&ended.outcome.report, &ended.outcome.links) {
+        (Some(_), None) => " report",
+        (None, Some(_)) => " links",
+        (None, None) => "",
+        (Some(_), Some(_)) => " report links",
+    }
+}
+
+/// Tells the status, the text, and each file that was written or changed.
+pub fn tell(rt: &impl Print, case: &Case, ended: &Ended) -> io::Result<()> {
+    let status = ended.status();
+    println!(rt; "status {status}{}", kept(ended))?;
+    tell_text(rt, case.style(), ended.text())?;
+    tell_files(rt, case, ended)
+}
+
+fn tell_files(rt: &impl Print, case: &Case, ended: &Ended) -> io::Result<()> {
+    for (path, bytes) in ended.files() {
+        if !case.gives(path.as_str(), bytes.as_slice()) {
+            tell_file(rt, case.style(), path.as_str(), bytes.as_slice())?;
+        }
+    }
+    Ok(())
+}
+
+/// The most bytes of a file that is told whole.
+const SMALL: usize = 1_000;
+
+/// Tells a file: its length, and its text where it is small, else its fingerprint.
+fn tell_file(rt: &impl Print, style: &Style, path: &str, bytes: &[u8]) -> io::Result<()> {
+    let length = bytes.len();
+    if length > SMALL {
+        return println!(rt; "file {path} {length} {}", fingerprint(bytes));
+    }
+    println!(rt; "file {path} {length}")?;
+    tell_text(rt, style, bytes)
+}
+
+/// A number that another text of this length hardly has: 64 bits by the method of Fowler, Noll and Vo, 1a.
+fn fingerprint(bytes: &[u8]) -> u64 {
+    let mut print = 0xcbf2_9ce4_8422_2325u64;
+    for byte in bytes {
+        print = (print ^ u64::from(*byte)).wrapping_mul(0x100_0000_01b3);
+    }
+    print
+}
+
+/// Gives a case the files that a run left, and what it wrote as `d/report`.
+pub fn give_back(alloc: Global, case: &mut Case, ended: &Ended) -> Result<(), AllocError> {
+    for (path, bytes) in ended.files() {
+        case.give(alloc, path.as_str(), bytes.as_slice())?;
+    }
+    case.give(alloc, "d/report", ended.text())
+}

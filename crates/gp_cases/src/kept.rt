@@ -1,0 +1,95 @@
+// The report that a run keeps beside its text.
+use crate::book::Book;
+use crate::case::Case;
+use crate::ended::{Ended, ran, tell};
+use crate::reading::tell_report;
+use gp_report::{Answer, Report, WindowRecord};
+use gp_window::Schedule;
+use std::alloc::{AllocError, Global};
+use std::io;
+use std::sync::Wait;
+use std::thread::Threads;
+
+/// The report that the last run kept.
+pub fn kept_report(book: &Book) -> Option<&Report> {
+    book.ended()?.report()
+}
+
+/// Tells the report that the last run kept as it is printed.
+pub fn tell_kept(rt: &(impl AllocGlobal + Print), book: &Book) -> io::Result<()> {
+    match kept_report(book) {
+        Some(report) => tell_report(rt, book.case(), report),
+        None => println!(rt; "no report"),
+    }
+}
+
+/// Replays each schedule of the report that the last run kept.
+pub fn tell_replayed<R: AllocGlobal + Print + Threads + Wait + Sync>(
+    rt: &R,
+    book: &Book,
+) -> io::Result<()> {
+    match kept_report(book) {
+        Some(report) => replay_all(rt, book.case(), report.windows()),
+        None => println!(rt; "no report"),
+    }
+}
+
+fn replay_all<R: AllocGlobal + Print + Threads + Wait + Sync>(
+    rt: &R,
+    case: &Case,
+    windows: &[WindowRecord],
+) -> io::Result<()> {
+    for window in windows {
+        replay_window(rt, case, window)?;
+    }
+    Ok(())
+}
+
+fn replay_window<R: AllocGlobal + Print + Threads + Wait + Sync>(
+    rt: &R,
+    case: &Case,
+    window: &WindowRecord,
+) -> io::Result<()> {
+    for property in window.body.properties() {
+        for entry in property.body.entries() {
+            replay_answer(rt, case, window.number, &entry.answer)?;
+        }
+    }
+    Ok(())
+}
+
+fn replay_answer<R: AllocGlobal + Print + Threads + Wait + Sync>(
+    rt: &R,
+    case: &Case,
+    window: u32,
+    answer: &Answer,
+) -> io::Result<()> {
+    match answer {
+        Answer::Found(schedule) => replay_schedule(rt, case, window, schedule),
+        _ => Ok(()),
+    }
+}
+
+fn replay_schedule<R: AllocGlobal + Print + Threads + Wait + Sync>(
+    rt: &R,
+    case: &Case,
+    window: u32,
+    schedule: &Schedule,
+) -> io::Result<()> {
+    let text = written(rt.alloc(), window, schedule)?;
+    let mut replayed = case.clone()?;
+    replayed.say(rt.alloc(), "--task=replay d")?;
+    replayed.give(rt.alloc(), "d/schedule", text.as_bytes())?;
+    let ended = ran(rt, &replayed)?;
+    tell(rt, &replayed, &ended)
+}
+
+/// A schedule as a file of its window, an event a line.
+fn written(alloc: Global, window: u32, schedule: &Schedule) -> Result<String, AllocError> {
+    let mut text = format!(in alloc; "window {window}\n")?;
+    for event in schedule.events.as_slice() {
+        let line = format!(in alloc; "{}.{}\n", event.thread, event.index)?;
+        text.push_str(line.as_str())?;
+    }
+    Ok(text)
+}

@@ -1,4 +1,0 @@
-mod Asked
-mod Lawful
-mod EndsListed
-mod Sizes

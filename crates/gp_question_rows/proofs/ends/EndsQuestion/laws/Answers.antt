@@ -1,5 +1,0 @@
-use Rattle.gp_question_rows.proofs.Lawful.{is_lawful}
-use Rattle.gp_question_rows.proofs.ends.EndsQuestion.laws.Goals as goal
-
-pub returns : goal.returns
-returns c = is_lawful c.of.result.properties.now c.args.self.now.name c.args.self.now.kept c.laws.ensures c.replay_means_feasible.ensures c.schedules_are_complete.ensures

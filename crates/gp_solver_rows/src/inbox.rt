@@ -1,0 +1,219 @@
+// Inboxes of two senders: in which order clauses come, and that one serves another problem once it is empty.
+ghost use Rattle.crossbeam_queue.specs.Passes.{view};
+ghost use Rattle.gp_clause.specs.Problem.{IsValidProblem};
+ghost use Rattle.gp_inbox.specs.Passes.{IsOf};
+ghost use Rattle.gp_inbox.specs.Views.{IsDrained, MayPush, sender_view, taker_view};
+ghost use Rattle.std.specs.Prelude.{◌≡◌, ◌<◌, ◌+◌, true, Some, [], ◌∷◌, IfOk, IfSome, IsTrue, length};
+
+use crate::fixture::{Rows, are_lits, is_valid, problem_of};
+use crate::passing::shared_of;
+use gp_clause::{Kind, Problem};
+use gp_derivation::SharedClause;
+use gp_inbox::{Inbox, Pass};
+use std::alloc::Global;
+use std::process::Abort;
+use std::sync::Wait;
+use std::test::Fail;
+
+// Four free variables and a clause that is false, by which every clause passes. The points tell one problem from another.
+fn no_way_out(points: u32) -> Rows<'static> {
+    Rows {
+        points,
+        kinds: &[Kind::Free, Kind::Free, Kind::Free, Kind::Free],
+        edges: &[],
+        clauses: &[&[]],
+    }
+}
+
+fn is_unit(got: &Option<SharedClause>, sender: u32, word: i32) -> bool {
+    match got {
+        Some(shared) => shared.sender == sender && are_lits(shared.clause.lits(), &[word]),
+        None => false,
+    }
+}
+
+// Offers the clause that a word spells, where less than a thousand were pushed through the pass.
+fn send<R: Wait + Abort>(
+    rt: &R,
+    alloc: Global,
+    inbox: &Inbox,
+    base: &Problem,
+    pass: &mut Pass,
+    sender: u32,
+    word: i32,
+) -> Result<(), Fail>
+    requires base { IsValidProblem base.now }
+    requires own { IsOf inbox.now pass.old }
+    requires same { (view pass.old).base ≡ Some base.now }
+    requires number { MayPush (view pass.old) sender }
+    requires few { length (view pass.old).pushed < 1000 }
+    ensures own { IfOk result (λ _. IsOf inbox.now pass.new) }
+    ensures same { IfOk result (λ _. (view pass.new).base ≡ (view pass.old).base) }
+    ensures senders { IfOk result (λ _. (view pass.new).senders ≡ (view pass.old).senders) }
+    ensures numbers { IfOk result (λ _. (view pass.new).numbers ≡ (view pass.old).numbers) }
+    ensures takes { IfOk result (λ _. (view pass.new).takes ≡ (view pass.old).takes) }
+    ensures more { IfOk result (λ _. length (view pass.new).pushed ≡ length (view pass.old).pushed + 1) }
+{
+    let shared = shared_of(rt, alloc, base, sender, &[word])?;
+    inbox.offer(rt, pass, shared);
+    Ok(())
+}
+
+// Takes the next clause. All else that the pass knows stays.
+fn next<R: Wait>(rt: &R, inbox: &Inbox, pass: &mut Pass) -> Option<SharedClause>
+    requires own { IsOf inbox.now pass.old }
+    requires takes { (view pass.old).takes ≡ true }
+    ensures own { IsOf inbox.now pass.new }
+    ensures same { (view pass.new).base ≡ (view pass.old).base }
+    ensures senders { (view pass.new).senders ≡ (view pass.old).senders }
+    ensures numbers { (view pass.new).numbers ≡ (view pass.old).numbers }
+    ensures takes { (view pass.new).takes ≡ true }
+    ensures pushed { (view pass.new).pushed ≡ (view pass.old).pushed }
+{
+    inbox.take(rt, pass)
+}
+
+// Three clauses of two senders, each through its own pass, and one more through the joined pass.
+fn exchange<R: Wait + Abort>(
+    rt: &R,
+    alloc: Global,
+    base: &Problem,
+    inbox: &Inbox,
+    two: Pass,
+    three: Pass,
+    taker: Pass,
+) -> Result<bool, Fail>
+    requires base { IsValidProblem base.now }
+    requires two { IsOf inbox.now two × (view two ≡ sender_view base.now (2 ∷ 3 ∷ []) 2) }
+    requires three { IsOf inbox.now three × (view three ≡ sender_view base.now (2 ∷ 3 ∷ []) 3) }
+    requires taker { IsOf inbox.now taker × (view taker ≡ taker_view base.now (2 ∷ 3 ∷ [])) }
+{
+    let mut two = two;
+    let mut three = three;
+    let mut taker = taker;
+    let none = next(rt, inbox, &mut taker);
+    send(rt, alloc, inbox, base, &mut two, 2, 1)?;
+    send(rt, alloc, inbox, base, &mut three, 3, 2)?;
+    send(rt, alloc, inbox, base, &mut two, 2, 3)?;
+    let first = next(rt, inbox, &mut taker);
+    let second = next(rt, inbox, &mut taker);
+    let third = next(rt, inbox, &mut taker);
+    let empty = next(rt, inbox, &mut taker);
+    inbox.rejoin(&mut taker, two);
+    inbox.rejoin(&mut taker, three);
+    send(rt, alloc, inbox, base, &mut taker, 3, 4)?;
+    let last = next(rt, inbox, &mut taker);
+    let end = next(rt, inbox, &mut taker);
+    Ok(
+        none.is_none()
+            && is_unit(&first, 2, 1)
+            && is_unit(&second, 3, 2)
+            && is_unit(&third, 2, 3)
+            && empty.is_none()
+            && is_unit(&last, 3, 4)
+            && end.is_none(),
+    )
+}
+
+// Whether all that was pushed under the numbers of the pass was taken.
+fn is_drained<R: Wait>(rt: &R, inbox: &Inbox, pass: &mut Pass) -> bool
+    requires own { IsOf inbox.now pass.old }
+    requires takes { (view pass.old).takes ≡ true }
+    ensures own { IsOf inbox.now pass.new }
+    ensures drained { IsTrue result → IsDrained (view pass.new) × (view pass.new ≡ view pass.old) }
+{
+    inbox.take(rt, pass).is_none()
+}
+
+// One clause of the first problem, and an exchange over the second once the passes are joined.
+fn renew<R: Wait + Abort>(
+    rt: &R,
+    alloc: Global,
+    first: &Problem,
+    second: &Problem,
+    inbox: &Inbox,
+    two: Pass,
+    three: Pass,
+    taker: Pass,
+) -> Result<bool, Fail>
+    requires first { IsValidProblem first.now }
+    requires second { IsValidProblem second.now }
+    requires two { IsOf inbox.now two × (view two ≡ sender_view first.now (2 ∷ 3 ∷ []) 2) }
+    requires three { IsOf inbox.now three × (view three ≡ sender_view first.now (2 ∷ 3 ∷ []) 3) }
+    requires taker { IsOf inbox.now taker × (view taker ≡ taker_view first.now (2 ∷ 3 ∷ [])) }
+{
+    let mut two = two;
+    let mut taker = taker;
+    send(rt, alloc, inbox, first, &mut two, 2, 4)?;
+    let got = next(rt, inbox, &mut taker);
+    inbox.rejoin(&mut taker, two);
+    inbox.rejoin(&mut taker, three);
+    if !is_drained(rt, inbox, &mut taker) {
+        return Ok(false);
+    }
+    let passes = inbox.renew(alloc, &mut taker, second, &[2, 3])?;
+    match both(passes) {
+        Some((two, three)) => Ok(
+            is_unit(&got, 2, 4) && exchange(rt, alloc, second, inbox, two, three, taker)?,
+        ),
+        None => Ok(false),
+    }
+}
+
+// An inbox of two senders, their passes and the taker's.
+fn of_two(alloc: Global, base: &Problem) -> Result<Option<(Inbox, Pass, Pass, Pass)>, Fail>
+    ensures { IfOk result (λ some. IfSome some (λ made. (IsOf made.0 made.1 × (view made.1 ≡ sender_view base.now (2 ∷ 3 ∷ []) 2)) × (IsOf made.0 made.2 × (view made.2 ≡ sender_view base.now (2 ∷ 3 ∷ []) 3)) × (IsOf made.0 made.3 × (view made.3 ≡ taker_view base.now (2 ∷ 3 ∷ []))))) }
+{
+    let (inbox, passes, taker) = Inbox::new(alloc, base, &[2, 3])?;
+    match both(passes) {
+        Some((two, three)) => Ok(Some((inbox, two, three, taker))),
+        None => Ok(None),
+    }
+}
+
+fn both(passes: Vec<Pass>) -> Option<(Pass, Pass)>
+    ensures { IfSome result (λ both. passes.items ≡ both.0 ∷ both.1 ∷ []) }
+{
+    let mut passes = passes;
+    let second = passes.pop()?;
+    let first = passes.pop()?;
+    if !passes.is_empty() {
+        return None;
+    }
+    Some((first, second))
+}
+
+#[test]
+fn in_the_order_of_the_offers(rt: HostRuntime) -> Result<(), Fail> {
+    let alloc = rt.alloc();
+    let base = problem_of(alloc, &no_way_out(0))?;
+    assert!(rt; is_valid(&base));
+    match of_two(alloc, &base)? {
+        Some((inbox, two, three, taker)) => {
+            let due = exchange(&rt, alloc, &base, &inbox, two, three, taker)?;
+            assert!(rt; due);
+        }
+        None => {
+            assert!(rt; false);
+        }
+    }
+    Ok(())
+}
+
+#[test]
+fn serves_one_problem_after_another(rt: HostRuntime) -> Result<(), Fail> {
+    let alloc = rt.alloc();
+    let first = problem_of(alloc, &no_way_out(0))?;
+    let second = problem_of(alloc, &no_way_out(1))?;
+    assert!(rt; is_valid(&first) && is_valid(&second));
+    match of_two(alloc, &first)? {
+        Some((inbox, two, three, taker)) => {
+            let due = renew(&rt, alloc, &first, &second, &inbox, two, three, taker)?;
+            assert!(rt; due);
+        }
+        None => {
+            assert!(rt; false);
+        }
+    }
+    Ok(())
+}

@@ -1,0 +1,191 @@
+// Several runs on one recording of 600 events of four threads, which are compared with each other.
+use super::words_of;
+use gp_outside::{Folder, FreeGate, Gate, HoldGate, MemoryFolder, MemorySink};
+use gp_predict::run;
+use std::alloc::{AllocError, Global};
+use std::sync::Wait;
+use std::test::Fail;
+use std::thread::Threads;
+
+const MAKE: [&str; 5] = [
+    "--task=make",
+    "--seed=7",
+    "--threads=4",
+    "--events=600",
+    "d",
+];
+
+/// What a run with these words on a folder ends with, and what it writes.
+pub fn written<R: AllocGlobal + Threads + Wait + Sync, G: Gate + Sync>(
+    rt: &R,
+    words: &[&str],
+    folder: &mut MemoryFolder,
+    gate: &G,
+) -> Result<(u8, Vec<u8>), AllocError> {
+    let alloc = rt.alloc();
+    let words = words_of(alloc, words)?;
+    let mut sink = MemorySink::new(alloc, Vec::new(alloc));
+    let outcome = run(rt, words.as_slice(), folder, &mut sink, gate);
+    Ok((outcome.status, Vec::from_slice(alloc, sink.bytes())?))
+}
+
+/// What a run with these words writes.
+fn text_of<R: AllocGlobal + Threads + Wait + Sync, G: Gate + Sync>(
+    rt: &R,
+    words: &[&str],
+    folder: &mut MemoryFolder,
+    gate: &G,
+) -> Result<Vec<u8>, AllocError> {
+    let (_status, text) = written(rt, words, folder, gate)?;
+    Ok(text)
+}
+
+/// A folder with the recording.
+pub fn large_folder<R: AllocGlobal + Threads + Wait + Sync>(
+    rt: &R,
+) -> Result<MemoryFolder, AllocError> {
+    let mut folder = MemoryFolder::new(Vec::new(rt.alloc()), Vec::new(rt.alloc()));
+    let _told = text_of(rt, &MAKE, &mut folder, &FreeGate)?;
+    Ok(folder)
+}
+
+/// What analysing the recording prints, with so many workers.
+pub fn large_report<R: AllocGlobal + Threads + Wait + Sync, G: Gate + Sync>(
+    rt: &R,
+    folder: &mut MemoryFolder,
+    workers: &str,
+    gate: &G,
+) -> Result<Vec<u8>, AllocError> {
+    text_of(rt, &["--task=analyse", workers, "d"], folder, gate)
+}
+
+/// What task check says of a report on the folder.
+pub fn verdict_on<R: AllocGlobal + Threads + Wait + Sync>(
+    rt: &R,
+    folder: &mut MemoryFolder,
+    report: &[u8],
+) -> Result<(u8, Vec<u8>), Fail> {
+    folder.write("d/report", report)?;
+    Ok(written(rt, &["--task=check", "d"], folder, &FreeGate)?)
+}
+
+/// Whether a report on the folder is accepted as one of 42 instances.
+pub fn is_accepted<R: AllocGlobal + Threads + Wait + Sync>(
+    rt: &R,
+    folder: &mut MemoryFolder,
+    report: &[u8],
+) -> Result<bool, Fail> {
+    let (status, text) = verdict_on(rt, folder, report)?;
+    Ok(status == 0 && text.as_slice() == b"accepted 42\n")
+}
+
+/// Whether one worker prints one report, however often it is asked.
+fn one_worker_repeats_itself<R: AllocGlobal + Threads + Wait + Sync>(rt: &R) -> Result<bool, Fail> {
+    let mut folder = large_folder(rt)?;
+    let first = large_report(rt, &mut folder, "--workers=1", &FreeGate)?;
+    let second = large_report(rt, &mut folder, "--workers=1", &FreeGate)?;
+    Ok(first == second && is_accepted(rt, &mut folder, first.as_slice())?)
+}
+
+#[test]
+fn one_worker_answers_alike_each_time(rt: HostRuntime) -> Result<(), Fail> {
+    assert!(rt; one_worker_repeats_itself(&rt)?);
+    Ok(())
+}
+
+/// Whether a compact report is accepted, and stays as it is where it is made compact.
+fn stays_compact<R: AllocGlobal + Threads + Wait + Sync>(rt: &R) -> Result<bool, Fail> {
+    let mut folder = large_folder(rt)?;
+    let report = large_report(rt, &mut folder, "--workers=1", &FreeGate)?;
+    folder.write("d/report", report.as_slice())?;
+    let first = text_of(rt, &["--task=compact", "d"], &mut folder, &FreeGate)?;
+    folder.write("d/report", first.as_slice())?;
+    let second = text_of(rt, &["--task=compact", "d"], &mut folder, &FreeGate)?;
+    Ok(first == second && is_accepted(rt, &mut folder, first.as_slice())?)
+}
+
+#[test]
+fn a_compact_report_is_accepted_and_stays_so(rt: HostRuntime) -> Result<(), Fail> {
+    assert!(rt; stays_compact(&rt)?);
+    Ok(())
+}
+
+fn is_answer(line: &[u8]) -> bool {
+    line.starts_with(b"found ")
+        || line.starts_with(b"impossible ")
+        || line.starts_with(b"undecided ")
+}
+
+/// The first byte of each answer of a report: `f` of found, `i` of impossible, `u` of undecided.
+fn answers(alloc: Global, report: &[u8]) -> Result<Vec<u8>, AllocError> {
+    let mut told = Vec::new(alloc);
+    for line in report.split(|byte| *byte == b'\n') {
+        if is_answer(line) {
+            told.extend_from_slice(line.get(..1).unwrap_or(b""))?;
+        }
+    }
+    Ok(told)
+}
+
+/// Whether two lists answer all instances, some of them both, and no answer in one is contradicted by the other.
+fn agree(some: &[u8], others: &[u8]) -> bool {
+    some.len() == 42 && others.len() == 42 && none_differs(some, others) && some_meet(some, others)
+}
+
+fn none_differs(some: &[u8], others: &[u8]) -> bool {
+    some.iter().zip(others).all(|(a, b)| is_alike(*a, *b))
+}
+
+fn is_alike(one: u8, other: u8) -> bool {
+    one == other || one == b'u' || other == b'u'
+}
+
+fn some_meet(some: &[u8], others: &[u8]) -> bool {
+    some.iter().zip(others).any(|(a, b)| *a == *b && *a != b'u')
+}
+
+/// The answers of a report by so many workers, where it is accepted; else none.
+fn accepted_answers<R: AllocGlobal + Threads + Wait + Sync>(
+    rt: &R,
+    folder: &mut MemoryFolder,
+    workers: &str,
+) -> Result<Vec<u8>, Fail> {
+    let report = large_report(rt, folder, workers, &FreeGate)?;
+    if !is_accepted(rt, folder, report.as_slice())? {
+        return Ok(Vec::new(rt.alloc()));
+    }
+    Ok(answers(rt.alloc(), report.as_slice())?)
+}
+
+/// Whether the reports by one, four and sixteen workers are accepted, and no two of them contradict each other.
+fn workers_agree<R: AllocGlobal + Threads + Wait + Sync>(rt: &R) -> Result<bool, Fail> {
+    let mut folder = large_folder(rt)?;
+    let one = accepted_answers(rt, &mut folder, "--workers=1")?;
+    let four = accepted_answers(rt, &mut folder, "--workers=4")?;
+    let sixteen = accepted_answers(rt, &mut folder, "--workers=16")?;
+    Ok(
+        agree(one.as_slice(), four.as_slice())
+            && agree(one.as_slice(), sixteen.as_slice())
+            && agree(four.as_slice(), sixteen.as_slice()),
+    )
+}
+
+#[test]
+fn several_workers_never_contradict_one(rt: HostRuntime) -> Result<(), Fail> {
+    assert!(rt; workers_agree(&rt)?);
+    Ok(())
+}
+
+/// Whether the second worker passes the gate while the first is held at it.
+fn two_workers_meet<R: AllocGlobal + Threads + Wait + Sync>(rt: &R) -> Result<bool, Fail> {
+    let mut folder = large_folder(rt)?;
+    let gate = HoldGate::new(10_000_000);
+    let report = large_report(rt, &mut folder, "--workers=2", &gate)?;
+    Ok(gate.met() && is_accepted(rt, &mut folder, report.as_slice())?)
+}
+
+#[test]
+fn two_workers_answer_at_once(rt: HostRuntime) -> Result<(), Fail> {
+    assert!(rt; two_workers_meet(&rt)?);
+    Ok(())
+}

@@ -1,0 +1,9 @@
+pub mod Blocked
+pub mod Chains
+pub mod Complete
+pub mod Events
+pub mod Found
+pub mod Lists
+pub mod Sound
+pub mod Stops
+pub mod Valid

@@ -1,5 +1,5 @@
 -- A schedule that ends just before the events of a cycle makes the query of the cycle true.
-use Rattle.std.proofs.Common.{ℕ, ◌≡◌, ◌<◌, ◌∙◌, List, [], ◌∷◌, Bool, true, arith}
+use Rattle.std.proofs.Common.{ℕ, ◌≡◌, ◌<◌, ◌∙◌, List, [], ◌∷◌, Bool, arith}
 use Rattle.std.specs.Prelude.{ℤ}
 use Rattle.std.specs.List.{AllByRecursion}
 use Rattle.std.proofs.lemmas.Bool.{false_from_ne_true}
@@ -13,10 +13,8 @@ use Rattle.gp_replay.specs.declared.state.State.{State}
 use Rattle.gp_replay.specs.Counted.{EventsAreCounted}
 use Rattle.gp_replay.specs.Feasible.{Runs}
 use Rattle.gp_replay.specs.Step.{count_of, start_state}
-use Rattle.gp_constraint.specs.Base.{base_of}
 use Rattle.gp_constraint.specs.PointLaws.{event_id, IsEventOf}
 use Rattle.gp_constraint.specs.ScheduleModels.{SaysSchedule}
-use Rattle.gp_stuck.specs.Cycle.{is_cycle}
 use Rattle.gp_stuck.specs.Laws.{StuckSchedulesAreComplete}
 use Rattle.gp_stuck.specs.Stuck.{AreNext}
 use Rattle.gp_stuck.specs.StuckQuery.{stuck_query_of}

@@ -1,6 +1,6 @@
 -- The search finds exactly the cycles.
-use Rattle.std.proofs.Common.{ℕ, zero, suc, ◌≡◌, ◌≤◌, refl, ap, sym, ◌∙◌, Bool, true, false, List, [], ◌∷◌, ◌++◌, map, length, arith, leb-true}
-use Rattle.std.specs.Prelude.{Option, Some, None, ◌&&◌, ◌↔◌, filter, Contains}
+use Rattle.std.proofs.Common.{ℕ, zero, suc, ◌≡◌, ◌<◌, ◌≤◌, refl, ap, sym, ◌∙◌, Bool, true, false, List, [], ◌∷◌, ◌++◌, map, length, arith, leb-true}
+use Rattle.std.specs.Prelude.{Option, Some, None, Ok, Err, ◌&&◌, filter, Contains}
 use Rattle.std.specs.List.{AllByRecursion, flat_map}
 use Rattle.std.proofs.lemmas.Bool.{and_parts}
 use Rattle.gp_base.specs.FilterLaws.{contains_filter, contains_from_filter, filter_begun, flat_map_agree, pairwise_filter}
@@ -9,13 +9,17 @@ use Rattle.gp_trace.specs.declared.lock_use.LockUse.{LockUse}
 use Rattle.gp_trace.specs.declared.lock_use.LockUse.TheVariants.{Take, GiveBack}
 use Rattle.gp_window.specs.declared.schedule.EventId.{EventId}
 use Rattle.gp_window.specs.WindowForm.{WindowForm}
+use Rattle.gp_instance.specs.declared.instance.Instance.{Instance}
+use Rattle.gp_instance.specs.declared.instance.InstancesFault.TheVariants.{TooMany}
 use Rattle.gp_instance.specs.IdsLaws.{event_listed, window_ordered}
-use Rattle.gp_instance.specs.Instances.{ids_of}
+use Rattle.gp_instance.specs.Instances.{ids_of, numbered}
+use Rattle.gp_instance.specs.LimitLaws.{all_due as not_many, many_due as too_many}
 use Rattle.gp_instance.specs.Listed.{IsBefore}
+use Rattle.gp_instance.specs.Search.{first_instances}
 use Rattle.gp_replay.specs.LockUses.{use_at}
 use Rattle.gp_constraint.specs.PointLaws.{IsEventOf}
 use Rattle.gp_stuck.specs.Cycle.{is_cycle, may_be_next, waits_around, waits_by, waits_for}
-use Rattle.gp_stuck.specs.Cycles.{cycles_of, lists_up_to}
+use Rattle.gp_stuck.specs.Cycles.{cycles_of, due_cycles, lists_up_to}
 use Rattle.gp_stuck.specs.Laws.{CyclesAreListed}
 use Rattle.gp_stuck.specs.Search.{closed, completions, cycles_from, found_cycles, is_take, may_follow, takers_of}
 use Rattle.gp_stuck.proofs.Blocked.{cycle_told}
@@ -102,3 +106,16 @@ listed = record {
   );
   ordered = λ window. pairwise_filter IsBefore (is_cycle window) (lists_up_to 4 (ids_of window.segments)) (lists_ordered 4 (ids_of window.segments) (window_ordered window.segments));
 }
+
+-- what was found up to the limit is what is due
+pub many_due : (window : WindowForm) (found : List Instance) → found ≡ first_instances [] (map (numbered 0) (found_cycles window)) → 10000 < length found
+    → Err TooMany ≡ due_cycles window
+unfolding due_cycles
+many_due window found is over =
+    too_many 0 (cycles_of window) found (is ∙ ap (λ lists. first_instances [] (map (numbered 0) lists)) (search_finds window)) over
+
+pub all_due : (window : WindowForm) (found : List Instance) → found ≡ first_instances [] (map (numbered 0) (found_cycles window)) → length found ≤ 10000
+    → Ok found ≡ due_cycles window
+unfolding due_cycles
+all_due window found is few =
+    not_many 0 (cycles_of window) found (is ∙ ap (λ lists. first_instances [] (map (numbered 0) lists)) (search_finds window)) few

@@ -1,4 +1,4 @@
-ghost use Rattle.std.specs.Prelude.{◌≡◌, ◌++◌, ◌∷◌, [], true, flat_map, IfOk, OnOk};
+ghost use Rattle.std.specs.Prelude.{◌≡◌, ◌++◌, ◌∷◌, [], true, IfOk, OnOk};
 ghost use Rattle.gp_constraint.specs.PointLaws.{IsEventOf};
 ghost use Rattle.gp_stuck.specs.Cycle.{is_cycle};
 ghost use Rattle.gp_stuck.specs.StuckQuery.{before_lits, executed_lit, stop_lits, stuck_query_of};

@@ -39,6 +39,7 @@ pub use encoded::Encoded;
 pub use extending::{ExtendedProblem, extended};
 pub use family::Family;
 pub use fault::{BaseFault, Full, MOST_CLAUSES, MOST_POINTS};
+pub use groups::Groups;
 pub use instance_query::query;
 pub use laws::{
     answers_mean, extensions_mean, models_extend, problems_are_valid, truths_are_numbered,

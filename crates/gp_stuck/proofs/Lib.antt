@@ -1,0 +1,13 @@
+pub mod Blocked
+pub mod Chains
+pub mod Complete
+pub mod Events
+pub mod Found
+pub mod Limit
+pub mod Lists
+pub mod Notes
+pub mod OwnHeld
+pub mod Sound
+pub mod Standing
+pub mod Stops
+pub mod Valid

@@ -1,4 +1,4 @@
--- What a loop over variables has shown so far, and that an answer meets a problem.
+-- What a loop over variables has shown so far, and that an answer meets a problem, and solves its window.
 use Rattle.std.proofs.Common.{◌≡◌, sym, subst, ℕ, ◌≤◌, ◌+◌, inl, inr, Bool, List, [], append-nil, length, get_or, arith}
 use Rattle.std.specs.Prelude.{All, Some, slice_get}
 use Rattle.std.proofs.lemmas.Bool.{cases_eq}
@@ -11,6 +11,9 @@ use Rattle.gp_clause.specs.Clause.{HoldsAll}
 use Rattle.gp_clause.specs.Edge.{Keeps}
 use Rattle.gp_clause.specs.Kind.{KeepsBound, bound_of}
 use Rattle.gp_clause.specs.Valuation.{Meets, place_of, truth_of}
+use Rattle.gp_constraint.specs.Base.{base_of}
+use Rattle.gp_window.specs.WindowForm.{WindowForm}
+use Rattle.gp_witness.specs.Answered.{SolvesWindow}
 use Rattle.gp_cases.specs.Kept.{KeepsBelow}
 
 pub none : (valuation : Valuation) (kinds : List Kind) → KeepsBelow valuation kinds 0
@@ -46,6 +49,7 @@ meets problem valuation truth places edges clauses bounds = record {
       bounds.kept variable kind (slice_get_within problem.kinds variable kind at) at;
 }
 
+-- what meets the problem of a window solves it
 pub answers_window : (window : WindowForm) (problem : Problem) (valuation : Valuation) → problem ≡ base_of window
     → Meets problem (record { locals = []; assumed = [] }) valuation → SolvesWindow window valuation
 answers_window window problem valuation is meets =

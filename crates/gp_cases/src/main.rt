@@ -30,6 +30,8 @@
 //     refute               checks the one certificate of that report over constraints made anew
 //     read PATH            reads a file as a report, and prints it
 //
+// The verbs of the layers below a run stand in `layers.rt`, those of what a window gives the solver in `encodings.rt`.
+//
 // In a TEXT that is given, `\xHH` is the byte of that number. A text is told by `| ` and each line; what stands behind its last
 // newline by `> `. Empty lines, and lines that begin with `#`, are passed over.
 #![tactic(auto)]

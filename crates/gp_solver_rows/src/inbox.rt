@@ -2,7 +2,7 @@
 ghost use Rattle.crossbeam_queue.specs.Passes.{view};
 ghost use Rattle.gp_clause.specs.Problem.{IsValidProblem};
 ghost use Rattle.gp_inbox.specs.Passes.{IsOf};
-ghost use Rattle.gp_inbox.specs.Views.{IsDrained, MayPush, sender_view, taker_view};
+ghost use Rattle.gp_inbox.specs.Views.{IsDrained, IsWhole, MayPush, sender_view, taker_view};
 ghost use Rattle.std.specs.Prelude.{◌≡◌, ◌<◌, ◌+◌, true, Some, [], ◌∷◌, IfOk, IfSome, IsTrue, length};
 
 use crate::fixture::{Rows, are_lits, is_valid, problem_of};
@@ -151,12 +151,31 @@ fn renew<R: Wait + Abort>(
     if !is_drained(rt, inbox, &mut taker) {
         return Ok(false);
     }
-    let passes = inbox.renew(alloc, &mut taker, second, &[2, 3])?;
-    match both(passes) {
+    match renewed(alloc, inbox, &mut taker, second)? {
         Some((two, three)) => Ok(
             is_unit(&got, 2, 4) && exchange(rt, alloc, second, inbox, two, three, taker)?,
         ),
         None => Ok(false),
+    }
+}
+
+// The passes of two senders, once an inbox that is empty serves another problem.
+fn renewed(
+    alloc: Global,
+    inbox: &Inbox,
+    taker: &mut Pass,
+    base: &Problem,
+) -> Result<Option<(Pass, Pass)>, Fail>
+    requires own { IsOf inbox.now taker.old }
+    requires whole { IsWhole (view taker.old) }
+    requires same { (view taker.old).senders ≡ 2 ∷ 3 ∷ [] }
+    ensures senders { IfOk result (λ some. IfSome some (λ made. (IsOf inbox.now made.0 × (view made.0 ≡ sender_view base.now (2 ∷ 3 ∷ []) 2)) × (IsOf inbox.now made.1 × (view made.1 ≡ sender_view base.now (2 ∷ 3 ∷ []) 3)))) }
+    ensures taker { IfOk result (λ _. IsOf inbox.now taker.new × (view taker.new ≡ taker_view base.now (2 ∷ 3 ∷ []))) }
+{
+    let passes = inbox.renew(alloc, taker, base, &[2, 3])?;
+    match both(passes) {
+        Some((two, three)) => Ok(Some((two, three))),
+        None => Ok(None),
     }
 }
 

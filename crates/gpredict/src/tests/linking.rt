@@ -105,17 +105,20 @@ fn tells<R: AllocGlobal + Threads + Wait + Sync>(
 /// The schedule of window `k` in the text of task link, as a file that task replay reads.
 fn schedule_file(alloc: Global, text: &[u8], k: u32) -> Result<Vec<u8>, AllocError> {
     let head = format!(in alloc; "linked {k} ")?;
-    let mut file = Vec::new(alloc);
+    let mut file = format!(in alloc; "window {k}\n")?.into_bytes();
     let mut inside = false;
     for line in text.split(|byte| *byte == b'\n') {
-        if !is_list(line) {
-            inside = line.starts_with(head.as_bytes());
-        } else if inside {
-            file.extend_from_slice(line)?;
-            file.push(b'\n')?;
+        inside = is_inside(line, head.as_bytes(), inside);
+        if inside && is_list(line) {
+            put_line(&mut file, line)?;
         }
     }
-    with_head(alloc, k, file.as_slice())
+    Ok(file)
+}
+
+/// Whether a line belongs to what begins so: it does so itself, or is of the list behind it.
+fn is_inside(line: &[u8], head: &[u8], inside: bool) -> bool {
+    line.starts_with(head) || inside && is_list(line)
 }
 
 /// Whether a line is one of a list of events.
@@ -123,10 +126,10 @@ fn is_list(line: &[u8]) -> bool {
     line.first().is_some_and(|byte| byte.is_ascii_digit())
 }
 
-fn with_head(alloc: Global, k: u32, list: &[u8]) -> Result<Vec<u8>, AllocError> {
-    let mut file = format!(in alloc; "window {k}\n")?.into_bytes();
-    file.extend_from_slice(list)?;
-    Ok(file)
+fn put_line(file: &mut Vec<u8>, line: &[u8]) -> Result<(), AllocError> {
+    file.extend_from_slice(line)?;
+    file.push(b'\n')?;
+    Ok(())
 }
 
 /// How many events a window has.
@@ -189,6 +192,19 @@ fn does_file(alloc: Global, state: &mut State, window: &Window, file: &[u8]) -> 
     Ok(read.window == window.number() && does_all(alloc, state, window, &read.schedule)?)
 }
 
+/// Whether the schedule of window `k` in a text of links has all its events and replays, by itself and from this state on.
+fn replays_from<R: AllocGlobal + Threads + Wait + Sync>(
+    rt: &R,
+    folder: &mut MemoryFolder,
+    state: &mut State,
+    window: &Window,
+    text: &[u8],
+) -> Result<bool, Fail> {
+    let file = schedule_file(rt.alloc(), text, window.number())?;
+    let whole = replays_whole(rt, folder, file.as_slice(), window)?;
+    Ok(whole && does_file(rt.alloc(), state, window, file.as_slice())?)
+}
+
 /// Whether the schedules in a text of links replay, each in its window and all of them from the recording's start, and then
 /// one of the last window.
 fn replay_from_start<R: AllocGlobal + Threads + Wait + Sync>(
@@ -201,14 +217,13 @@ fn replay_from_start<R: AllocGlobal + Threads + Wait + Sync>(
     let read = read_recording(rt, alloc, folder, "d")?;
     let epochs = read.manifest().epochs();
     let mut state = State::new(alloc, &cut(alloc, &read, 1)?)?;
-    let mut hold = true;
     for k in 1..epochs {
         let window = cut(alloc, &read, k)?;
-        let file = schedule_file(alloc, text, k)?;
-        hold &= replays_whole(rt, folder, file.as_slice(), &window)?;
-        hold &= does_file(alloc, &mut state, &window, file.as_slice())?;
+        if !replays_from(rt, folder, &mut state, &window, text)? {
+            return Ok(false);
+        }
     }
-    Ok(hold && does_all(alloc, &mut state, &cut(alloc, &read, epochs)?, found)?)
+    Ok(does_all(alloc, &mut state, &cut(alloc, &read, epochs)?, found)?)
 }
 
 /// The first schedule in the last window of a report that has one property.

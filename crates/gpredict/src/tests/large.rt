@@ -76,7 +76,7 @@ pub fn is_accepted<R: AllocGlobal + Threads + Wait + Sync>(
     report: &[u8],
 ) -> Result<bool, Fail> {
     let (status, text) = verdict_on(rt, folder, report)?;
-    Ok(status == 0 && text.as_slice() == b"accepted 42\n")
+    Ok(status == 0 && text.as_slice() == b"accepted 42\n".as_slice())
 }
 
 /// Whether one worker prints one report, however often it is asked.

@@ -112,7 +112,8 @@ fn given_by(
     encoded: &Encoded,
     valuation: &Valuation,
 ) -> Result<Option<Schedule>, AllocError> {
-    if !is_answer(encoded.problem(), valuation) {
+    let problem = encoded.problem();
+    if !is_answer(problem, valuation) {
         return Ok(None);
     }
     Ok(Some(executed(alloc, encoded, valuation)?))

@@ -5,7 +5,7 @@ ghost use Rattle.gp_clause.specs.Edge.{Keeps};
 ghost use Rattle.gp_clause.specs.Kind.{KeepsBound, bound_of};
 ghost use Rattle.gp_clause.specs.Lit.{HoldsLit};
 ghost use Rattle.gp_clause.specs.Valuation.{Meets, place_of, truth_of};
-ghost use Rattle.gp_cases.specs.Kept.{KeepsBelow};
+ghost use Rattle.gp_cases.specs.Bounds.{KeepsBelow};
 ghost use Rattle.gp_witness.specs.Answered.{SolvesWindow};
 
 use crate::layers::telling::tell;

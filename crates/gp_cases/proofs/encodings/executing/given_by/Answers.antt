@@ -1,4 +1,4 @@
-use Rattle.gp_cases.proofs.Kept.{answers_window}
+use Rattle.gp_cases.proofs.Bounds.{answers_window}
 use Rattle.gp_cases.proofs.encodings.executing.given_by.Goals as goal
 
 pub executed-requires : goal.executed-requires

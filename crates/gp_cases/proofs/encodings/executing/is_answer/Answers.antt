@@ -7,8 +7,8 @@ use Rattle.gp_clause.specs.declared.valuation.Valuation.{Valuation}
 use Rattle.gp_clause.specs.Clause.{HoldsAll}
 use Rattle.gp_clause.specs.Edge.{Keeps}
 use Rattle.gp_clause.specs.Valuation.{place_of, truth_of}
-use Rattle.gp_cases.specs.Kept.{KeepsBelow}
-use Rattle.gp_cases.proofs.Kept.{meets}
+use Rattle.gp_cases.specs.Bounds.{KeepsBelow}
+use Rattle.gp_cases.proofs.Bounds.{meets}
 use Rattle.gp_cases.proofs.encodings.executing.is_answer.Goals as goal
 
 pub returns : goal.returns

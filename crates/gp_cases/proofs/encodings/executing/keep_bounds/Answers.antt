@@ -1,5 +1,5 @@
 use Rattle.std.proofs.Common.{arith}
-use Rattle.gp_cases.proofs.Kept.{all_below, none, one_more}
+use Rattle.gp_cases.proofs.Bounds.{all_below, none, one_more}
 use Rattle.gp_cases.proofs.encodings.executing.keep_bounds.Goals as goal
 
 pub loop-variable-init : goal.loop-variable-init

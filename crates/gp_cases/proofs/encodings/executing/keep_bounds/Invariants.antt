@@ -1,4 +1,4 @@
-use Rattle.gp_cases.specs.Kept.{KeepsBelow}
+use Rattle.gp_cases.specs.Bounds.{KeepsBelow}
 use Rattle.gp_cases.proofs.encodings.executing.keep_bounds.Given as goal
 
 abbrev pub invariant-loop-variable : goal.invariant-loop-variable

@@ -14,7 +14,7 @@ use Rattle.gp_clause.specs.Valuation.{Meets, place_of, truth_of}
 use Rattle.gp_constraint.specs.Base.{base_of}
 use Rattle.gp_window.specs.WindowForm.{WindowForm}
 use Rattle.gp_witness.specs.Answered.{SolvesWindow}
-use Rattle.gp_cases.specs.Kept.{KeepsBelow}
+use Rattle.gp_cases.specs.Bounds.{KeepsBelow}
 
 pub none : (valuation : Valuation) (kinds : List Kind) → KeepsBelow valuation kinds 0
 none valuation kinds = record { kept = λ variable kind under is. absurd (omega (arith, under)) }

@@ -1,7 +1,7 @@
 // Whole runs of task link: which windows are linked, and that the schedules which link them replay from the recording's start.
 use super::{files_of, run_on, words_of};
 use gp_base::Row;
-use gp_certificate::{Certificate, check_certificate};
+use gp_certificate::{Certificate, Step, check_certificate};
 use gp_clause::Query;
 use gp_constraint::base;
 use gp_link::link_problem;
@@ -43,13 +43,13 @@ fn refutes_first(
         assumed: Row::new(alloc),
     };
     let passes = check_certificate(alloc, extended.problem(), &[], &nothing, certificate)?;
-    Ok(passes && ends_empty(certificate))
+    Ok(passes && ends_empty(certificate.steps.as_slice()))
 }
 
-/// Whether the last step of a certificate is the clause without literals.
-fn ends_empty(certificate: &Certificate) -> bool {
-    match certificate.steps.as_slice() {
-        [.., last] => last.clause.lits().is_empty(),
+/// Whether the last step is the clause without literals.
+fn ends_empty(steps: &[Step]) -> bool {
+    match steps {
+        [.., last] => last.clause.is_empty(),
         [] => false,
     }
 }
@@ -205,25 +205,81 @@ fn replays_from<R: AllocGlobal + Threads + Wait + Sync>(
     Ok(whole && does_file(rt.alloc(), state, window, file.as_slice())?)
 }
 
+/// Window `k` of a recording, where it has one.
+fn window_at(alloc: Global, recording: &Recording, k: u32) -> Result<Option<Window>, AllocError> {
+    if k < 1 || recording.manifest().epochs() < k {
+        return Ok(None);
+    }
+    Ok(Some(cut(alloc, recording, k)?))
+}
+
+/// Whether the schedule of window `k` in a text of links replays from this state on.
+fn window_replays<R: AllocGlobal + Threads + Wait + Sync>(
+    rt: &R,
+    folder: &mut MemoryFolder,
+    state: &mut State,
+    recording: &Recording,
+    k: u32,
+    text: &[u8],
+) -> Result<bool, Fail> {
+    match window_at(rt.alloc(), recording, k)? {
+        Some(window) => replays_from(rt, folder, state, &window, text),
+        None => Ok(false),
+    }
+}
+
+/// Whether those of all windows but the last do, one after another.
+fn links_replay<R: AllocGlobal + Threads + Wait + Sync>(
+    rt: &R,
+    folder: &mut MemoryFolder,
+    state: &mut State,
+    recording: &Recording,
+    text: &[u8],
+) -> Result<bool, Fail> {
+    let mut hold = true;
+    for k in 1..recording.manifest().epochs() {
+        hold = hold && window_replays(rt, folder, state, recording, k, text)?;
+    }
+    Ok(hold)
+}
+
+/// Whether a schedule of the last window happens from a state that the window before left.
+fn last_happens(
+    alloc: Global,
+    state: &mut State,
+    recording: &Recording,
+    found: &Schedule,
+) -> Result<bool, AllocError> {
+    match window_at(alloc, recording, recording.manifest().epochs())? {
+        Some(window) => does_all(alloc, state, &window, found),
+        None => Ok(false),
+    }
+}
+
+/// The state in which a recording begins.
+fn first_state(alloc: Global, recording: &Recording) -> Result<Option<State>, AllocError> {
+    match window_at(alloc, recording, 1)? {
+        Some(window) => Ok(Some(State::new(alloc, &window)?)),
+        None => Ok(None),
+    }
+}
+
 /// Whether the schedules in a text of links replay, each in its window and all of them from the recording's start, and then
 /// one of the last window.
 fn replay_from_start<R: AllocGlobal + Threads + Wait + Sync>(
     rt: &R,
     folder: &mut MemoryFolder,
+    recording: &Recording,
     text: &[u8],
     found: &Schedule,
 ) -> Result<bool, Fail> {
-    let alloc = rt.alloc();
-    let read = read_recording(rt, alloc, folder, "d")?;
-    let epochs = read.manifest().epochs();
-    let mut state = State::new(alloc, &cut(alloc, &read, 1)?)?;
-    for k in 1..epochs {
-        let window = cut(alloc, &read, k)?;
-        if !replays_from(rt, folder, &mut state, &window, text)? {
-            return Ok(false);
-        }
-    }
-    Ok(does_all(alloc, &mut state, &cut(alloc, &read, epochs)?, found)?)
+    let Some(mut state) = first_state(rt.alloc(), recording)? else {
+        return Ok(false);
+    };
+    Ok(
+        links_replay(rt, folder, &mut state, recording, text)?
+            && last_happens(rt.alloc(), &mut state, recording, found)?,
+    )
 }
 
 /// The first schedule in the last window of a report that has one property.
@@ -244,22 +300,35 @@ fn last_found(report: &Report) -> Option<&Schedule> {
         })
 }
 
-/// Whether what is found in the last of ten windows of a made recording replays from its start, behind what links the others.
-fn found_replays<R: AllocGlobal + Threads + Wait + Sync>(rt: &R) -> Result<bool, Fail> {
+/// A folder with a made recording of ten windows.
+fn made_folder<R: AllocGlobal + Threads + Wait + Sync>(rt: &R) -> Result<MemoryFolder, AllocError> {
     let mut folder = MemoryFolder::new(Vec::new(rt.alloc()), Vec::new(rt.alloc()));
-    let _made = tells(
-        rt,
-        &["--task=make", "--seed=7", "--events=2000", "d"],
-        &mut folder,
-    )?;
-    let (linked, sink) = tells(rt, &["--task=link", "d"], &mut folder)?;
+    let words = ["--task=make", "--seed=7", "--events=2000", "d"];
+    let _made = tells(rt, &words, &mut folder)?;
+    Ok(folder)
+}
+
+/// Whether what a report found in the last window replays from the start, behind what a text of links tells.
+fn found_behind<R: AllocGlobal + Threads + Wait + Sync>(
+    rt: &R,
+    folder: &mut MemoryFolder,
+    text: &[u8],
+    report: Option<&Report>,
+) -> Result<bool, Fail> {
+    let Some(found) = report.and_then(last_found) else {
+        return Ok(false);
+    };
+    let read = read_recording(rt, rt.alloc(), folder, "d")?;
+    replay_from_start(rt, folder, &read, text, found)
+}
+
+/// Whether all windows of a made recording are linked, and what is found in the last one replays from its start behind them.
+fn found_replays<R: AllocGlobal + Threads + Wait + Sync>(rt: &R) -> Result<bool, Fail> {
+    let mut folder = made_folder(rt)?;
+    let (_linked, sink) = tells(rt, &["--task=link", "d"], &mut folder)?;
     let (answered, _report) = tells(rt, &["--task=analyse", "d"], &mut folder)?;
-    let text = sink.bytes();
-    let all = linked.status == 0 && text.ends_with(b"\nsummary 9 0 0 0\n");
-    match answered.report.as_ref().and_then(last_found) {
-        Some(found) => Ok(all && replay_from_start(rt, &mut folder, text, found)?),
-        None => Ok(false),
-    }
+    let all = sink.bytes().ends_with(b"\nsummary 9 0 0 0\n");
+    Ok(all && found_behind(rt, &mut folder, sink.bytes(), answered.report.as_ref())?)
 }
 
 #[test]

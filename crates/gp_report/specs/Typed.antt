@@ -5,6 +5,7 @@ use Rattle.gp_text.specs.Name.{is_name}
 use Rattle.gp_window.specs.declared.schedule.EventId.{EventId}
 use Rattle.gp_report.specs.Records.{Answer, Entry, PropertyRecord, WindowBody, WindowRecord}
 use Rattle.gp_report.specs.declared.record.AnswerOf.TheVariants.{Found, Impossible, Undecided}
+use Rattle.gp_report.specs.declared.record.EntryOf.{EntryOf}
 use Rattle.gp_report.specs.declared.record.WindowBodyOf.TheVariants.{TooLarge, Answers}
 use Rattle.gp_report.specs.Entries.{count_of, entries_in, entries_of, is_found, is_impossible, is_undecided}
 use Rattle.gp_report.specs.ReportForm.{ReportForm}
@@ -52,7 +53,7 @@ pub record IsTypedWindow (window : WindowRecord) : Type 0 where
   pub body : IsTypedBody window.body
 
 -- how many entries have each answer is below 2^64
-pub record AreCounted (entries : List Entry) : Type 0 where
+pub record AreCounted {Shown : Type 0} (entries : List (EntryOf Shown)) : Type 0 where
   pub found : count_of is_found entries < 2 ^ 64
   pub impossible : count_of is_impossible entries < 2 ^ 64
   pub undecided : count_of is_undecided entries < 2 ^ 64

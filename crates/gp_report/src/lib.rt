@@ -8,16 +8,19 @@
 mod checks;
 mod fault;
 mod fit;
+mod found;
 mod laws;
 mod printing;
 mod reading;
 mod record;
 mod report;
+mod shows;
 mod tally;
 
 pub use fault::{ReportFault, ReportRule};
+pub use found::is_any_found;
 pub use laws::{reads_exactly, reports_are_plain, reports_read_again};
-pub use printing::print_report;
+pub use printing::{print_report, put_summary, put_window};
 pub use reading::{ReadReport, read_report};
 pub use record::{
     Answer, AnswerOf, Entry, EntryOf, MOST_BUDGET, MOST_ENTRIES, MOST_EVENTS, MOST_WORKERS,
@@ -25,3 +28,4 @@ pub use record::{
     WindowRecord, WindowRecordOf,
 };
 pub use report::Report;
+pub use shows::Shows;

@@ -4,16 +4,19 @@ ghost use Rattle.gp_report.specs.Entries.{entries_of};
 ghost use Rattle.gp_report.specs.Reading.{report_of};
 ghost use Rattle.gp_report.specs.Telling.{IsWhole, without_records};
 ghost use Rattle.gp_report.specs.Typed.{AreCounted};
-ghost use Rattle.gp_report.specs.Printed.{answer_lines, count_word, entries_lines, instance_words, property_lines, report_lines, shared_lines, summary_words, window_body_lines, window_lines};
+ghost use Rattle.gp_report.specs.Printed.{answer_lines_of, count_word, entries_lines_of, instance_words, property_lines_of, report_lines, shared_lines, summary_words, window_body_lines_of, window_lines_of};
 
 use crate::fit::windows_fit;
 use crate::laws::reports_read_again;
-use crate::record::{Answer, Entry, PropertyBody, PropertyRecord, WindowBody, WindowRecord};
+use crate::record::{
+    AnswerOf, EntryOf, PropertyBodyOf, PropertyRecordOf, WindowBodyOf, WindowRecordOf,
+};
 use crate::report::Report;
+use crate::shows::Shows;
 use crate::tally::tally_of;
 use gp_base::Row;
 use gp_certificate::Step;
-use gp_writer::{put_counted_list, put_line, put_numbered_line, put_steps, put_word, put_words};
+use gp_writer::{put_line, put_numbered_line, put_steps, put_word, put_words};
 use std::alloc::{AllocError, Global};
 
 /// The text of a report: its lines of words, with one space between words and a newline after each line. It is read as the
@@ -34,8 +37,12 @@ pub fn print_report(alloc: Global, report: &Report) -> Result<Row<u8>, AllocErro
     Ok(Row::from_vec(text))
 }
 
-fn put_windows(text: &mut Vec<u8>, format: u32, windows: &[WindowRecord]) -> Result<(), AllocError>
-    ensures { OnOk result (text.new.items ≡ text.old.items ++ spelling (flat_map (window_lines format) windows.now)) }
+fn put_windows<S: Shows>(
+    text: &mut Vec<u8>,
+    format: u32,
+    windows: &[WindowRecordOf<S>],
+) -> Result<(), AllocError>
+    ensures { OnOk result (text.new.items ≡ text.old.items ++ spelling (flat_map (window_lines_of S.lines format) windows.now)) }
 {
     for window in windows {
         put_window(text, format, window)?;
@@ -43,39 +50,44 @@ fn put_windows(text: &mut Vec<u8>, format: u32, windows: &[WindowRecord]) -> Res
     Ok(())
 }
 
-fn put_window(text: &mut Vec<u8>, format: u32, window: &WindowRecord) -> Result<(), AllocError>
-    ensures { OnOk result (text.new.items ≡ text.old.items ++ spelling (window_lines format window.now)) }
+/// Puts what a report of this format tells of a window.
+pub fn put_window<S: Shows>(
+    text: &mut Vec<u8>,
+    format: u32,
+    window: &WindowRecordOf<S>,
+) -> Result<(), AllocError>
+    ensures { OnOk result (text.new.items ≡ text.old.items ++ spelling (window_lines_of S.lines format window.now)) }
 {
     put_line(text, b"window", &[window.number])?;
     put_window_body(text, format, window.shared.as_slice(), &window.body)
 }
 
-fn put_window_body(
+fn put_window_body<S: Shows>(
     text: &mut Vec<u8>,
     format: u32,
     shared: &[Step],
-    body: &WindowBody,
+    body: &WindowBodyOf<S>,
 ) -> Result<(), AllocError>
-    ensures { OnOk result (text.new.items ≡ text.old.items ++ spelling (window_body_lines format shared.now body.now)) }
+    ensures { OnOk result (text.new.items ≡ text.old.items ++ spelling (window_body_lines_of S.lines format shared.now body.now)) }
 {
     match body {
-        WindowBody::TooLarge { events, clauses } => {
+        WindowBodyOf::TooLarge { events, clauses } => {
             put_line(text, b"toolarge", &[*events, *clauses])
         }
-        WindowBody::Answers(properties) => {
+        WindowBodyOf::Answers(properties) => {
             put_answers(text, format, shared, properties.as_slice())
         }
     }
 }
 
 #[tactic(auto, using(gp_writer::specs::LinesLaws::lines_put))]
-fn put_answers(
+fn put_answers<S: Shows>(
     text: &mut Vec<u8>,
     format: u32,
     shared: &[Step],
-    properties: &[PropertyRecord],
+    properties: &[PropertyRecordOf<S>],
 ) -> Result<(), AllocError>
-    ensures { OnOk result (text.new.items ≡ text.old.items ++ spelling (shared_lines format shared.now ++ flat_map property_lines properties.now)) }
+    ensures { OnOk result (text.new.items ≡ text.old.items ++ spelling (shared_lines format shared.now ++ flat_map (property_lines_of S.lines) properties.now)) }
 {
     put_shared(text, format, shared)?;
     put_properties(text, properties)
@@ -90,8 +102,11 @@ fn put_shared(text: &mut Vec<u8>, format: u32, shared: &[Step]) -> Result<(), Al
     put_steps(text, b"shared", shared)
 }
 
-fn put_properties(text: &mut Vec<u8>, properties: &[PropertyRecord]) -> Result<(), AllocError>
-    ensures { OnOk result (text.new.items ≡ text.old.items ++ spelling (flat_map property_lines properties.now)) }
+fn put_properties<S: Shows>(
+    text: &mut Vec<u8>,
+    properties: &[PropertyRecordOf<S>],
+) -> Result<(), AllocError>
+    ensures { OnOk result (text.new.items ≡ text.old.items ++ spelling (flat_map (property_lines_of S.lines) properties.now)) }
 {
     for property in properties {
         put_property(text, property)?;
@@ -99,14 +114,20 @@ fn put_properties(text: &mut Vec<u8>, properties: &[PropertyRecord]) -> Result<(
     Ok(())
 }
 
-fn put_property(text: &mut Vec<u8>, property: &PropertyRecord) -> Result<(), AllocError>
-    ensures { OnOk result (text.new.items ≡ text.old.items ++ spelling (property_lines property.now)) }
+fn put_property<S: Shows>(
+    text: &mut Vec<u8>,
+    property: &PropertyRecordOf<S>,
+) -> Result<(), AllocError>
+    ensures { OnOk result (text.new.items ≡ text.old.items ++ spelling (property_lines_of S.lines property.now)) }
 {
     put_property_line(text, property)?;
     put_entries(text, property.body.entries())
 }
 
-fn put_property_line(text: &mut Vec<u8>, property: &PropertyRecord) -> Result<(), AllocError>
+fn put_property_line<S>(
+    text: &mut Vec<u8>,
+    property: &PropertyRecordOf<S>,
+) -> Result<(), AllocError>
     ensures { OnOk result (text.new.items ≡ text.old.items ++ spelling ((codes "property" ∷ property.now.name ∷ count_word property.now.body ∷ []) ∷ [])) }
 {
     text.extend_from_slice(b"property")?;
@@ -116,17 +137,17 @@ fn put_property_line(text: &mut Vec<u8>, property: &PropertyRecord) -> Result<()
     Ok(())
 }
 
-fn put_count(text: &mut Vec<u8>, body: &PropertyBody) -> Result<(), AllocError>
+fn put_count<S>(text: &mut Vec<u8>, body: &PropertyBodyOf<S>) -> Result<(), AllocError>
     ensures { OnOk result (text.new.items ≡ text.old.items ++ after_words (count_word body.now ∷ [])) }
 {
     match body {
-        PropertyBody::TooMany => put_word(text, b"toomany"),
-        PropertyBody::Entries(entries) => put_words(text, &[entries.len() as u64]),
+        PropertyBodyOf::TooMany => put_word(text, b"toomany"),
+        PropertyBodyOf::Entries(entries) => put_words(text, &[entries.len() as u64]),
     }
 }
 
-fn put_entries(text: &mut Vec<u8>, entries: &[Entry]) -> Result<(), AllocError>
-    ensures { OnOk result (text.new.items ≡ text.old.items ++ spelling (entries_lines 0 entries.now)) }
+fn put_entries<S: Shows>(text: &mut Vec<u8>, entries: &[EntryOf<S>]) -> Result<(), AllocError>
+    ensures { OnOk result (text.new.items ≡ text.old.items ++ spelling (entries_lines_of S.lines 0 entries.now)) }
 {
     for (number, entry) in entries.iter().enumerate() {
         put_entry(text, number as u64, entry)?;
@@ -134,28 +155,33 @@ fn put_entries(text: &mut Vec<u8>, entries: &[Entry]) -> Result<(), AllocError>
     Ok(())
 }
 
-fn put_entry(text: &mut Vec<u8>, number: u64, entry: &Entry) -> Result<(), AllocError>
-    ensures { OnOk result (text.new.items ≡ text.old.items ++ spelling (instance_words number entry.now ∷ answer_lines entry.now.answer)) }
+fn put_entry<S: Shows>(
+    text: &mut Vec<u8>,
+    number: u64,
+    entry: &EntryOf<S>,
+) -> Result<(), AllocError>
+    ensures { OnOk result (text.new.items ≡ text.old.items ++ spelling (instance_words number entry.now ∷ answer_lines_of S.lines entry.now.answer)) }
 {
     put_numbered_line(text, b"instance", number, entry.events.as_slice())?;
     put_answer(text, &entry.answer)
 }
 
-fn put_answer(text: &mut Vec<u8>, answer: &Answer) -> Result<(), AllocError>
-    ensures { OnOk result (text.new.items ≡ text.old.items ++ spelling (answer_lines answer.now)) }
+fn put_answer<S: Shows>(text: &mut Vec<u8>, answer: &AnswerOf<S>) -> Result<(), AllocError>
+    ensures { OnOk result (text.new.items ≡ text.old.items ++ spelling (answer_lines_of S.lines answer.now)) }
 {
     match answer {
-        Answer::Found(schedule) => put_counted_list(text, b"found", schedule.events.as_slice()),
-        Answer::Impossible(certificate) => {
+        AnswerOf::Found(shown) => shown.put(text),
+        AnswerOf::Impossible(certificate) => {
             put_steps(text, b"impossible", certificate.steps.as_slice())
         }
-        Answer::Undecided { worker, from, to } => {
+        AnswerOf::Undecided { worker, from, to } => {
             put_line(text, b"undecided", &[*worker, *from, *to])
         }
     }
 }
 
-fn put_summary(text: &mut Vec<u8>, windows: &[WindowRecord]) -> Result<(), AllocError>
+/// Puts the last line of a report: how many entries are found, impossible and undecided.
+pub fn put_summary<S>(text: &mut Vec<u8>, windows: &[WindowRecordOf<S>]) -> Result<(), AllocError>
     ensures text { OnOk result (text.new.items ≡ text.old.items ++ spelling (summary_words (entries_of windows.now) ∷ [])) }
     ensures counted { OnOk result (AreCounted (entries_of windows.now)) }
 {

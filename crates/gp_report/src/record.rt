@@ -46,9 +46,9 @@ pub enum PropertyBodyOf<S> {
     Entries(Row<EntryOf<S>>),
 }
 
-impl PropertyBodyOf<Schedule> {
+impl<S> PropertyBodyOf<S> {
     /// The entries, none where there are too many.
-    pub fn entries(&self) -> &[Entry]
+    pub fn entries(&self) -> &[EntryOf<S>]
         ensures { result.now ≡ entries_in self.now }
     {
         match self {
@@ -74,9 +74,9 @@ pub enum WindowBodyOf<S> {
     Answers(Row<PropertyRecordOf<S>>),
 }
 
-impl WindowBodyOf<Schedule> {
+impl<S> WindowBodyOf<S> {
     /// The records of the properties, none where the window is too large.
-    pub fn properties(&self) -> &[PropertyRecord]
+    pub fn properties(&self) -> &[PropertyRecordOf<S>]
         ensures { result.now ≡ properties_in self.now }
     {
         match self {

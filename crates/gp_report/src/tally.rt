@@ -2,7 +2,7 @@ ghost use Rattle.std.specs.Prelude.{◌≡◌, ◌+◌, [], ◌∷◌, IfOk};
 ghost use Rattle.gp_report.specs.Entries.{entries_among, entries_of};
 ghost use Rattle.gp_report.specs.Tally.{tally_of, with_entries};
 
-use crate::record::{Answer, Entry, PropertyRecord, WindowRecord};
+use crate::record::{AnswerOf, EntryOf, PropertyRecordOf, WindowRecordOf};
 use std::alloc::AllocError;
 
 // How many entries are found, impossible and undecided.
@@ -14,7 +14,7 @@ pub(crate) struct Tally {
 }
 
 // Counts the entries of all windows. Entries past 2^64 - 1 of a kind would not fit into memory.
-pub(crate) fn tally_of(windows: &[WindowRecord]) -> Result<Tally, AllocError>
+pub(crate) fn tally_of<S>(windows: &[WindowRecordOf<S>]) -> Result<Tally, AllocError>
     ensures { IfOk result (λ tally. tally ≡ tally_of (entries_of windows.now)) }
 {
     let mut tally = Tally {
@@ -28,7 +28,7 @@ pub(crate) fn tally_of(windows: &[WindowRecord]) -> Result<Tally, AllocError>
     Ok(tally)
 }
 
-fn with_properties(tally: Tally, properties: &[PropertyRecord]) -> Result<Tally, AllocError>
+fn with_properties<S>(tally: Tally, properties: &[PropertyRecordOf<S>]) -> Result<Tally, AllocError>
     ensures { IfOk result (λ new. new ≡ with_entries tally (entries_among properties.now)) }
 {
     let mut tally = tally;
@@ -38,7 +38,7 @@ fn with_properties(tally: Tally, properties: &[PropertyRecord]) -> Result<Tally,
     Ok(tally)
 }
 
-fn with_entries(tally: Tally, entries: &[Entry]) -> Result<Tally, AllocError>
+fn with_entries<S>(tally: Tally, entries: &[EntryOf<S>]) -> Result<Tally, AllocError>
     ensures { IfOk result (λ new. new ≡ with_entries tally entries.now) }
 {
     let mut tally = tally;
@@ -48,19 +48,19 @@ fn with_entries(tally: Tally, entries: &[Entry]) -> Result<Tally, AllocError>
     Ok(tally)
 }
 
-fn with_entry(tally: Tally, entry: &Entry) -> Result<Tally, AllocError>
+fn with_entry<S>(tally: Tally, entry: &EntryOf<S>) -> Result<Tally, AllocError>
     ensures { IfOk result (λ new. new ≡ with_entries tally (entry.now ∷ [])) }
 {
     match &entry.answer {
-        Answer::Found(_) => Ok(Tally {
+        AnswerOf::Found(_) => Ok(Tally {
             found: more(tally.found)?,
             ..tally
         }),
-        Answer::Impossible(_) => Ok(Tally {
+        AnswerOf::Impossible(_) => Ok(Tally {
             impossible: more(tally.impossible)?,
             ..tally
         }),
-        Answer::Undecided { .. } => Ok(Tally {
+        AnswerOf::Undecided { .. } => Ok(Tally {
             undecided: more(tally.undecided)?,
             ..tally
         }),

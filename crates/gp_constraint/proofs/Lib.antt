@@ -23,3 +23,4 @@ pub mod PointsFirst
 pub mod Sided
 pub mod Further
 pub mod ExtendedValid
+pub mod Copied

@@ -12,7 +12,8 @@ use Rattle.gp_clause.specs.Lit.{lit_eq}
 use Rattle.gp_constraint.specs.declared.symbol.Symbol.{Symbol}
 use Rattle.gp_constraint.specs.declared.symbol.Symbol.TheVariants.{Executed, Order, Choice, StartChoice, First, Last, Signal, Span}
 use Rattle.gp_constraint.specs.declared.symbol.SymbolicLit.{SymbolicLit}
-use Rattle.gp_constraint.specs.Numbering.{lits_onto, names_after, names_of, number_of, numbered_lit, point_names, with_lit, with_mention, with_mentions}
+pub use Rattle.gp_constraint.specs.GrowthLaws.{after_grows, Grows, grows_none, grows_on, of_grows}
+use Rattle.gp_constraint.specs.Numbering.{lits_onto, names_after, number_of, numbered_lit, point_names, with_lit, with_mention, with_mentions}
 use Rattle.gp_constraint.specs.Symbols.{kind_of, symbol_eq}
 
 -- symbols
@@ -101,28 +102,7 @@ any_has s (name ∷ names) e =
       | inr differ ↦ there _ _ _ (any_has s names (rw differ at e))
     ]
 
--- names grow
-pub record Grows (names more : List Symbol) : Type 0 where
-  pub rest : List Symbol
-  pub is : more ≡ names ++ rest
-
-append_nil : (names : List Symbol) → names ≡ names ++ []
-append_nil [] = refl
-append_nil (name ∷ names) = ap (λ xs. name ∷ xs) (append_nil names)
-
-append_more : (xs ys zs : List Symbol) → (xs ++ ys) ++ zs ≡ xs ++ (ys ++ zs)
-append_more [] ys zs = refl
-append_more (x ∷ xs) ys zs = ap (λ rest. x ∷ rest) (append_more xs ys zs)
-
-pub grows_none : (names : List Symbol) → Grows names names
-grows_none names = record { rest = []; is = append_nil names }
-
-pub grows_on : (a b c : List Symbol) → Grows a b → Grows b c → Grows a c
-grows_on a b c one other = record {
-  rest = one.rest ++ other.rest;
-  is = other.is ∙ ap (λ xs. xs ++ other.rest) one.is ∙ append_more a one.rest other.rest;
-}
-
+-- what stands in names stands in those that they grow to, at the same number
 pub has_kept : (s : Symbol) (names more : List Symbol) → Grows names more → Contains names s → Contains more s
 has_kept s names more g i = subst (λ ns. Contains ns s) (sym g.is) (Contains-append_left names g.rest s i)
 
@@ -146,16 +126,6 @@ mention names s =
           subst (λ ns. Mentioned names s ns) (sym same)
           (record { grows = record { rest = s ∷ []; is = refl }; there = Contains-push names s; number = number_pushed s names })
     ]
-
-pub after_grows : (names : List Symbol) (lits : List SymbolicLit) → Grows names (names_after names lits)
-after_grows names [] = grows_none names
-after_grows names (lit ∷ lits) =
-    grows_on names (with_mention names lit.symbol) (names_after (with_mention names lit.symbol) lits) (mention names lit.symbol).grows (after_grows (with_mention names lit.symbol) lits)
-
-pub of_grows : (names : List Symbol) (clauses : List (List SymbolicLit)) → Grows names (names_of names clauses)
-of_grows names [] = grows_none names
-of_grows names (clause ∷ clauses) =
-    grows_on names (names_after names clause) (names_of (names_after names clause) clauses) (after_grows names clause) (of_grows (names_after names clause) clauses)
 
 pub mentions_grow : (names symbols : List Symbol) → Grows names (with_mentions names symbols)
 mentions_grow names [] = grows_none names

@@ -26,6 +26,7 @@ pub mod Signed
 pub mod Encoded
 pub mod QueryNames
 pub mod NumberingLaws
+pub mod GrowthLaws
 pub mod EncodedLaws
 pub mod Extended
 pub mod Limited
@@ -37,3 +38,4 @@ pub mod PointIds
 pub mod ScheduleModels
 pub mod StandingLaws
 pub mod TrueLaws
+pub mod Extension

@@ -81,7 +81,7 @@ impl Encoded {
         &self.problem
     }
 
-    pub(crate) fn points(&self) -> &[Point]
+    pub fn points(&self) -> &[Point]
         ensures { result.now ≡ points_of self.now }
     {
         self.points.as_slice()

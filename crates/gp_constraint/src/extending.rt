@@ -82,7 +82,7 @@ pub fn extended<F: Family>(
 }
 
 /// The clauses of a family, behind those that are encoded; or the fault that is due.
-fn further<F: Family>(
+pub(crate) fn further<F: Family>(
     alloc: Global,
     encoded: &Encoded,
     family: &F,

@@ -1,5 +1,5 @@
 ghost use Rattle.std.specs.Prelude.{◌≡◌, ℕ, ◌+◌, ◌<◌, ◌^◌, [], length, map, position, IfOk, OnErr, OnOk, IfSome};
-ghost use Rattle.gp_constraint.specs.Numbering.{number_of, point_names, with_mention};
+ghost use Rattle.gp_constraint.specs.Numbering.{number_of, point_names, with_mention, with_mentions};
 ghost use Rattle.gp_constraint.specs.Symbols.{kind_of, symbol_eq};
 
 use crate::symbol::Symbol;
@@ -45,6 +45,17 @@ impl Names {
             names.number(Symbol::Executed(p))?;
         }
         Ok(names)
+    }
+
+    /// A copy, of names none of which comes twice.
+    pub fn copy(&self, alloc: Global) -> Result<Names, AllocError>
+        ensures { IfOk result (λ copy. copy ≡ with_mentions [] self.now) }
+    {
+        let mut copy = Names::new(alloc);
+        for symbol in self.set.as_slice() {
+            copy.number(*symbol)?;
+        }
+        Ok(copy)
     }
 
     /// The number of a symbol, which is mentioned. More symbols than can be counted want more memory than there is.

@@ -1,0 +1,94 @@
+ghost use Rattle.std.specs.Prelude.{◌≡◌, ◌≢◌, Err, IfOk};
+ghost use Rattle.gp_constraint.specs.Extension.{extension_due, extension_of};
+ghost use Rattle.gp_constraint.specs.Numbering.{number_of};
+ghost use Rattle.gp_constraint.specs.Signed.{AreSigned};
+
+use crate::encoded::Encoded;
+use crate::extending::further;
+use crate::family::Family;
+use crate::fault::BaseFault;
+use crate::naming::{Names, kinds_of};
+use crate::numbering::number_onto;
+use crate::symbol::{Symbol, SymbolicLit};
+use gp_base::Row;
+use gp_clause::{Clause, Edge, Problem};
+use std::alloc::{AllocError, Global};
+use std::marker::Model;
+
+/// The problem of a window with further clauses, beside the one that the window keeps, and the numbers of its symbols.
+#[derive(Drop)]
+pub struct Extension {
+    problem: Problem,
+    names: Names,
+}
+
+impl Model for Extension {
+    ghost use Rattle.gp_constraint.specs.Extension.{ExtensionForm};
+
+    ghost Value = { ExtensionForm };
+
+    ghost view = { λ extension. record { problem = extension.problem; names = extension.names } };
+}
+
+impl Extension {
+    pub fn problem(&self) -> &Problem
+        ensures { result.now ≡ self.now.problem }
+    {
+        &self.problem
+    }
+
+    /// The variable of a symbol; where no clause names it, the number after those of all variables.
+    pub fn number(&self, symbol: Symbol) -> u32
+        ensures { result ≡ number_of self.now.names symbol }
+    {
+        self.names.place(symbol)
+    }
+}
+
+/// The problem of a window with the clauses of a family behind copies of its own, and their symbols numbered after its own.
+pub fn extended_beside<F: Family>(
+    alloc: Global,
+    encoded: &Encoded,
+    family: &F,
+) -> Result<Extension, BaseFault>
+    ensures { result ≢ Err BaseFault.Memory → result ≡ extension_due encoded.now (F.clauses family.now encoded.now) }
+{
+    let more = further(alloc, encoded, family)?;
+    Ok(beside(alloc, encoded, more.clauses())?)
+}
+
+/// Clauses by their variables, behind copies of those that are encoded.
+fn beside(
+    alloc: Global,
+    encoded: &Encoded,
+    more: &[Row<SymbolicLit>],
+) -> Result<Extension, AllocError>
+    requires { AreSigned more.now }
+    ensures { IfOk result (λ extension. extension ≡ extension_of encoded.now more.now) }
+{
+    let problem = encoded.problem();
+    let mut names = encoded.names().copy(alloc)?;
+    let mut clauses = copied_clauses(alloc, problem.clauses.as_slice())?;
+    number_onto(alloc, &mut clauses, &mut names, more)?;
+    let kinds = kinds_of(alloc, names.as_slice())?;
+    let edges = copied_edges(alloc, problem.edges.as_slice())?;
+    let problem = Problem {
+        points: problem.points,
+        kinds,
+        edges,
+        clauses,
+    };
+    Ok(Extension { problem, names })
+}
+
+fn copied_clauses(alloc: Global, clauses: &[Clause]) -> Result<Row<Clause>, AllocError>
+    ensures { IfOk result (λ copy. copy ≡ clauses.now) }
+{
+    Ok(Row::from_vec(Vec::from_clones(alloc, clauses)?))
+}
+
+fn copied_edges(alloc: Global, edges: &[Edge]) -> Result<Row<Edge>, AllocError>
+    ensures { IfOk result (λ copy. copy ≡ edges.now) }
+{
+    Ok(Row::from_vec(Vec::from_clones(alloc, edges)?))
+}

@@ -22,7 +22,7 @@ use Rattle.gp_analysis.specs.Question.{ListsAsks, QuestionForm}
 use Rattle.gp_analysis.specs.Recorded.{CanBeAnswered}
 use Rattle.gp_analysis.specs.Recording.{CanRecord, RecordsListed}
 use Rattle.gp_analysis.specs.Tickets.{asked_of, subjects_tickets, tickets_in, tickets_listed, tickets_of}
-use Rattle.gp_analysis.proofs.Evidence.{CanAnswer, can_record, listed_answered, unshared}
+use Rattle.gp_analysis.proofs.Evidence.{CanAnswer, can_record, known_of, listed_answered}
 
 abbrev head_or : {A : Type 0} → A → List A → A
 head_or d [] = d
@@ -70,8 +70,8 @@ module _ {Subject Shown : Type 0} (question : QuestionForm Subject Shown) (lists
     pub asks : AllByRecursion (ListsAsks question lists) rest
     pub listed_is : listed ≡ listed_from question window number rest
     pub answers_are : AnswerEach (question.problem window) budget workers ticket (queries_from question window number rest) answers
-    pub completes : (more : List (PropertyRecordOf Shown)) → AnswersSubjects question window (unshared budget workers) number ticket rest more
-        → AnswersSubjects question window (unshared budget workers) 0 0 question.subjects (own ++ more)
+    pub completes : (more : List (PropertyRecordOf Shown)) → AnswersSubjects question window (known_of question window budget workers) number ticket rest more
+        → AnswersSubjects question window (known_of question window budget workers) 0 0 question.subjects (own ++ more)
 
   module _ (can : CanAnswer question lists window) where
     query_valid : (subject : Subject) (ask : Instance) (given : Option (AnswerOf Shown)) → lists window subject ask.events
@@ -111,7 +111,7 @@ module _ {Subject Shown : Type 0} (question : QuestionForm Subject Shown) (lists
             few_clauses = own.few_clauses;
             least = answerable.least;
             few = subst (λ n. n * budget ≤ 1000000) (sym (queries_count question window 0 question.subjects))
-                (subst (λ large. asked_of large (subjects_tickets question window 0 question.subjects) * budget ≤ 1000000) can.fits answerable.limit);
+                (subst (λ left. asked_of left (subjects_tickets question window 0 question.subjects) * budget ≤ 1000000) can.fits answerable.limit);
           };
         } in
         subst (λ (p : Problem). CanBeAsked p queries budget) (sym same) (subst (λ qs. CanBeAsked (question.problem window) qs budget) (sym are) all)
@@ -159,12 +159,12 @@ module _ {Subject Shown : Type 0} (question : QuestionForm Subject Shown) (lists
           listed_is = ap rest_of at.listed_is;
           answers_are = answered.1;
           completes = λ more rests.
-              subst (λ xs. AnswersSubjects question window (unshared budget workers) 0 0 question.subjects xs) (sym (append_assoc own (one ∷ []) more) ∙ ap (λ xs. xs ++ more) (sym all_is))
+              subst (λ xs. AnswersSubjects question window (known_of question window budget workers) 0 0 question.subjects xs) (sym (append_assoc own (one ∷ []) more) ∙ ap (λ xs. xs ++ more) (sym all_is))
               (at.completes (one ∷ more) (name, answered.0, rests));
         }
 
   -- until all are
   pub all_done : (workers : List WorkerRecord) (left : List Subject) (listed : List (Option (List (Asked Shown)))) (answers : List WorkAnswer) (own : List (PropertyRecordOf Shown)) → length left ≡ 0
-      → IsAnswering workers left listed answers own → AnswersSubjects question window (unshared budget workers) 0 0 question.subjects own
-  all_done workers [] listed answers own e h = subst (AnswersSubjects question window (unshared budget workers) 0 0 question.subjects) (append-nil own) (h.completes [] tt)
+      → IsAnswering workers left listed answers own → AnswersSubjects question window (known_of question window budget workers) 0 0 question.subjects own
+  all_done workers [] listed answers own e h = subst (AnswersSubjects question window (known_of question window budget workers) 0 0 question.subjects) (append-nil own) (h.completes [] tt)
   all_done workers (subject ∷ left) listed answers own e h = absurd (omega (arith, e))

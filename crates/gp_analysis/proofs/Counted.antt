@@ -11,7 +11,7 @@ use Rattle.gp_window.specs.RecordingForm.{RecordingForm}
 use Rattle.gp_window.specs.WindowForm.{WindowForm, numbers_from, window_of}
 use Rattle.gp_analysis.specs.declared.counting.Counted.{Counted}
 use Rattle.gp_analysis.specs.declared.counting.Counted.TheVariants.{Listed}
-use Rattle.gp_analysis.specs.declared.question.TooLarge.{TooLarge}
+use Rattle.gp_analysis.specs.declared.question.LeftOut.{LeftOut}
 use Rattle.gp_analysis.specs.Question.{QuestionForm}
 use Rattle.std.proofs.lemmas.Bool.{le-ltb, ltb-false}
 use Rattle.std.proofs.Math.Nat.{mul-le-mul_right}
@@ -65,9 +65,9 @@ one_ticket : {Shown : Type 0} (given : Option (AnswerOf Shown)) → tickets_of g
 one_ticket None = omega arith
 one_ticket (Some given) = omega arith
 
-asked_few : (large : Option TooLarge) (count : ℕ) → asked_of large count ≤ count
+asked_few : (left : Option LeftOut) (count : ℕ) → asked_of left count ≤ count
 asked_few None count = omega arith
-asked_few (Some large) count = omega arith
+asked_few (Some why) count = omega arith
 
 module _ {Subject Shown : Type 0} (question : QuestionForm Subject Shown) where
   -- what the runs have together is what all windows have
@@ -99,8 +99,8 @@ module _ {Subject Shown : Type 0} (question : QuestionForm Subject Shown) where
       sum_few (asked_in question r) (λ (k : ℕ). window_count question Listed (window_of r k)) (numbers_from 1 r.manifest.epochs)
       (λ k.
       let window = window_of r k in
-      let one : asked_of (question.too_large window) (subjects_tickets question window 0 question.subjects) ≤ subjects_tickets question window 0 question.subjects =
-      asked_few (question.too_large window) (subjects_tickets question window 0 question.subjects) in
+      let one : asked_of (question.left_out window) (subjects_tickets question window 0 question.subjects) ≤ subjects_tickets question window 0 question.subjects =
+      asked_few (question.left_out window) (subjects_tickets question window 0 question.subjects) in
       let all : subjects_tickets question window 0 question.subjects ≤ subjects_count question window 0 question.subjects = few_subjects window 0 question.subjects in
       omega (arith, one, all))
 

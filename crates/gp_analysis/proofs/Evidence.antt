@@ -1,5 +1,5 @@
 -- What is recorded of an ask by an answer to its query has the evidence of the answer.
-use Rattle.std.proofs.Common.{◌≡◌, sym, subst, refl, ℕ, ◌+◌, List, [], ◌∷◌, ◌++◌, map, Option, Some, None, Result, Ok, Err, add-zero, add_assoc, append_assoc}
+use Rattle.std.proofs.Common.{◌≡◌, sym, subst, refl, ℕ, ◌+◌, List, [], ◌∷◌, ◌++◌, length, map, Option, Some, None, Result, Ok, Err, add-zero, add_assoc, append_assoc}
 use Rattle.std.specs.List.{AllByRecursion}
 use Rattle.gp_certificate.specs.declared.certificate.Certificate.{Certificate}
 use Rattle.gp_certificate.specs.Certificate.{RefutedMeans, Refutes}
@@ -11,6 +11,7 @@ use Rattle.gp_instance.specs.declared.instance.Instance.{Instance}
 use Rattle.gp_instance.specs.declared.instance.InstancesFault.{InstancesFault}
 use Rattle.gp_instance.specs.declared.instance.InstancesFault.TheVariants.{Memory, TooMany}
 use Rattle.gp_instance.specs.ListedLaws.{ListsEach}
+use Rattle.gp_raise.specs.Raised.{RaisedRefutes, raised}
 use Rattle.gp_report.specs.declared.record.AnswerOf.{AnswerOf}
 use Rattle.gp_report.specs.declared.record.AnswerOf.TheVariants.{Found, Impossible, Undecided}
 use Rattle.gp_report.specs.declared.record.EntryOf.{EntryOf}
@@ -28,17 +29,18 @@ use Rattle.gp_analysis.specs.Question.{Holds, IsLawful, IsRefuted, QuestionForm}
 use Rattle.gp_analysis.specs.Recording.{CanRecord, CanRecordAsk, CanRecordEach, IsSound, RecordsAnswer, RecordsAsk, RecordsEach, RecordsListed, left_after}
 use Rattle.gp_analysis.specs.Tickets.{tickets_in, tickets_listed, tickets_of}
 
--- what is known of a window whose certificates share no steps
-abbrev pub unshared : ℕ → List WorkerRecord → Evidence
-unshared budget workers = record { budget = budget; shared = []; workers = workers }
+-- what is known of a window, whose certificates share the steps of the question
+abbrev pub known_of : {Subject Shown : Type 0} → QuestionForm Subject Shown → WindowForm → ℕ → List WorkerRecord → Evidence
+known_of question window budget workers = record { budget = budget; shared = question.shared window; workers = workers }
 
--- a window of a recording that is not too large, the laws of the question, and those of certificates and of workers that share
+-- a window of a recording that is not left out, the laws of the question, and those of certificates
 pub record CanAnswer {Subject Shown : Type 0} (question : QuestionForm Subject Shown) (lists : WindowForm → Subject → List EventId → Type 0) (window : WindowForm) : Type 0 where
   pub lawful : IsLawful question lists
   pub formed : IsWindow window
-  pub fits : question.too_large window ≡ None
+  pub fits : question.left_out window ≡ None
   pub refuted : RefutedMeans
   pub alone : SharesNothing
+  pub raises : RaisedRefutes
 
 is_sound : (problem : Problem) (query : Query) (budget : ℕ) (workers : List WorkerRecord) (ticket : ℕ) (answer : WorkAnswer) → IsWorkAnswer problem query budget workers ticket answer → IsSound problem query answer
 is_sound problem query budget workers ticket (Model valuation) is = is
@@ -53,28 +55,34 @@ spent_is problem query budget ticket workers worker from to by begins ends same 
     subst (λ n. IsSpentBy problem query budget workers ticket by begins n) (sym last) two
 
 module _ {Subject Shown : Type 0} (question : QuestionForm Subject Shown) (lists : WindowForm → Subject → List EventId → Type 0) (window : WindowForm) (can : CanAnswer question lists window) (budget : ℕ) (workers : List WorkerRecord) (subject : Subject) where
-  -- what refutes the query of an ask shows that nothing shows it
+  -- a certificate over the steps that are shared
+  abbrev over : Certificate → Certificate
+  over certificate = raised (length (question.problem window).clauses) (length (question.shared window)) certificate
+
+  -- what refutes the query of an ask shows that nothing shows it, and refutes it over the steps that are shared
   refuted_is : (ids : List EventId) (certificate : Certificate) → lists window subject ids → Refutes (question.problem window) (question.query window subject ids) certificate
-      → IsRefuted question window subject ids [] certificate
+      → IsRefuted question window subject ids (question.shared window) (over certificate)
   refuted_is ids certificate listed refutes =
       let ask = can.lawful.ask window subject ids listed in
+      let problem = can.lawful.problem window can.fits in
       record {
-        impossible = ask.complete can.formed
+        impossible = ask.complete can.formed can.fits
             (λ truth place valuation holds assumed.
-            can.refuted.no_valuation (question.problem window) (question.query window subject ids) certificate (can.lawful.problem window can.fits).valid (ask.query can.fits) refutes truth place valuation holds assumed);
-        refutes = (can.alone.refutes (question.problem window) (question.query window subject ids) certificate).1 refutes;
+            can.refuted.no_valuation (question.problem window) (question.query window subject ids) certificate problem.valid (ask.query can.fits) refutes truth place valuation holds assumed);
+        refutes = can.raises (question.problem window) (question.shared window) (question.query window subject ids) certificate problem.shares
+            ((can.alone.refutes (question.problem window) (question.query window subject ids) certificate).1 refutes);
       }
 
   -- each kind of answer
   one_answered : (ticket : ℕ) (ids : List EventId) (answer : WorkAnswer) (own : AnswerOf Shown) → lists window subject ids
       → IsWorkAnswer (question.problem window) (question.query window subject ids) budget workers ticket answer
-      → RecordsAnswer question window subject ids answer own → IsAnswer question window (unshared budget workers) subject ticket ids own
+      → RecordsAnswer question window subject ids answer own → IsAnswer question window (known_of question window budget workers) subject ticket ids own
   one_answered ticket ids (Model valuation) (Found shown) listed is records = records
   one_answered ticket ids (Model valuation) (Impossible certificate) listed is records = absurd records
   one_answered ticket ids (Model valuation) (Undecided by begins ends) listed is records = absurd records
   one_answered ticket ids (Refuted certificate) (Found shown) listed is records = absurd records
   one_answered ticket ids (Refuted certificate) (Impossible own) listed is records =
-      refuted_is ids own listed (subst (Refutes (question.problem window) (question.query window subject ids)) (sym records) is)
+      subst (IsRefuted question window subject ids (question.shared window)) (sym records) (refuted_is ids certificate listed is)
   one_answered ticket ids (Refuted certificate) (Undecided by begins ends) listed is records = absurd records
   one_answered ticket ids (Spent worker from to) (Found shown) listed is records = absurd records
   one_answered ticket ids (Spent worker from to) (Impossible own) listed is records = absurd records
@@ -86,19 +94,22 @@ module _ {Subject Shown : Type 0} (question : QuestionForm Subject Shown) (lists
       → question.given window subject ask.events ≡ given
       → AnswerEach (question.problem window) budget workers ticket (query_for question window subject ask given ++ more) answers
       → RecordsAsk question window subject ask.events given answers own
-      → IsAnswerTo question window (unshared budget workers) subject ticket ask.events given own
+      → IsAnswerTo question window (known_of question window budget workers) subject ticket ask.events given own
       × AnswerEach (question.problem window) budget workers (ticket + tickets_of given) more (left_after given answers)
   ask_answered ticket ask None more [] own listed is each records = absurd records
   ask_answered ticket ask None more (answer ∷ answers) own listed is each records = (one_answered ticket ask.events answer own listed each.0 records, each.1)
   ask_answered ticket ask (Some given) more answers own listed is each records = (
-    (records, subst (Holds question window subject ask.events []) (sym records) ((can.lawful.ask window subject ask.events listed).given given is)),
+    (
+      records,
+      subst (Holds question window subject ask.events (question.shared window)) (sym records) ((can.lawful.ask window subject ask.events listed).given can.formed can.fits given is),
+    ),
     subst (λ n. AnswerEach (question.problem window) budget workers n more answers) (sym (add-zero ticket)) each,
   )
 
   each_answered : (ticket : ℕ) (asks : List Instance) (more : List Query) (answers : List WorkAnswer) (entries : List (EntryOf Shown)) (left : List WorkAnswer) → AllByRecursion (λ (ask : Instance). lists window subject ask.events) asks
       → AnswerEach (question.problem window) budget workers ticket (queries_each question window subject asks ++ more) answers
       → RecordsEach question window subject (map (asked_of question window subject) asks) answers entries left
-      → AnswersEach question window (unshared budget workers) subject ticket asks entries
+      → AnswersEach question window (known_of question window budget workers) subject ticket asks entries
       × AnswerEach (question.problem window) budget workers (ticket + tickets_in question window subject asks) more left
   each_answered ticket [] more answers [] left listed each records = (
     tt,
@@ -121,7 +132,7 @@ module _ {Subject Shown : Type 0} (question : QuestionForm Subject Shown) (lists
       → ListsEach (lists window subject) asks
       → AnswerEach (question.problem window) budget workers ticket (queries_of question window subject asks ++ more) answers
       → RecordsListed question window subject (listed_of question window subject asks) answers own left
-      → AnswersListed question window (unshared budget workers) subject ticket asks own
+      → AnswersListed question window (known_of question window budget workers) subject ticket asks own
       × AnswerEach (question.problem window) budget workers (ticket + tickets_listed question window subject asks) more left
   listed_answered ticket (Ok asks) more answers (body.Entries entries) left listed each records = each_answered ticket asks more answers entries left listed.1 each records
   listed_answered ticket (Ok asks) more answers body.TooMany left listed each records = absurd records

@@ -1,11 +1,11 @@
 -- What answers a window can be written: it has few entries, small numbers and no other workers than there are.
-use Rattle.std.proofs.Common.{◌≡◌, refl, sym, subst, ap, ℕ, zero, suc, ◌+◌, ◌-◌, ◌^◌, ◌<◌, ◌≤◌, List, [], ◌∷◌, ◌++◌, length, Option, Some, None, Result, Ok, Err, All, IsSomeAnd, slice_get, arith}
+use Rattle.std.proofs.Common.{◌≡◌, ◌∙◌, refl, sym, subst, ap, ℕ, zero, suc, ◌+◌, ◌-◌, ◌^◌, ◌<◌, ◌≤◌, List, [], ◌∷◌, ◌++◌, length, Option, Some, None, Result, Ok, Err, All, IsSomeAnd, slice_get, arith}
 use Rattle.std.specs.List.{AllByRecursion}
 use Rattle.std.proofs.lemmas.List.{length-append}
 use Rattle.std.proofs.lemmas.List.Elements.{All-cons, All-nil, All-weaker}
 use Rattle.gp_certificate.specs.declared.certificate.Certificate.{Certificate}
 use Rattle.gp_certificate.specs.declared.step.Step.{Step}
-use Rattle.gp_certificate.specs.Certificate.{StepsCheck}
+use Rattle.gp_certificate.specs.Certificate.{StepsPass, clauses_of}
 use Rattle.gp_clause.specs.declared.edge.Edge.{Edge}
 use Rattle.gp_clause.specs.declared.kind.Kind.{Kind}
 use Rattle.gp_clause.specs.declared.lit.Lit.{Lit}
@@ -22,8 +22,10 @@ use Rattle.gp_report.specs.declared.record.EntryOf.{EntryOf}
 use Rattle.gp_report.specs.declared.record.PropertyBodyOf.{PropertyBodyOf}
 use Rattle.gp_report.specs.declared.record.PropertyBodyOf.TheVariants as body
 use Rattle.gp_report.specs.declared.record.PropertyRecordOf.{PropertyRecordOf}
+use Rattle.gp_report.specs.declared.record.WindowBodyOf.{WindowBodyOf}
 use Rattle.gp_report.specs.declared.record.WindowBodyOf.TheVariants as recorded
-use Rattle.gp_report.specs.Report.{IsEntry, IsPropertyBody, IsPropertyRecord, IsPrintableAnswer, IsPrintableStep}
+use Rattle.gp_report.specs.declared.record.WindowRecordOf.{WindowRecordOf}
+use Rattle.gp_report.specs.Report.{IsEntry, IsPropertyBody, IsPropertyRecord, IsPrintableAnswer, IsWindowBody, IsPrintableStep}
 use Rattle.gp_window.specs.declared.schedule.EventId.{EventId}
 use Rattle.gp_window.specs.WindowForm.{WindowForm}
 use Rattle.gp_workers.specs.declared.work.WindowWork.{WindowWork}
@@ -31,21 +33,23 @@ use Rattle.gp_workers.specs.Record.{EachOnce}
 use Rattle.gp_workers.specs.Prefixes.{AreSharing}
 use Rattle.gp_workers.specs.Work.{IsWork}
 use Rattle.gp_clause.specs.declared.problem.Problem.{Problem}
-use Rattle.gp_analysis.specs.declared.question.TooLarge.{TooLarge}
-use Rattle.gp_analysis.specs.Answered.{AnswersBody, AnswersEach, AnswersListed, AnswersSubjects, AreWorkers, IsAnswerTo}
+use Rattle.gp_analysis.specs.declared.question.LeftOut.{LeftOut}
+use Rattle.gp_analysis.specs.declared.question.LeftOut.TheVariants as out
+use Rattle.gp_analysis.specs.Answered.{AnswersBody, AnswersEach, AnswersListed, AnswersSubjects, AreWorkers, IsAnswerTo, RecordsLeftOut}
 use Rattle.gp_analysis.specs.Listed.{queries_from}
 use Rattle.gp_analysis.specs.Question.{IsRefuted, ListsAsks, QuestionForm}
-use Rattle.gp_analysis.specs.Recorded.{RecordsWindow}
+use Rattle.gp_analysis.specs.Recorded.{RecordsWindow, shared_where}
 use Rattle.gp_analysis.specs.Tickets.{subjects_tickets, tickets_listed, tickets_of}
 use Rattle.gp_analysis.proofs.Answering.{queries_count}
-use Rattle.gp_analysis.proofs.Evidence.{CanAnswer, unshared}
+use Rattle.gp_analysis.proofs.Evidence.{CanAnswer, known_of}
 
-small_steps : (edges : List Edge) (kinds : List Kind) (earlier : List (List Lit)) (steps : List Step) → length kinds < 2 ^ 31 - 1 → StepsCheck edges kinds earlier steps → All IsPrintableStep steps
-small_steps edges kinds earlier [] few checks = All-nil IsPrintableStep
-small_steps edges kinds earlier (step ∷ steps) few checks =
+small_steps : (edges : List Edge) (kinds : List Kind) (numbered unnamed : List (List Lit) → List (List Lit)) (earlier : List (List Lit)) (steps : List Step) → length kinds < 2 ^ 31 - 1
+    → StepsPass edges kinds numbered unnamed earlier steps → All IsPrintableStep steps
+small_steps edges kinds numbered unnamed earlier [] few checks = All-nil IsPrintableStep
+small_steps edges kinds numbered unnamed earlier (step ∷ steps) few checks =
     All-cons IsPrintableStep step steps
     (All-weaker (λ (lit : Lit). lit.variable < length kinds) (λ (lit : Lit). lit.variable < 2 ^ 31 - 1) (λ lit below. omega (arith, below, few)) step.clause checks.0.passes.in_range)
-    (small_steps edges kinds (earlier ++ step.clause ∷ []) steps few checks.1)
+    (small_steps edges kinds numbered unnamed (earlier ++ step.clause ∷ []) steps few checks.1)
 
 within : (P : WorkerRecord → Type 0) (workers : List WorkerRecord) (place : ℕ) → IsSomeAnd (slice_get workers place) P → place < length workers
 within P [] place own = absurd own
@@ -64,15 +68,23 @@ module _ {Subject Shown : Type 0} (question : QuestionForm Subject Shown) (lists
       let problem = (can.lawful.problem window can.fits).valid in
       omega (arith, both, problem.few_kinds, valid.few_locals)
 
-  fit_refuted : (subject : Subject) (ids : List EventId) (certificate : Certificate) → lists window subject ids → IsRefuted question window subject ids [] certificate → All IsPrintableStep certificate.steps
+  fit_refuted : (subject : Subject) (ids : List EventId) (certificate : Certificate) → lists window subject ids → IsRefuted question window subject ids (question.shared window) certificate → All IsPrintableStep certificate.steps
   fit_refuted subject ids certificate listed is =
       let query = question.query window subject ids in
-      let refutes = (can.alone.refutes (question.problem window) query certificate).0 is.refutes in
-      small_steps (question.problem window).edges ((question.problem window).kinds ++ query.locals) (question.problem window).clauses certificate.steps
-      (few_variables query ((can.lawful.ask window subject ids listed).query can.fits)) refutes.checks
+      let base = (question.problem window).clauses in
+      small_steps (question.problem window).edges ((question.problem window).kinds ++ query.locals) (λ own. base ++ clauses_of (question.shared window) ++ own) (λ own. base ++ own) [] certificate.steps
+      (few_variables query ((can.lawful.ask window subject ids listed).query can.fits)) is.refutes.checks.own
+
+  -- the steps that are shared can be written
+  fit_shared : All IsPrintableStep (question.shared window)
+  fit_shared =
+      let problem = can.lawful.problem window can.fits in
+      let few_kinds = problem.valid.few_kinds in
+      small_steps (question.problem window).edges (question.problem window).kinds (λ clauses. clauses) (λ clauses. clauses) (question.problem window).clauses (question.shared window)
+      (omega (arith, few_kinds)) problem.shares
 
   fit_answer : (ticket : ℕ) (subject : Subject) (ids : List EventId) (given : Option (AnswerOf Shown)) (answer : AnswerOf Shown) → lists window subject ids
-      → IsAnswerTo question window (unshared budget workers) subject ticket ids given answer → IsPrintableAnswer answer
+      → IsAnswerTo question window (known_of question window budget workers) subject ticket ids given answer → IsPrintableAnswer answer
   fit_answer ticket subject ids None (Found shown) listed is = tt
   fit_answer ticket subject ids None (Impossible certificate) listed is = fit_refuted subject ids certificate listed is
   fit_answer ticket subject ids None (Undecided worker from to) listed is =
@@ -83,7 +95,7 @@ module _ {Subject Shown : Type 0} (question : QuestionForm Subject Shown) (lists
   fit_answer ticket subject ids (Some given) (Undecided worker from to) listed is = absurd is.1
 
   fit_entries : (ticket : ℕ) (subject : Subject) (asks : List Instance) (entries : List (EntryOf Shown)) → AllByRecursion (λ (ask : Instance). lists window subject ask.events) asks
-      → AnswersEach question window (unshared budget workers) subject ticket asks entries → AreFit asks entries
+      → AnswersEach question window (known_of question window budget workers) subject ticket asks entries → AreFit asks entries
   fit_entries ticket subject [] [] listed each = record { size = refl; each = All-nil IsEntry }
   fit_entries ticket subject [] (entry ∷ entries) listed each = absurd each
   fit_entries ticket subject (ask ∷ asks) [] listed each = absurd each
@@ -102,7 +114,7 @@ module _ {Subject Shown : Type 0} (question : QuestionForm Subject Shown) (lists
       }
 
   fit_body : (ticket : ℕ) (subject : Subject) (asks : Result (List Instance) InstancesFault) (own : PropertyBodyOf Shown) → ListsEach (lists window subject) asks
-      → AnswersListed question window (unshared budget workers) subject ticket asks own → IsPropertyBody own
+      → AnswersListed question window (known_of question window budget workers) subject ticket asks own → IsPropertyBody own
   fit_body ticket subject (Ok asks) (body.Entries entries) listed answers =
       let fit = fit_entries ticket subject asks entries listed.1 answers in
       (omega (arith, fit.size, listed.0), fit.each)
@@ -113,7 +125,7 @@ module _ {Subject Shown : Type 0} (question : QuestionForm Subject Shown) (lists
 
   -- the records of the subjects can be written
   fit_records : (number ticket : ℕ) (subjects : List Subject) (records : List (PropertyRecordOf Shown)) → AllByRecursion (ListsAsks question lists) subjects
-      → AnswersSubjects question window (unshared budget workers) number ticket subjects records → All IsPropertyRecord records
+      → AnswersSubjects question window (known_of question window budget workers) number ticket subjects records → All IsPropertyRecord records
   fit_records number ticket [] [] each answers = All-nil IsPropertyRecord
   fit_records number ticket [] (own ∷ records) each answers = absurd answers
   fit_records number ticket (subject ∷ subjects) [] each answers = absurd answers
@@ -122,14 +134,14 @@ module _ {Subject Shown : Type 0} (question : QuestionForm Subject Shown) (lists
       (fit_body ticket subject (question.asks window subject number) own.body (each.0 window number) answers.1)
       (fit_records (number + 1) (ticket + tickets_listed question window subject (question.asks window subject number)) subjects records each.1 answers.2)
 
--- what is recorded of a window that is not too large, once all its subjects are answered
+-- what is recorded of a window that is not left out, once all its subjects are answered
 pub is_recorded : {Subject Shown : Type 0} (question : QuestionForm Subject Shown) (lists : WindowForm → Subject → List EventId → Type 0) (window : WindowForm) → CanAnswer question lists window
     → (count budget number : ℕ) → count ≤ 16 → (problem : Problem) (queries : List Query) (work : WindowWork) (shared : List Step) (records : List (PropertyRecordOf Shown))
-    → number ≡ window.number → problem ≡ question.problem window → queries ≡ queries_from question window 0 question.subjects → IsWork problem queries count budget work → (2 ≤ count → AreSharing problem count work.records) → shared ≡ []
-    → AnswersSubjects question window (unshared budget work.records) 0 0 question.subjects records
+    → number ≡ window.number → problem ≡ question.problem window → queries ≡ queries_from question window 0 question.subjects → IsWork problem queries count budget work → (2 ≤ count → AreSharing problem count work.records) → shared ≡ question.shared window
+    → AnswersSubjects question window (known_of question window budget work.records) 0 0 question.subjects records
     → RecordsWindow question count budget window (record { number = number; shared = shared; body = recorded.Answers records; records = work.records })
-is_recorded {Subject} {Shown} question lists window can count budget number most problem queries work shared records at same are is sharing none answers =
-    subst (λ (steps : List Step). RecordsWindow question count budget window (record { number = number; shared = steps; body = recorded.Answers records; records = work.records })) (sym none) done
+is_recorded {Subject} {Shown} question lists window can count budget number most problem queries work shared records at same are is sharing told answers =
+    subst (λ (steps : List Step). RecordsWindow question count budget window (record { number = number; shared = steps; body = recorded.Answers records; records = work.records })) (sym told) done
   where
     asked : IsWork (question.problem window) (queries_from question window 0 question.subjects) count budget work
     asked = subst (λ qs. IsWork (question.problem window) qs count budget work) are (subst (λ (p : Problem). IsWork p queries count budget work) same is)
@@ -142,28 +154,35 @@ is_recorded {Subject} {Shown} question lists window can count budget number most
       shared = λ two. subst (λ (p : Problem). AreSharing p count work.records) same (sharing two);
     }
 
-    done : RecordsWindow question count budget window (record { number = number; shared = []; body = recorded.Answers records; records = work.records })
+    done : RecordsWindow question count budget window (record { number = number; shared = question.shared window; body = recorded.Answers records; records = work.records })
     done = record {
       number = at;
-      answered = subst (λ large. AnswersBody question window count (unshared budget work.records) large (recorded.Answers records)) (sym can.fits) (tt, answers, own);
+      shared = sym (ap (λ left. shared_where left (question.shared window)) can.fits);
+      answered = subst (λ left. AnswersBody question window count (known_of question window budget work.records) left (recorded.Answers records)) (sym can.fits)
+          ((can.lawful.problem window can.fits).shares, answers, own);
       fits = record {
-        shared = All-nil IsPrintableStep;
-        first_format = λ one. refl;
+        shared = fit_shared question lists window can budget work.records (omega (arith, asked.workers, most));
+        first_format = λ one. absurd (omega (arith, one));
         body = fit_records question lists window can budget work.records (omega (arith, asked.workers, most)) 0 0 question.subjects records can.lawful.listed answers;
       };
     }
 
--- what is recorded of a window that is too large
-pub is_too_large : {Subject Shown : Type 0} (question : QuestionForm Subject Shown) (window : WindowForm) (count budget number : ℕ) (large : TooLarge) (shared : List Step) (workers : List WorkerRecord)
-    → number ≡ window.number → question.too_large window ≡ Some large → shared ≡ [] → workers ≡ []
-    → RecordsWindow question count budget window (record { number = number; shared = shared; body = recorded.TooLarge large.events large.clauses; records = workers })
-is_too_large {Subject} {Shown} question window count budget number large shared workers at is none idle =
-    subst (λ (steps : List Step). RecordsWindow question count budget window (record { number = number; shared = steps; body = recorded.TooLarge large.events large.clauses; records = workers })) (sym none)
-    (subst (λ (others : List WorkerRecord). RecordsWindow question count budget window (record { number = number; shared = []; body = recorded.TooLarge large.events large.clauses; records = others })) (sym idle) done)
-  where
-    done : RecordsWindow question count budget window (record { number = number; shared = []; body = recorded.TooLarge large.events large.clauses; records = [] })
-    done = record {
-      number = at;
-      answered = subst (λ due. AnswersBody question window count (unshared budget []) due (recorded.TooLarge large.events large.clauses)) (sym is) (refl, refl, refl);
-      fits = record { shared = All-nil IsPrintableStep; first_format = λ one. refl; body = refl };
-    }
+left_fits : {Shown : Type 0} (why : LeftOut) (body : WindowBodyOf Shown) → RecordsLeftOut why body → IsWindowBody [] body
+left_fits (out.TooLarge large) (recorded.TooLarge events clauses) is = refl
+left_fits (out.TooLarge large) (recorded.Answers records) is = absurd is
+left_fits out.Unasked (recorded.TooLarge events clauses) is = absurd is
+left_fits out.Unasked (recorded.Answers records) is = subst (All IsPropertyRecord) (sym is) (All-nil IsPropertyRecord)
+
+-- what is recorded of a window that is left out
+pub is_left_out : {Subject Shown : Type 0} (question : QuestionForm Subject Shown) (window : WindowForm) (count budget : ℕ) (why : LeftOut) (own : WindowRecordOf Shown) → question.left_out window ≡ Some why
+    → own.number ≡ window.number → own.shared ≡ [] → RecordsLeftOut why own.body → own.records ≡ [] → RecordsWindow question count budget window own
+is_left_out question window count budget why own is at none body idle = record {
+  number = at;
+  shared = none ∙ sym (ap (λ left. shared_where left (question.shared window)) is);
+  answered = subst (λ left. AnswersBody question window count (record { budget = budget; shared = own.shared; workers = own.records }) left own.body) (sym is) (body, idle);
+  fits = record {
+    shared = subst (All IsPrintableStep) (sym none) (All-nil IsPrintableStep);
+    first_format = λ one. none;
+    body = subst (λ (steps : List Step). IsWindowBody steps own.body) (sym none) (left_fits why own.body body);
+  };
+}

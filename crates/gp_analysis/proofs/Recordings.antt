@@ -1,12 +1,25 @@
 -- How far the asks of a subject are recorded.
-use Rattle.std.proofs.Common.{◌≡◌, ◌∙◌, sym, subst, ap, refl, List, [], ◌∷◌, ◌++◌, append-nil, append_assoc}
+use Rattle.std.proofs.Common.{◌≡◌, ◌∙◌, sym, subst, ap, refl, ℕ, length, List, [], ◌∷◌, ◌++◌, append-nil, append_assoc}
+use Rattle.gp_certificate.specs.declared.certificate.Certificate.{Certificate}
+use Rattle.gp_clause.specs.declared.problem.Problem.{Problem}
+use Rattle.gp_raise.specs.Raised.{raised}
+use Rattle.gp_report.specs.declared.record.AnswerOf.TheVariants.{Impossible}
 use Rattle.gp_report.specs.declared.record.EntryOf.{EntryOf}
 use Rattle.gp_window.specs.declared.schedule.EventId.{EventId}
 use Rattle.gp_window.specs.WindowForm.{WindowForm}
 use Rattle.gp_workers.specs.declared.work.WorkAnswer.{WorkAnswer}
+use Rattle.gp_workers.specs.declared.work.WorkAnswer.TheVariants.{Refuted}
 use Rattle.gp_analysis.specs.declared.listing.Asked.{Asked}
 use Rattle.gp_analysis.specs.Question.{QuestionForm}
-use Rattle.gp_analysis.specs.Recording.{CanRecordAsk, CanRecordEach, RecordsAsk, RecordsEach, left_after}
+use Rattle.gp_analysis.specs.Recording.{CanRecordAsk, CanRecordEach, RecordsAnswer, RecordsAsk, RecordsEach, left_after}
+
+-- a certificate that is told over the steps that are shared records the answer that it is
+pub told_over : {Subject Shown : Type 0} (question : QuestionForm Subject Shown) (window : WindowForm) (subject : Subject) (ids : List EventId) (answer : WorkAnswer) (certificate own : Certificate) (problem : Problem) (clauses gained : ℕ)
+    → answer ≡ Refuted certificate → problem ≡ question.problem window → clauses ≡ length problem.clauses → gained ≡ length (question.shared window) → own ≡ raised clauses gained certificate
+    → RecordsAnswer question window subject ids answer (Impossible own)
+told_over question window subject ids answer certificate own problem clauses gained is same size more told =
+    let sizes : clauses ≡ length (question.problem window).clauses = size ∙ ap (λ (p : Problem). length p.clauses) same in
+    subst (λ (a : WorkAnswer). RecordsAnswer question window subject ids a (Impossible own)) (sym is) (told ∙ (λ i. raised (sizes i) (more i) certificate))
 
 module _ {Subject Shown : Type 0} (question : QuestionForm Subject Shown) (lists : WindowForm → Subject → List EventId → Type 0) (window : WindowForm) (subject : Subject) where
   -- some entries are made, and with those that record the rest by the answers that are left they record all

@@ -24,7 +24,8 @@ use Rattle.gp_window.specs.Windows.{all_windows}
 use Rattle.gp_workers.specs.Prefixes.{AreSharing}
 use Rattle.gp_workers.specs.Record.{EachOnce, IsWorkerRecord}
 use Rattle.gp_workers.specs.Work.{IsSpentBy}
-use Rattle.gp_analysis.specs.declared.question.TooLarge.{TooLarge}
+use Rattle.gp_analysis.specs.declared.question.LeftOut.{LeftOut}
+use Rattle.gp_analysis.specs.declared.question.LeftOut.TheVariants as out
 use Rattle.gp_analysis.specs.Question.{Holds, IsRefuted, QuestionForm}
 use Rattle.gp_analysis.specs.Tickets.{subjects_tickets, tickets_listed, tickets_of}
 
@@ -41,6 +42,12 @@ pub record AreWorkers (problem : Problem) (count tickets : ℕ) (workers : List 
   pub each : All (IsWorkerRecord problem) workers
   pub once : EachOnce tickets workers
   pub shared : 2 ≤ count → AreSharing problem count workers
+
+-- what is recorded of a window that is left out: where it is too large its two numbers, and where it is not asked no subject
+abbrev pub RecordsLeftOut : {Shown : Type 0} → LeftOut → WindowBodyOf Shown → Type 0
+RecordsLeftOut (out.TooLarge large) (recorded.TooLarge events clauses) = (events ≡ large.events) × (clauses ≡ large.clauses)
+RecordsLeftOut out.Unasked (recorded.Answers records) = records ≡ []
+RecordsLeftOut _ _ = ⊥
 
 module _ {Subject Shown : Type 0} (question : QuestionForm Subject Shown) where
   -- what an answer says of the ask with a ticket; undecided: this worker's turn with the ticket is spent on these entries
@@ -77,20 +84,19 @@ module _ {Subject Shown : Type 0} (question : QuestionForm Subject Shown) where
       × AnswersSubjects window evidence (number + 1) (ticket + tickets_listed question window subject (question.asks window subject number)) subjects more
   AnswersSubjects window evidence number ticket _ _ = ⊥
 
-  -- what is recorded of a window: one that is too large is recorded with its two numbers, and has no workers; of any other
-  -- the shared steps pass, each subject has its record, and the workers did what they are recorded with
-  abbrev pub AnswersBody : WindowForm → ℕ → Evidence → Option TooLarge → WindowBodyOf Shown → Type 0
-  AnswersBody window count evidence (Some large) (recorded.TooLarge events clauses) =
-      (events ≡ large.events) × (clauses ≡ large.clauses) × (evidence.workers ≡ [])
+  -- what is recorded of a window: one that is left out is recorded as such, and has no workers; of any other the shared steps
+  -- pass, each subject has its record, and the workers did what they are recorded with
+  abbrev pub AnswersBody : WindowForm → ℕ → Evidence → Option LeftOut → WindowBodyOf Shown → Type 0
+  AnswersBody window count evidence (Some why) body = RecordsLeftOut why body × (evidence.workers ≡ [])
   AnswersBody window count evidence None (recorded.Answers records) =
       SharedPasses (question.problem window) evidence.shared × AnswersSubjects window evidence 0 0 question.subjects records
       × AreWorkers (question.problem window) count (subjects_tickets question window 0 question.subjects) evidence.workers
-  AnswersBody window count evidence _ _ = ⊥
+  AnswersBody window count evidence None (recorded.TooLarge events clauses) = ⊥
 
   -- a window's record answers it, for so many workers and this budget
   abbrev pub AnswersWindow : ℕ → ℕ → WindowForm → WindowRecordOf Shown → Type 0
   AnswersWindow count budget window own =
-      AnswersBody window count (record { budget = budget; shared = own.shared; workers = own.records }) (question.too_large window) own.body
+      AnswersBody window count (record { budget = budget; shared = own.shared; workers = own.records }) (question.left_out window) own.body
 
   -- records answer a recording, window by window, for so many workers and this budget
   abbrev pub IsAnswered : RecordingForm → ℕ → ℕ → List (WindowRecordOf Shown) → Type 0

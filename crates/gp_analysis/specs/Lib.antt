@@ -5,5 +5,6 @@ pub mod Runs
 pub mod Listed
 pub mod Recording
 pub mod Recorded
+pub mod RecordedLaws
 pub mod Drawn
 pub mod Task

@@ -1,9 +1,9 @@
 -- A question that is asked of each window of a recording.
-use Rattle.std.specs.Prelude.{ℕ, ℤ, Bool, ◌≡◌, ◌≤◌, ◌++◌, List, [], Option, Some, None, Result, All, length}
+use Rattle.std.specs.Prelude.{ℕ, ℤ, Bool, ◌≡◌, ◌≤◌, ◌++◌, List, Option, Some, None, Result, All, length}
 use Rattle.std.specs.List.{AllByRecursion}
 use Rattle.gp_certificate.specs.declared.certificate.Certificate.{Certificate}
 use Rattle.gp_certificate.specs.declared.step.Step.{Step}
-use Rattle.gp_certificate.specs.Shared.{RefutesOver}
+use Rattle.gp_certificate.specs.Shared.{RefutesOver, SharedPasses}
 use Rattle.gp_clause.specs.declared.problem.Problem.{Problem}
 use Rattle.gp_clause.specs.declared.problem.Query.{Query}
 use Rattle.gp_clause.specs.Clause.{HoldsAll}
@@ -18,15 +18,17 @@ use Rattle.gp_report.specs.declared.record.AnswerOf.{AnswerOf}
 use Rattle.gp_report.specs.declared.record.AnswerOf.TheVariants.{Found, Impossible, Undecided}
 use Rattle.gp_window.specs.declared.schedule.EventId.{EventId}
 use Rattle.gp_window.specs.WindowForm.{IsWindow, WindowForm}
-use Rattle.gp_analysis.specs.declared.question.TooLarge.{TooLarge}
+use Rattle.gp_analysis.specs.declared.question.LeftOut.{LeftOut}
 
--- what is asked of a window: the subjects and their names; whether the window is too large, else its problem; the asks of a
--- subject with its number; of the events of an ask its query, the answer that it has already, and what shows it
+-- what is asked of a window: the subjects and their names; why the window is left out, or its problem and the steps that its
+-- certificates share from the start; the asks of a subject with its number; of the events of an ask its query, the answer that
+-- it has already, and what shows it
 pub record QuestionForm (Subject Shown : Type 0) : Type 1 where
   pub subjects : List Subject
   pub name : Subject → List ℕ
-  pub too_large : WindowForm → Option TooLarge
+  pub left_out : WindowForm → Option LeftOut
   pub problem : WindowForm → Problem
+  pub shared : WindowForm → List Step
   pub asks : WindowForm → Subject → ℕ → Result (List Instance) InstancesFault
   pub query : WindowForm → Subject → List EventId → Query
   pub given : WindowForm → Subject → List EventId → Option (AnswerOf Shown)
@@ -53,26 +55,29 @@ HasNoValuation problem query =
 abbrev pub ListsAsks : {Subject Shown : Type 0} → QuestionForm Subject Shown → (WindowForm → Subject → List EventId → Type 0) → Subject → Type 0
 ListsAsks question lists subject = (window : WindowForm) (number : ℕ) → ListsEach (lists window subject) (question.asks window subject number)
 
--- an ask has one to six events, and where its window is not too large, a valid query
+-- an ask has one to six events; and where its window is not left out, its query is valid, nothing shows it where the query has
+-- no valuation, and an answer that it has already holds
 pub record IsAsk {Subject Shown : Type 0} (question : QuestionForm Subject Shown) (window : WindowForm) (subject : Subject) (ids : List EventId) : Type 0 where
   pub some : 1 ≤ length ids
   pub few : length ids ≤ 6
-  pub query : question.too_large window ≡ None → IsValidQuery (question.problem window) (question.query window subject ids)
-  pub complete : IsWindow window → HasNoValuation (question.problem window) (question.query window subject ids)
+  pub query : question.left_out window ≡ None → IsValidQuery (question.problem window) (question.query window subject ids)
+  pub complete : IsWindow window → question.left_out window ≡ None → HasNoValuation (question.problem window) (question.query window subject ids)
       → (shown : Shown) → question.shows window subject ids shown → ⊥
-  pub given : (answer : AnswerOf Shown) → question.given window subject ids ≡ Some answer → Holds question window subject ids [] answer
+  pub given : IsWindow window → question.left_out window ≡ None → (answer : AnswerOf Shown) → question.given window subject ids ≡ Some answer
+      → Holds question window subject ids (question.shared window) answer
 
--- the problem of a window that is not too large
+-- the problem of a window that is not left out, and the steps that its certificates share
 pub record IsAnswerable {Subject Shown : Type 0} (question : QuestionForm Subject Shown) (window : WindowForm) : Type 0 where
   pub valid : IsValidProblem (question.problem window)
   pub solvable : IsSolvable (question.problem window).edges
   pub few_clauses : length (question.problem window).clauses ≤ 500000
+  pub shares : SharedPasses (question.problem window) (question.shared window)
 
 -- what the answers rest on: there are few subjects; what is listed of each are asks, which have one to six events, and valid
 -- queries; a query without a valuation means that nothing shows its ask; an answer that is given holds; and the problem of a
--- window that is not too large is valid, its edges can be kept, and its clauses are few
+-- window that is not left out is valid, its edges can be kept, its clauses are few, and the steps that are shared pass
 pub record IsLawful {Subject Shown : Type 0} (question : QuestionForm Subject Shown) (lists : WindowForm → Subject → List EventId → Type 0) : Type 0 where
   pub few : length question.subjects ≤ 64
   pub listed : AllByRecursion (ListsAsks question lists) question.subjects
   pub ask : (window : WindowForm) (subject : Subject) (ids : List EventId) → lists window subject ids → IsAsk question window subject ids
-  pub problem : (window : WindowForm) → question.too_large window ≡ None → IsAnswerable question window
+  pub problem : (window : WindowForm) → question.left_out window ≡ None → IsAnswerable question window

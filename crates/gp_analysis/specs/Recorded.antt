@@ -1,13 +1,20 @@
 -- What is recorded of the windows of a recording.
-use Rattle.std.specs.Prelude.{ℕ, ◌≡◌, ◌*◌, ◌≤◌, List}
+use Rattle.std.specs.Prelude.{ℕ, ◌≡◌, ◌*◌, ◌≤◌, List, [], Option, None, Some}
 use Rattle.std.specs.List.{AllZip}
+use Rattle.gp_certificate.specs.declared.step.Step.{Step}
 use Rattle.gp_report.specs.declared.record.WindowRecordOf.{WindowRecordOf}
 use Rattle.gp_report.specs.Report.{IsWindowRecord}
 use Rattle.gp_window.specs.RecordingForm.{RecordingForm}
 use Rattle.gp_window.specs.WindowForm.{WindowForm}
+use Rattle.gp_analysis.specs.declared.question.LeftOut.{LeftOut}
 use Rattle.gp_analysis.specs.Answered.{AnswersWindow}
 use Rattle.gp_analysis.specs.Question.{QuestionForm}
 use Rattle.gp_analysis.specs.Tickets.{asked_total, window_asked}
+
+-- the steps that are shared in a window that is left out, or is not: none where it is
+abbrev pub shared_where : Option LeftOut → List Step → List Step
+shared_where None shared = shared
+shared_where (Some why) shared = []
 
 module _ {Subject Shown : Type 0} (question : QuestionForm Subject Shown) where
   -- what can be asked of so many workers: some, a budget, and not too much work in all windows
@@ -21,11 +28,12 @@ module _ {Subject Shown : Type 0} (question : QuestionForm Subject Shown) where
     pub least : 1 ≤ budget
     pub limit : window_asked question window * budget ≤ 1000000
 
-  -- a record is of a window: it has its number, answers it, and can be written
+  -- a record is of a window: it has its number and the steps that are shared from the start, answers it, and can be written
   pub record RecordsWindow (count budget : ℕ) (window : WindowForm) (own : WindowRecordOf Shown) : Type 0 where
     pub number : own.number ≡ window.number
+    pub shared : own.shared ≡ shared_where (question.left_out window) (question.shared window)
     pub answered : AnswersWindow question count budget window own
-    pub fits : IsWindowRecord 1 own
+    pub fits : IsWindowRecord 2 own
 
   -- records are of windows, one by one and in order
   abbrev pub RecordEach : ℕ → ℕ → List WindowForm → List (WindowRecordOf Shown) → Type 0

@@ -1,8 +1,9 @@
 -- How the answers of a window's workers are recorded, one after another.
-use Rattle.std.specs.Prelude.{◌≡◌, List, [], ◌∷◌, Option, Some, None}
+use Rattle.std.specs.Prelude.{◌≡◌, List, [], ◌∷◌, Option, Some, None, length}
 use Rattle.gp_clause.specs.declared.problem.Problem.{Problem}
 use Rattle.gp_clause.specs.declared.problem.Query.{Query}
 use Rattle.gp_clause.specs.Valuation.{Meets}
+use Rattle.gp_raise.specs.Raised.{raised}
 use Rattle.gp_report.specs.declared.record.AnswerOf.{AnswerOf}
 use Rattle.gp_report.specs.declared.record.AnswerOf.TheVariants.{Found, Impossible, Undecided}
 use Rattle.gp_report.specs.declared.record.EntryOf.{EntryOf}
@@ -47,10 +48,12 @@ module _ {Subject Shown : Type 0} (question : QuestionForm Subject Shown) (lists
   CanRecord window subject (Some asked) answers = CanRecordEach window subject asked answers
 
 module _ {Subject Shown : Type 0} (question : QuestionForm Subject Shown) where
-  -- how an answer is recorded of an ask: a valuation as what it shows, all else as it is
+  -- how an answer is recorded of an ask: a valuation as what it shows, a certificate told over the steps that are shared, and a
+  -- spent budget as it is
   abbrev pub RecordsAnswer : WindowForm → Subject → List EventId → WorkAnswer → AnswerOf Shown → Type 0
   RecordsAnswer window subject ids (Model valuation) (Found shown) = question.shows window subject ids shown
-  RecordsAnswer window subject ids (Refuted certificate) (Impossible own) = own ≡ certificate
+  RecordsAnswer window subject ids (Refuted certificate) (Impossible own) =
+      own ≡ raised (length (question.problem window).clauses) (length (question.shared window)) certificate
   RecordsAnswer window subject ids (Spent worker from to) (Undecided by begins ends) = (by ≡ worker) × (begins ≡ from) × (ends ≡ to)
   RecordsAnswer window subject ids _ _ = ⊥
 

@@ -7,7 +7,7 @@ use Rattle.gp_window.specs.RecordingForm.{RecordingForm}
 use Rattle.gp_window.specs.WindowForm.{WindowForm, numbers_from, window_of}
 use Rattle.gp_analysis.specs.declared.counting.Counted.{Counted}
 use Rattle.gp_analysis.specs.declared.counting.Counted.TheVariants.{Listed, Asked}
-use Rattle.gp_analysis.specs.declared.question.TooLarge.{TooLarge}
+use Rattle.gp_analysis.specs.declared.question.LeftOut.{LeftOut}
 use Rattle.gp_analysis.specs.Question.{QuestionForm}
 
 -- how many asks are listed of a subject; of one that has too many, none
@@ -15,10 +15,10 @@ abbrev pub listed_count : Result (List Instance) InstancesFault → ℕ
 listed_count (Ok asks) = length asks
 listed_count (Err fault) = 0
 
--- how many of so many asks have a ticket in a window that is too large, or is not: none where it is
-abbrev pub asked_of : Option TooLarge → ℕ → ℕ
+-- how many of so many asks have a ticket in a window that is left out, or is not: none where it is
+abbrev pub asked_of : Option LeftOut → ℕ → ℕ
 asked_of None count = count
-asked_of (Some large) count = 0
+asked_of (Some why) count = 0
 
 -- an ask that has an answer already has no ticket
 abbrev pub tickets_of : {Shown : Type 0} → Option (AnswerOf Shown) → ℕ
@@ -50,7 +50,7 @@ module _ {Subject Shown : Type 0} (question : QuestionForm Subject Shown) where
 
   -- how many asks have a ticket in a window
   abbrev pub window_asked : WindowForm → ℕ
-  window_asked window = asked_of (question.too_large window) (subjects_tickets window 0 question.subjects)
+  window_asked window = asked_of (question.left_out window) (subjects_tickets window 0 question.subjects)
 
   -- how many asks have a ticket in window k
   abbrev pub asked_in : RecordingForm → ℕ → ℕ

@@ -20,7 +20,7 @@ const COUNTED_RUNS: u32 = 16;
 /// The most asks of a recording, times the budget of each.
 const MOST_WORK: u64 = 1_000_000;
 
-// Which asks are counted: all that are listed, or those alone that have a ticket, since their window is not too large and they
+// Which asks are counted: all that are listed, or those alone that have a ticket, since their window is not left out and they
 // have no answer already.
 #[derive(Clone, Copy, Debug)]
 pub(crate) enum Counted {
@@ -29,7 +29,7 @@ pub(crate) enum Counted {
 }
 
 /// How many asks have a ticket in all windows of a recording, where that times the budget of each is over 1,000,000, and `None`
-/// where it is not. Whether a window is too large takes making its constraints, and is looked at only where all asks that are
+/// where it is not. Whether a window is left out takes making its constraints, and is looked at only where all asks that are
 /// listed would be too many. Runs of windows are counted side by side, and of each run the lists of one window at a time are in
 /// memory.
 pub fn too_much<R: Threads + Sync, Q: Question + Sync>(
@@ -199,13 +199,13 @@ fn listed_count<Q: Question>(
     }
 }
 
-// How many asks have a ticket in a window: none where it is too large.
+// How many asks have a ticket in a window: none where it is left out.
 fn window_asked<Q: Question>(alloc: Global, window: Window, question: &Q) -> Result<u64, AllocError>
     ensures { IfOk result (λ asked. asked ≡ window_asked (Q.form question.now) window) }
 {
     match question.encode(alloc, window) {
         Ok(encoded) => subjects_tickets(alloc, question, &encoded),
-        Err(EncodeFault::TooLarge(_)) => Ok(0),
+        Err(EncodeFault::LeftOut(_)) => Ok(0),
         Err(EncodeFault::Memory) => Err(AllocError),
     }
 }

@@ -5,6 +5,7 @@ ghost use Rattle.gp_window.specs.WindowForm.{WindowForm};
 ghost use Rattle.gp_analysis.specs.Question.{IsLawful, QuestionForm};
 
 use gp_base::Row;
+use gp_certificate::Step;
 use gp_clause::{Problem, Query, Valuation};
 use gp_instance::{Instance, InstancesFault};
 use gp_report::AnswerOf;
@@ -19,10 +20,17 @@ pub struct TooLarge {
     pub clauses: u64,
 }
 
+/// Why a window is left out: its constraints are too large, by these numbers; or the question is not asked of it.
+#[derive(Debug, Drop)]
+pub enum LeftOut {
+    TooLarge(TooLarge),
+    Unasked,
+}
+
 /// Why a window has no constraints.
 #[derive(Debug, Drop)]
 pub enum EncodeFault {
-    TooLarge(TooLarge),
+    LeftOut(LeftOut),
     Memory,
 }
 
@@ -53,11 +61,11 @@ pub trait Question {
     fn name(&self, subject: &Self::Subject) -> Name
         ensures { result ≡ (form self.now).name subject.now };
 
-    /// A window with its constraints, where they are not too large.
+    /// A window with its constraints, where it is not left out.
     fn encode(&self, alloc: Global, window: Window) -> Result<Self::Encoded, EncodeFault>
         ensures window { IfOk result (λ encoded. window_in encoded ≡ window) }
-        ensures fits { IfOk result (λ _. (form self.now).too_large window ≡ None) }
-        ensures large { (large : _) → result ≡ Err (EncodeFault.TooLarge large) → (form self.now).too_large window ≡ Some large };
+        ensures fits { IfOk result (λ _. (form self.now).left_out window ≡ None) }
+        ensures left { (why : _) → result ≡ Err (EncodeFault.LeftOut why) → (form self.now).left_out window ≡ Some why };
 
     /// The window whose constraints these are.
     fn window_of<'a>(&self, encoded: &'a Self::Encoded) -> &'a Window
@@ -65,6 +73,10 @@ pub trait Question {
 
     fn problem<'a>(&self, encoded: &'a Self::Encoded) -> &'a Problem
         ensures { result.now ≡ (form self.now).problem (window_in encoded.now) };
+
+    /// The steps on which the certificates of the window may rest, from the start.
+    fn shared(&self, alloc: Global, encoded: &Self::Encoded) -> Result<Row<Step>, AllocError>
+        ensures { IfOk result (λ steps. steps ≡ (form self.now).shared (window_in encoded.now)) };
 
     /// The asks of the subject of this number, in order.
     fn asks(
@@ -111,7 +123,7 @@ pub trait Question {
         ensures { IfOk result ((form self.now).shows (window_in encoded.now) subject.now ask.now.events) };
 
     /// A law: what is listed are asks, a query without a valuation means that nothing shows its ask, an answer that is given
-    /// holds, and problems and queries are valid.
+    /// holds, problems and queries are valid, and the steps that are shared pass.
     fn laws(&self)
         ensures { IsLawful (form self.now) (lists self.now) };
 }

@@ -1,20 +1,22 @@
-ghost use Rattle.std.specs.Prelude.{◌≡◌, ◌*◌, ◌≤◌, All, IfOk, None};
+ghost use Rattle.std.specs.Prelude.{◌≡◌, ◌*◌, ◌≤◌, All, IfOk, None, []};
 ghost use Rattle.gp_clause.specs.Edge.{IsSolvable};
 ghost use Rattle.gp_clause.specs.Problem.{IsValidProblem, IsValidQuery};
 ghost use Rattle.gp_workers.specs.Prefixes.{AreSharing};
 ghost use Rattle.gp_workers.specs.Work.{CanBeAsked, IsWork};
+ghost use Rattle.gp_analysis.specs.Answered.{RecordsLeftOut};
 ghost use Rattle.gp_analysis.specs.Recorded.{CanBeAnswered, RecordsWindow};
 ghost use Rattle.gp_analysis.specs.Task.{IsOrder};
 
 use crate::entries::subject_record;
 use crate::left::Left;
 use crate::listing::{Listing, listing_of};
-use crate::question::{EncodeFault, Question, TooLarge};
+use crate::question::{EncodeFault, LeftOut, Question};
 use crate::task::{Instructions, Order};
 use gp_base::Row;
 use gp_certificate::{refuted_means, shares_nothing};
 use gp_clause::{Problem, Query};
 use gp_outside::Gate;
+use gp_raise::raised_refutes;
 use gp_report::{WindowBodyOf, WindowRecordOf};
 use gp_window::Window;
 use gp_workers::{WindowWork, takes_prefixes, work_all, work_in_turn};
@@ -22,8 +24,7 @@ use std::alloc::{AllocError, Global};
 use std::sync::Wait;
 use std::thread::Threads;
 
-// What is recorded of a window: its constraints are too large, or each of its asks is answered. Beside it comes the order for
-// the next window.
+// What is recorded of a window: it is left out, or each of its asks is answered. Beside it comes the order for the next window.
 pub(crate) fn window_record<R: Threads + Wait + Sync, G: Gate + Sync, Q: Question>(
     rt: &R,
     alloc: Global,
@@ -40,16 +41,30 @@ pub(crate) fn window_record<R: Threads + Wait + Sync, G: Gate + Sync, Q: Questio
     let number = window.number();
     match task.question.encode(alloc, window) {
         Ok(encoded) => answered_record(rt, alloc, &encoded, task, order),
-        Err(EncodeFault::TooLarge(TooLarge { events, clauses })) => {
-            let own = WindowRecordOf {
-                number,
-                shared: Row::new(alloc),
-                body: WindowBodyOf::TooLarge { events, clauses },
-                records: Row::new(alloc),
-            };
-            Ok((own, order))
-        }
+        Err(EncodeFault::LeftOut(why)) => Ok((left_out_record(alloc, number, why), order)),
         Err(EncodeFault::Memory) => Err(AllocError),
+    }
+}
+
+// What is recorded of a window that is left out. Takes no memory.
+fn left_out_record<S: Drop>(alloc: Global, number: u32, why: LeftOut) -> WindowRecordOf<S>
+    ensures number { result.number ≡ number }
+    ensures shared { result.shared ≡ [] }
+    ensures body { RecordsLeftOut why result.body }
+    ensures workers { result.records ≡ [] }
+{
+    let body = match why {
+        LeftOut::TooLarge(large) => WindowBodyOf::TooLarge {
+            events: large.events,
+            clauses: large.clauses,
+        },
+        LeftOut::Unasked => WindowBodyOf::Answers(Row::new(alloc)),
+    };
+    WindowRecordOf {
+        number,
+        shared: Row::new(alloc),
+        body,
+        records: Row::new(alloc),
     }
 }
 
@@ -62,7 +77,7 @@ fn answered_record<R: Threads + Wait + Sync, G: Gate + Sync, Q: Question>(
     task: &Instructions<'_, Q, G>,
     order: Order,
 ) -> Result<(WindowRecordOf<Q::Shown>, Order), AllocError>
-    requires fits { (Q.form task.now.question.now).too_large (Q.window_in encoded.now) ≡ None }
+    requires fits { (Q.form task.now.question.now).left_out (Q.window_in encoded.now) ≡ None }
     requires workers { (1 ≤ task.now.workers) × (task.now.workers ≤ 16) }
     requires can { CanBeAnswered (Q.form task.now.question.now) task.now.budget (Q.window_in encoded.now) }
     requires order { IsOrder task.now.workers order }
@@ -71,6 +86,7 @@ fn answered_record<R: Threads + Wait + Sync, G: Gate + Sync, Q: Question>(
 {
     refuted_means();
     shares_nothing();
+    raised_refutes();
     let question = task.question;
     question.laws();
     let number = question.window_of(encoded).number();
@@ -82,18 +98,28 @@ fn answered_record<R: Threads + Wait + Sync, G: Gate + Sync, Q: Question>(
         records,
         ..
     } = done;
+    let shared = question.shared(alloc, encoded)?;
+    let gained = shared.len();
     let mut listed = Left::of(listed);
     let mut answers = Left::of(answers);
     let mut own = Row::new(alloc);
     let mut left = question.subjects();
     while let Some((subject, more)) = left.split_first() {
         let asked = listed.take_first();
-        own.push(subject_record(alloc, question, encoded, subject, asked, &mut answers)?)?;
+        own.push(subject_record(
+            alloc,
+            question,
+            encoded,
+            subject,
+            asked,
+            gained,
+            &mut answers,
+        )?)?;
         left = more;
     }
     let own = WindowRecordOf {
         number,
-        shared: Row::new(alloc),
+        shared,
         body: WindowBodyOf::Answers(own),
         records,
     };

@@ -7,9 +7,9 @@ use Rattle.std.proofs.lemmas.Option.{none-some, same_Some}
 use Rattle.gp_clause.specs.declared.kind.Kind.{Kind}
 use Rattle.gp_clause.specs.Valuation.{IsValuation}
 use Rattle.gp_constraint.specs.Base.{base_of}
+use Rattle.gp_constraint.specs.EncodedLaws.{few_clauses, is_valid}
+use Rattle.gp_constraint.specs.Laws.{ProblemsAreValid}
 use Rattle.gp_constraint.specs.PointLaws.{IsEventOf}
-use Rattle.gp_instance.specs.ListedLaws.{IsListed}
-use Rattle.gp_property.specs.PropertyForm.{PropertyForm}
 use Rattle.gp_replay.specs.declared.running.ReplayFault.{ReplayFault}
 use Rattle.gp_replay.specs.declared.state.State.{State}
 use Rattle.gp_replay.specs.Feasible.{IsFeasible, ReplayMeansFeasible, end_of}
@@ -21,7 +21,7 @@ use Rattle.gp_window.specs.Ids.{contains_event}
 use Rattle.gp_window.specs.WindowForm.{IsWindow, WindowForm}
 use Rattle.gp_witness.specs.Complete.{SchedulesAreComplete}
 use Rattle.gp_analysis.specs.Question.{HasNoValuation, Holds, IsAsk, IsLawful}
-use Rattle.gp_patterns.specs.Question.{patterns}
+use Rattle.gp_patterns.specs.EncodableLaws.{is_encodable}
 use Rattle.gp_bridge_rows.specs.Ends.{EndsAt, IsEnd, ends_at, given_by, query_of}
 use Rattle.gp_bridge_rows.specs.Question.{ending}
 use Rattle.gp_bridge_rows.proofs.Asked.{assumed_holds, valid_query}
@@ -62,17 +62,16 @@ ask_one means complete name kept window subject id there = record {
   some = omega arith;
   few = omega arith;
   query = λ fits. valid_query window id there;
-  complete = λ is_window none shown ends. none_ends complete window id shown.events there is_window none ends;
-  given = λ answer is. given_holds means name kept kept window subject (id ∷ []) answer is;
+  complete = λ is_window fits none shown ends. none_ends complete window id shown.events there is_window none ends;
+  given = λ is_window fits answer is. given_holds means name kept kept window subject (id ∷ []) answer is;
 }
 
-pub is_lawful : (properties : List PropertyForm) (name : List ℕ) (kept : Option Schedule) → IsLawful (patterns properties) IsListed → ReplayMeansFeasible → SchedulesAreComplete
-    → IsLawful (ending name kept) (λ window subject ids. IsEnd window ids)
-is_lawful properties name kept plain means complete = record {
+pub is_lawful : (name : List ℕ) (kept : Option Schedule) → ProblemsAreValid → ReplayMeansFeasible → SchedulesAreComplete → IsLawful (ending name kept) (λ window subject ids. IsEnd window ids)
+is_lawful name kept valid means complete = record {
   few = omega arith;
   listed = (λ window number. ends_listed window number, tt);
   ask = λ window subject ids is. subst (IsAsk (ending name kept) window subject) (sym is.one) (ask_one means complete name kept window subject is.id is.there);
   problem = λ window fits.
-      let own = plain.problem window fits in
-      record { valid = own.valid; solvable = own.solvable; few_clauses = own.few_clauses };
+      let is = is_encodable window fits in
+      record { valid = is_valid valid window is; solvable = valid.solvable window; few_clauses = few_clauses window is; shares = tt };
 }

@@ -4,10 +4,11 @@ use crate::giving::{given_by, query_of, shown_by};
 use crate::listing::ends_listed;
 use gp_analysis::{EncodeFault, Question};
 use gp_base::Row;
+use gp_certificate::Step;
 use gp_clause::{Problem, Query, Valuation};
-use gp_constraint::Encoded;
+use gp_constraint::{Encoded, problems_are_valid};
 use gp_instance::{Instance, InstancesFault};
-use gp_patterns::Patterns;
+use gp_patterns::encode_window;
 use gp_replay::replay_means_feasible;
 use gp_report::Answer;
 use gp_text::Name;
@@ -71,7 +72,7 @@ impl Question for Ends {
 
     /// A window has the constraints that it has for patterns.
     fn encode(&self, alloc: Global, window: Window) -> Result<Encoded, EncodeFault> {
-        Patterns::of(&[]).encode(alloc, window)
+        encode_window(alloc, window)
     }
 
     fn window_of<'b>(&self, encoded: &'b Encoded) -> &'b Window {
@@ -80,6 +81,10 @@ impl Question for Ends {
 
     fn problem<'b>(&self, encoded: &'b Encoded) -> &'b Problem {
         encoded.problem()
+    }
+
+    fn shared(&self, alloc: Global, _encoded: &Encoded) -> Result<Row<Step>, AllocError> {
+        Ok(Row::new(alloc))
     }
 
     fn asks(
@@ -124,7 +129,7 @@ impl Question for Ends {
     }
 
     fn laws(&self) {
-        Patterns::of(&[]).laws();
+        problems_are_valid();
         replay_means_feasible();
         schedules_are_complete();
     }

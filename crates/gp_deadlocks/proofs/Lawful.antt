@@ -10,15 +10,16 @@ use Rattle.gp_base.specs.ListLaws.{recursion_from_each}
 use Rattle.gp_clause.specs.declared.kind.Kind.{Kind}
 use Rattle.gp_clause.specs.Valuation.{IsValuation}
 use Rattle.gp_constraint.specs.Base.{base_of}
+use Rattle.gp_constraint.specs.EncodedLaws.{few_clauses, is_valid}
+use Rattle.gp_constraint.specs.Laws.{ProblemsAreValid}
 use Rattle.gp_instance.specs.declared.instance.Instance.{Instance}
 use Rattle.gp_instance.specs.declared.instance.InstancesFault.TheVariants.{TooMany}
 use Rattle.gp_instance.specs.Instances.{numbered}
-use Rattle.gp_instance.specs.ListedLaws.{IsListed, ListsEach}
-use Rattle.gp_property.specs.PropertyForm.{PropertyForm}
+use Rattle.gp_instance.specs.ListedLaws.{ListsEach}
 use Rattle.gp_window.specs.declared.schedule.EventId.{EventId}
 use Rattle.gp_window.specs.WindowForm.{IsWindow, WindowForm}
 use Rattle.gp_analysis.specs.Question.{HasNoValuation, IsAsk, IsLawful}
-use Rattle.gp_patterns.specs.Question.{patterns}
+use Rattle.gp_patterns.specs.EncodableLaws.{is_encodable}
 use Rattle.gp_stuck.specs.Cycle.{is_cycle}
 use Rattle.gp_stuck.specs.Cycles.{cycles_of, due_cycles}
 use Rattle.gp_stuck.specs.Laws.{CyclesAreListed, StuckQueriesAreValid}
@@ -76,17 +77,16 @@ ask answered valid window subject ids cycle =
       some = size.some;
       few = size.few;
       query = λ fits. valid window ids cycle;
-      complete = λ is none shown ends. none_ends answered window ids shown.events cycle is none ends;
-      given = λ answer is. absurd (none-some answer is);
+      complete = λ is fits none shown ends. none_ends answered window ids shown.events cycle is none ends;
+      given = λ is fits answer given. absurd (none-some answer given);
     }
 
-pub is_lawful : (properties : List PropertyForm) → IsLawful (patterns properties) IsListed → CyclesAreListed → StuckQueriesAreValid → StuckCyclesAreAnswered
-    → IsLawful deadlocks (λ window subject ids. is_cycle window ids ≡ true)
-is_lawful properties plain listed valid answered = record {
+pub is_lawful : ProblemsAreValid → CyclesAreListed → StuckQueriesAreValid → StuckCyclesAreAnswered → IsLawful deadlocks (λ window subject ids. is_cycle window ids ≡ true)
+is_lawful problems listed valid answered = record {
   few = omega arith;
   listed = (λ window number. cycles_listed listed window, tt);
   ask = λ window subject ids cycle. ask answered valid window subject ids cycle;
   problem = λ window fits.
-      let own = plain.problem window fits in
-      record { valid = own.valid; solvable = own.solvable; few_clauses = own.few_clauses };
+      let is = is_encodable window fits in
+      record { valid = is_valid problems window is; solvable = problems.solvable window; few_clauses = few_clauses window is; shares = tt };
 }

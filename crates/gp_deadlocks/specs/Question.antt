@@ -7,7 +7,7 @@ use Rattle.gp_window.specs.declared.schedule.Schedule.{Schedule}
 use Rattle.gp_window.specs.RecordingForm.{RecordingForm}
 use Rattle.gp_analysis.specs.Answered.{IsAnswered as AnswersQuestion}
 use Rattle.gp_analysis.specs.Question.{QuestionForm}
-use Rattle.gp_patterns.specs.Question.{too_large_in}
+use Rattle.gp_patterns.specs.Question.{left_out_in}
 use Rattle.gp_stuck.specs.Cycles.{due_cycles}
 use Rattle.gp_stuck.specs.Stuck.{EndsStuck}
 use Rattle.gp_stuck.specs.StuckQuery.{stuck_query_of}
@@ -17,8 +17,9 @@ abbrev pub deadlocks : QuestionForm (List ℕ) Schedule
 deadlocks = record {
   subjects = codes "deadlock" ∷ [];
   name = λ (subject : List ℕ). subject;
-  too_large = λ window. too_large_in (base_due window);
+  left_out = λ window. left_out_in (base_due window);
   problem = base_of;
+  shared = λ window. [];
   asks = λ window subject number. due_cycles window;
   query = λ window subject ids. stuck_query_of window ids;
   given = λ window subject ids. None;

@@ -8,10 +8,11 @@ ghost use Rattle.gp_stuck.specs.StuckQuery.{stuck_query_of};
 use crate::laws::stuck_cycles_are_answered;
 use gp_analysis::{EncodeFault, Question};
 use gp_base::Row;
+use gp_certificate::Step;
 use gp_clause::{Problem, Query, Valuation};
-use gp_constraint::Encoded;
+use gp_constraint::{Encoded, problems_are_valid};
 use gp_instance::{Instance, InstancesFault};
-use gp_patterns::Patterns;
+use gp_patterns::encode_window;
 use gp_report::Answer;
 use gp_stuck::{cycles, cycles_are_listed, stuck_queries_are_valid, stuck_query};
 use gp_text::Name;
@@ -85,7 +86,7 @@ impl Question for Deadlocks {
 
     /// A window has the constraints that it has for patterns.
     fn encode(&self, alloc: Global, window: Window) -> Result<Encoded, EncodeFault> {
-        Patterns::of(&[]).encode(alloc, window)
+        encode_window(alloc, window)
     }
 
     fn window_of<'b>(&self, encoded: &'b Encoded) -> &'b Window {
@@ -94,6 +95,10 @@ impl Question for Deadlocks {
 
     fn problem<'b>(&self, encoded: &'b Encoded) -> &'b Problem {
         encoded.problem()
+    }
+
+    fn shared(&self, alloc: Global, _encoded: &Encoded) -> Result<Row<Step>, AllocError> {
+        Ok(Row::new(alloc))
     }
 
     fn asks(
@@ -138,7 +143,7 @@ impl Question for Deadlocks {
     }
 
     fn laws(&self) {
-        Patterns::of(&[]).laws();
+        problems_are_valid();
         cycles_are_listed();
         stuck_queries_are_valid();
         stuck_cycles_are_answered();

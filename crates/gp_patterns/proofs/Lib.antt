@@ -1,6 +1,5 @@
 mod Lawful
 mod Same
-mod Reports
 mod Agreement
 mod Digits
 mod Few

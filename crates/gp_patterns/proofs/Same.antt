@@ -1,5 +1,5 @@
 -- What the question for patterns says of a recording is what is said of its properties.
-use Rattle.std.proofs.Common.{◌≡◌, ◌∙◌, sym, subst, ap, refl, ℕ, zero, suc, ◌+◌, ◌*◌, ◌↔◌, Bool, true, false, List, [], ◌∷◌, Option, Some, None, Result, Ok, Err, length, nat_lt, if◌then◌else◌, sum_by, arith}
+use Rattle.std.proofs.Common.{◌≡◌, ◌∙◌, sym, subst, ap, refl, ℕ, ◌+◌, ◌*◌, Bool, true, false, List, [], ◌∷◌, Some, None, Result, Ok, Err, length, nat_lt, if◌then◌else◌, sum_by, arith}
 use Rattle.std.specs.List.{AllZip}
 use Rattle.std.proofs.lemmas.List.Sums.{sum_by-cons}
 use Rattle.gp_constraint.specs.declared.fault.BaseFault.{BaseFault}
@@ -16,7 +16,6 @@ use Rattle.gp_report.specs.declared.record.AnswerOf.TheVariants.{Found, Impossib
 use Rattle.gp_report.specs.declared.record.PropertyBodyOf.TheVariants as body
 use Rattle.gp_report.specs.declared.record.WindowBodyOf.TheVariants as told
 use Rattle.gp_report.specs.Records.{Answer, Entry, PropertyBody, PropertyRecord, WindowBody, WindowRecord}
-use Rattle.gp_report.specs.ReportForm.{ReportForm}
 use Rattle.gp_window.specs.declared.schedule.EventId.{EventId}
 use Rattle.gp_window.specs.RecordingForm.{RecordingForm}
 use Rattle.gp_window.specs.WindowForm.{WindowForm, numbers_from, window_of}
@@ -24,8 +23,8 @@ use Rattle.gp_window.specs.Windows.{all_windows}
 use Rattle.gp_analysis.specs.Answered.{AreWorkers, Evidence}
 use Rattle.gp_analysis.specs.Answered as question
 use Rattle.gp_analysis.specs.Tickets as ticket
-use Rattle.gp_patterns.specs.Answered.{AnswersBody, AnswersEach, AnswersListed, AnswersProperties, AnswersWindow, IsAnswer, IsAnswered}
-use Rattle.gp_patterns.specs.Question.{PatternsAnswered, patterns, too_large_in}
+use Rattle.gp_patterns.specs.Answered.{AnswersBody, AnswersEach, AnswersListed, AnswersProperties, AnswersWindow, IsAnswer}
+use Rattle.gp_patterns.specs.Question.{PatternsAnswered, left_out_in, patterns}
 use Rattle.gp_patterns.specs.Tickets.{asked_in, asked_of, asked_total, listed_count, properties_count, too_much, window_asked}
 
 -- as many asks have a ticket as instances are listed
@@ -44,7 +43,7 @@ count_same ps window number [] = refl
 count_same ps window number (property ∷ properties) =
     (λ i. listed_same ps window property (due_instances window property number) i + count_same ps window (number + 1) properties i)
 
-large_same : (due : Result WindowForm BaseFault) (count : ℕ) → ticket.asked_of (too_large_in due) count ≡ asked_of due count
+large_same : (due : Result WindowForm BaseFault) (count : ℕ) → ticket.asked_of (left_out_in due) count ≡ asked_of due count
 large_same (Ok encoded) count = refl
 large_same (Err (no_window.TooLarge events clauses)) count = refl
 large_same (Err no_window.Memory) count = refl
@@ -156,19 +155,19 @@ due_where window false false = tt
 
 -- what is recorded of a window
 window_there : (ps : List PropertyForm) (window : WindowForm) (count : ℕ) (known : Evidence) (due : Result WindowForm BaseFault) (own : WindowBody) → HasNone due
-    → question.AnswersBody (patterns ps) window count known (too_large_in due) own → AnswersBody window ps count known due own
+    → question.AnswersBody (patterns ps) window count known (left_out_in due) own → AnswersBody window ps count known due own
 window_there ps window count known (Err no_window.Memory) own due is = absurd due
-window_there ps window count known (Err (no_window.TooLarge events clauses)) (told.TooLarge more_events more_clauses) due is = is
-window_there ps window count known (Err (no_window.TooLarge events clauses)) (told.Answers records) due is = is
+window_there ps window count known (Err (no_window.TooLarge events clauses)) (told.TooLarge more_events more_clauses) due is = (is.0.0, is.0.1, is.1)
+window_there ps window count known (Err (no_window.TooLarge events clauses)) (told.Answers records) due is = is.0
 window_there ps window count known (Ok encoded) (told.TooLarge more_events more_clauses) due is = is
 window_there ps window count known (Ok encoded) (told.Answers records) due is =
     (is.0, properties_there ps window known 0 0 ps records is.1, subst (λ (n : ℕ). AreWorkers (base_of window) count n known.workers) (count_same ps window 0 ps) is.2)
 
 window_back : (ps : List PropertyForm) (window : WindowForm) (count : ℕ) (known : Evidence) (due : Result WindowForm BaseFault) (own : WindowBody)
-    → AnswersBody window ps count known due own → question.AnswersBody (patterns ps) window count known (too_large_in due) own
+    → AnswersBody window ps count known due own → question.AnswersBody (patterns ps) window count known (left_out_in due) own
 window_back ps window count known (Err no_window.Memory) own is = absurd is
-window_back ps window count known (Err (no_window.TooLarge events clauses)) (told.TooLarge more_events more_clauses) is = is
-window_back ps window count known (Err (no_window.TooLarge events clauses)) (told.Answers records) is = is
+window_back ps window count known (Err (no_window.TooLarge events clauses)) (told.TooLarge more_events more_clauses) is = ((is.0, is.1), is.2)
+window_back ps window count known (Err (no_window.TooLarge events clauses)) (told.Answers records) is = absurd is
 window_back ps window count known (Ok encoded) (told.TooLarge more_events more_clauses) is = is
 window_back ps window count known (Ok encoded) (told.Answers records) is =
     (is.0, properties_back ps window known 0 0 ps records is.1, subst (λ (n : ℕ). AreWorkers (base_of window) count n known.workers) (sym (count_same ps window 0 ps)) is.2)

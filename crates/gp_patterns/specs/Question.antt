@@ -1,5 +1,5 @@
 -- The question which instances of properties are possible.
-use Rattle.std.specs.Prelude.{ℕ, ◌≡◌, ◌↔◌, List, Option, None, Some, Result, Ok, Err}
+use Rattle.std.specs.Prelude.{ℕ, ◌≡◌, ◌↔◌, List, [], Option, None, Some, Result, Ok, Err}
 use Rattle.gp_constraint.specs.declared.fault.BaseFault.{BaseFault}
 use Rattle.gp_constraint.specs.declared.fault.BaseFault.TheVariants as no_window
 use Rattle.gp_constraint.specs.Base.{base_of}
@@ -11,24 +11,27 @@ use Rattle.gp_report.specs.ReportForm.{ReportForm}
 use Rattle.gp_window.specs.declared.schedule.Schedule.{Schedule}
 use Rattle.gp_window.specs.RecordingForm.{RecordingForm}
 use Rattle.gp_window.specs.WindowForm.{WindowForm}
-use Rattle.gp_analysis.specs.declared.question.TooLarge.{TooLarge}
+use Rattle.gp_analysis.specs.declared.question.LeftOut.{LeftOut}
+use Rattle.gp_analysis.specs.declared.question.LeftOut.TheVariants as out
 use Rattle.gp_analysis.specs.Answered.{IsAnswered as AnswersQuestion}
 use Rattle.gp_analysis.specs.Question.{QuestionForm}
 use Rattle.gp_patterns.specs.Answered.{IsAnswered, IsShown}
 
--- the two numbers of a window that has no constraints, since it is too large
-abbrev pub too_large_in : Result WindowForm BaseFault → Option TooLarge
-too_large_in (Ok encoded) = None
-too_large_in (Err (no_window.TooLarge events clauses)) = Some (record { events = events; clauses = clauses })
-too_large_in (Err no_window.Memory) = Some (record { events = 0; clauses = 0 })
+-- a window is left out where it has no constraints, since it is too large by these numbers
+abbrev pub left_out_in : Result WindowForm BaseFault → Option LeftOut
+left_out_in (Ok encoded) = None
+left_out_in (Err (no_window.TooLarge events clauses)) = Some (out.TooLarge (record { events = events; clauses = clauses }))
+left_out_in (Err no_window.Memory) = Some (out.TooLarge (record { events = 0; clauses = 0 }))
 
--- each property asks for its instances; an instance has no answer before, and a feasible schedule that matches it shows it
+-- each property asks for its instances; no steps are shared from the start, an instance has no answer before, and a feasible
+-- schedule that matches it shows it
 abbrev pub patterns : List PropertyForm → QuestionForm PropertyForm Schedule
 patterns properties = record {
   subjects = properties;
   name = λ (property : PropertyForm). property.name;
-  too_large = λ window. too_large_in (base_due window);
+  left_out = λ window. left_out_in (base_due window);
   problem = base_of;
+  shared = λ window. [];
   asks = due_instances;
   query = query_of;
   given = λ window property ids. None;

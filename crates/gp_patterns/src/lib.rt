@@ -4,9 +4,11 @@
 #![tactic(auto)]
 
 mod analysing;
+mod encoding;
 mod laws;
 mod patterns;
 
 pub use analysing::{analyse, too_much};
+pub use encoding::encode_window;
 pub use laws::{enough_decides, patterns_answered, reports_agree};
 pub use patterns::Patterns;

@@ -1,12 +1,12 @@
-ghost use Rattle.std.specs.Prelude.{◌≡◌, ◌≤◌, All, Err, IfOk, None, Some, length};
-ghost use Rattle.gp_constraint.specs.Encoded.{base_due};
+ghost use Rattle.std.specs.Prelude.{◌≡◌, ◌≤◌, All, length};
 ghost use Rattle.gp_property.specs.Property.{IsProperty};
-ghost use Rattle.gp_patterns.specs.Question.{too_large_in};
 
-use gp_analysis::{EncodeFault, Question, TooLarge};
+use crate::encoding::encode_window;
+use gp_analysis::{EncodeFault, Question};
 use gp_base::Row;
+use gp_certificate::Step;
 use gp_clause::{Problem, Query, Valuation};
-use gp_constraint::{BaseFault, Encoded, base, problems_are_valid, query};
+use gp_constraint::{Encoded, problems_are_valid, query};
 use gp_instance::{Instance, InstancesFault, instances};
 use gp_property::{Property, atoms_kept};
 use gp_report::Answer;
@@ -42,21 +42,6 @@ fn keep_rules(properties: &[Property])
     }
 }
 
-// A window with its constraints, where they are not too large.
-fn encode(alloc: Global, window: Window) -> Result<Encoded, EncodeFault>
-    ensures window { IfOk result (λ encoded. encoded ≡ window) }
-    ensures fits { IfOk result (λ _. too_large_in (base_due window) ≡ None) }
-    ensures large { (large : _) → result ≡ Err (EncodeFault.TooLarge large) → too_large_in (base_due window) ≡ Some large }
-{
-    match base(alloc, window) {
-        Ok(encoded) => Ok(encoded),
-        Err(BaseFault::TooLarge { events, clauses }) => {
-            Err(EncodeFault::TooLarge(TooLarge { events, clauses }))
-        }
-        Err(BaseFault::Memory) => Err(EncodeFault::Memory),
-    }
-}
-
 impl<'a> Question for Patterns<'a> {
     type Subject = Property;
 
@@ -82,7 +67,7 @@ impl<'a> Question for Patterns<'a> {
     }
 
     fn encode(&self, alloc: Global, window: Window) -> Result<Encoded, EncodeFault> {
-        encode(alloc, window)
+        encode_window(alloc, window)
     }
 
     fn window_of<'b>(&self, encoded: &'b Encoded) -> &'b Window {
@@ -91,6 +76,10 @@ impl<'a> Question for Patterns<'a> {
 
     fn problem<'b>(&self, encoded: &'b Encoded) -> &'b Problem {
         encoded.problem()
+    }
+
+    fn shared(&self, alloc: Global, _encoded: &Encoded) -> Result<Row<Step>, AllocError> {
+        Ok(Row::new(alloc))
     }
 
     fn asks(

@@ -1,0 +1,12 @@
+pub mod Calls
+pub mod Sleeping
+pub mod Signalled
+pub mod Deciding
+pub mod Signals
+pub mod Lift
+pub mod Extended
+pub mod Pairs
+pub mod CallTables
+pub mod NotifyProblem
+pub mod Laws
+pub mod Examples

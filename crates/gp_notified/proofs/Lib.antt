@@ -1,0 +1,4 @@
+pub mod Gathered
+pub mod Joined
+pub mod Lawful
+pub mod Records

@@ -1,0 +1,4 @@
+pub mod Decided
+pub mod Cycles
+pub mod Closures
+pub mod Refuting

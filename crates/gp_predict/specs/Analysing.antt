@@ -1,12 +1,9 @@
 -- What is due to task analyse: an analysis of the recording with its properties, or the refusal of too much work.
-use Rattle.std.specs.Prelude.{ℕ, ◌*◌, ◌≡◌, ◌≤◌, List, Option, None, Some, Result, Ok, Err, if◌then◌else◌, length}
-use Rattle.std.specs.List.{list_any}
+use Rattle.std.specs.Prelude.{ℕ, ◌*◌, ◌≡◌, ◌≤◌, List, Result, length}
 use Rattle.gp_outside.specs.Folders.{File}
 use Rattle.gp_compact.specs.Compact.{compacted}
 use Rattle.gp_patterns.specs.Answered.{IsAnswered}
 use Rattle.gp_patterns.specs.Tickets.{asked_total, too_much}
-use Rattle.gp_report.specs.Records.{Entry}
-use Rattle.gp_report.specs.Entries.{entries_of, is_found}
 use Rattle.gp_report.specs.ReportForm.{ReportForm}
 use Rattle.gp_base.specs.Results.{and_then}
 use Rattle.gp_property.specs.PropertyForm.{PropertyForm}
@@ -15,8 +12,8 @@ use Rattle.gp_predict.specs.declared.reply.Reply.{Reply}
 use Rattle.gp_predict.specs.declared.analysing.Asked.{Asked}
 use Rattle.gp_predict.specs.declared.listing.Listing.{Listing}
 use Rattle.gp_predict.specs.Listing.{listing_at}
-use Rattle.gp_predict.specs.Refusal.{limit_refused}
-use Rattle.gp_predict.specs.Telling.{report_text}
+use Rattle.gp_predict.specs.Refusal.{unless_too_much}
+use Rattle.gp_predict.specs.Telling.{of_answers}
 use Rattle.gp_predict.specs.Told.{Analysed, Told}
 
 -- an analysis of a recording with its properties, by so many workers, each query with this budget; its report is to be
@@ -38,14 +35,10 @@ analysis_form listing asked = record {
   format = asked.format;
 }
 
--- an analysis, or the refusal of so many instances, where they are too many
-abbrev pub analysis_by : Listing → Asked → Option ℕ → Result AnalysisForm Reply
-analysis_by listing asked None = Ok (analysis_form listing asked)
-analysis_by listing asked (Some total) = Err (limit_refused total asked.budget)
-
 -- an analysis, where the instances that are asked, times the budget, are at most 1,000,000
 abbrev pub analysis_of : Listing → Asked → Result AnalysisForm Reply
-analysis_of listing asked = analysis_by listing asked (too_much listing.recording listing.properties asked.budget)
+analysis_of listing asked =
+    unless_too_much (analysis_form listing asked) asked.budget (too_much listing.recording listing.properties asked.budget)
 
 -- what is due to task analyse on the files of a folder
 abbrev pub analysing_at : List File → List ℕ → Asked → Result AnalysisForm Reply
@@ -66,10 +59,6 @@ pub record CanBeAnalysed (listing : Listing) (asked : Asked) : Type 0 where
   pub askable : IsAskable asked
   pub limit : asked_total listing.recording listing.properties * asked.budget ≤ 1000000
 
--- the status of a kept report: 1 exactly where some entry is found
-abbrev pub report_status : ReportForm → ℕ
-report_status report = if list_any (λ (entry : Entry). is_found entry.answer) (entries_of report.windows) then 1 else 0
-
 -- a report has all answers to an analysis
 abbrev pub HasAnswers : AnalysisForm → ReportForm → Type 0
 HasAnswers analysis report = IsAnswered analysis.recording analysis.properties analysis.workers analysis.budget report
@@ -88,6 +77,6 @@ pub record Answers (analysis : AnalysisForm) (report : ReportForm) : Type 0 wher
   pub format : report.format ≡ analysis.format
   pub compact : analysis.format ≡ 2 → IsCompactOf analysis report
 
--- what a report tells, which is kept: its text, and that it has an entry found or none
+-- what the report of an analysis tells, which is kept
 abbrev pub of_report : ReportForm → Told
-of_report report = record { status = report_status report; text = report_text report; kept = Analysed report }
+of_report report = of_answers Analysed report

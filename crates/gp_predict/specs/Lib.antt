@@ -2,6 +2,8 @@ pub mod Analysing
 pub mod Asking
 pub mod Compacting
 pub mod Content
+pub mod Deadlocks
+pub mod Notifying
 pub mod Due
 pub mod Finished
 pub mod Lines

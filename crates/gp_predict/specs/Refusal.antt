@@ -1,5 +1,5 @@
 -- The texts by which input files are refused: `refused FILE LINE RULE`, or without a line; and that of too much work.
-use Rattle.std.specs.Prelude.{ℕ, ◌++◌, List, [], ◌∷◌, codes, decimal}
+use Rattle.std.specs.Prelude.{ℕ, ◌++◌, List, [], ◌∷◌, Option, None, Some, Result, Ok, Err, codes, decimal}
 use Rattle.gp_text.specs.declared.lines.TextFault.{TextFault}
 use Rattle.gp_text.specs.declared.lines.TextFault.TheVariants as text
 use Rattle.gp_trace.specs.declared.fault.TraceFault.{TraceFault}
@@ -48,6 +48,11 @@ two_holders lock window = one_line 3 (codes "refused recording twoholders " ++ l
 -- too much work: so many questions with this budget each
 abbrev pub limit_refused : ℕ → ℕ → Reply
 limit_refused total budget = one_line 7 (codes "limit " ++ decimal total ++ codes " " ++ decimal budget)
+
+-- what is asked for, or the refusal of so many questions, where with this budget each they are too many
+abbrev pub unless_too_much : {A : Type 0} → A → ℕ → Option ℕ → Result A Reply
+unless_too_much asked budget None = Ok asked
+unless_too_much asked budget (Some total) = Err (limit_refused total budget)
 
 -- a file whose text has no lines
 abbrev pub text_refusal : FileName → TextFault → Reply

@@ -1,27 +1,30 @@
-// The top call: from the words of a command line, a folder and a sink to a status, a text and, of an analysis or of links, its
-// report.
+// The top call: from the words of a command line, a folder and a sink to a status, a text and, of an analysis, of links or of
+// deadlocks, its report.
 //
 // `run` reads a recording, which is the separate traces of the threads of one run. Task replay reads a
 // schedule, and says whether it can happen: `feasible N`, or `stuck P R` with the place and the rule of
 // the first event that may not happen. Task list reads properties, and lists the instances of each in
 // each window. Task analyse answers each of these instances, and writes the report; task check says whether
 // a report holds, whoever wrote it, and task compact tells it shorter. Task link says of each window but the last whether it
-// can run wholly and end as the next begins. Task make writes a recording. The contract of `run`
+// can run wholly and end as the next begins, and task stuck of each cycle of threads that wait for each other's locks whether
+// some schedule leads into it. Task make writes a recording. The contract of `run`
 // is stated by one definition, what is due to the words and the files: a text with its status, an
-// analysis, the verdict on a report, its compact form, or a linking; and by one relation, what may be told where that is due.
-// A file that breaks a rule is refused by its name, the line and the rule; a fault of the folder or of the sink is never told
-// as an answer.
+// analysis, the verdict on a report, its compact form, a linking, or an analysis for deadlocks; and by one relation, what may
+// be told where that is due. A file that breaks a rule is refused by its name, the line and the rule; a fault of the folder or
+// of the sink is never told as an answer.
 #![tactic(auto)]
 
 mod analysing;
 mod compacting;
 mod content;
+mod deadlocks;
 mod each_line;
 mod finish;
 mod lines;
 mod linking;
 mod listing;
 mod making;
+mod notifying;
 mod outcome;
 mod refusal;
 mod replaying;

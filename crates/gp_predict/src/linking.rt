@@ -40,6 +40,8 @@ impl Tells for LinkReport {
             status: status_of(&self),
             report: None,
             links: Some(self),
+            stuck: None,
+            notified: None,
         }
     }
 }

@@ -1,6 +1,7 @@
 ghost use Rattle.std.specs.Prelude.{◌≡◌, None};
 
 use gp_linked::LinkReport;
+use gp_notified::NotifyReport;
 use gp_report::Report;
 
 /// What the program ends with.
@@ -14,17 +15,23 @@ pub struct Outcome {
     pub report: Option<Report>,
     /// The report of task link, where it was made.
     pub links: Option<LinkReport>,
+    /// The report of task stuck, where it was made.
+    pub stuck: Option<Report>,
+    /// The report of task notify, where it was made.
+    pub notified: Option<NotifyReport>,
 }
 
 impl Outcome {
     /// An end that keeps nothing.
     pub fn of(status: u8) -> Outcome
-        ensures { result ≡ record { status = status; report = None; links = None } }
+        ensures { result ≡ record { status = status; report = None; links = None; stuck = None; notified = None } }
     {
         Outcome {
             status,
             report: None,
             links: None,
+            stuck: None,
+            notified: None,
         }
     }
 }

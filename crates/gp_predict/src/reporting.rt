@@ -1,17 +1,13 @@
 ghost use Rattle.std.specs.Prelude.{◌≡◌, ◌≤◌, Err, OnOk, OnErr};
-ghost use Rattle.std.specs.List.{list_any};
 ghost use Rattle.gp_outside.specs.Faults.{Rose};
 ghost use Rattle.gp_outside.specs.Sinks.{Appends, AppendsFront};
-ghost use Rattle.gp_report.specs.Entries.{entries_among, entries_of, is_found};
-ghost use Rattle.gp_report.specs.Records.{Entry};
-ghost use Rattle.gp_predict.specs.Analysing.{report_status};
-ghost use Rattle.gp_predict.specs.Telling.{report_text};
+ghost use Rattle.gp_predict.specs.Telling.{report_status, report_text};
 
 use crate::each_line::put_each_line;
 use crate::outcome::Outcome;
 use crate::results::Tells;
 use gp_outside::{PutFault, Sink};
-use gp_report::{Answer, Entry, PropertyRecord, Report, WindowRecord, print_report};
+use gp_report::{Report, is_any_found, print_report};
 use std::alloc::Global;
 
 impl Tells for Report {
@@ -28,6 +24,8 @@ impl Tells for Report {
             status: status_of(&self),
             report: Some(self),
             links: None,
+            stuck: None,
+            notified: None,
         }
     }
 }
@@ -43,39 +41,9 @@ pub fn put_report<S: Sink>(alloc: Global, sink: &mut S, report: &Report) -> Resu
     put_each_line(sink, text.as_slice())
 }
 
-/// The status of a report that is written whole: 1 where some instance is found.
-fn status_of(report: &Report) -> u8
+/// The status of a report that is written whole: 1 where something is found.
+pub fn status_of(report: &Report) -> u8
     ensures { result ≡ report_status report.now }
 {
     if is_any_found(report.windows()) { 1 } else { 0 }
-}
-
-fn is_any_found(windows: &[WindowRecord]) -> bool
-    ensures { result ≡ list_any (λ (entry : Entry). is_found entry.answer) (entries_of windows.now) }
-{
-    for window in windows {
-        if is_found_among(window.body.properties()) {
-            return true;
-        }
-    }
-    false
-}
-
-fn is_found_among(properties: &[PropertyRecord]) -> bool
-    ensures { result ≡ list_any (λ (entry : Entry). is_found entry.answer) (entries_among properties.now) }
-{
-    for property in properties {
-        if is_found_in(property.body.entries()) {
-            return true;
-        }
-    }
-    false
-}
-
-fn is_found_in(entries: &[Entry]) -> bool
-    ensures { result ≡ list_any (λ (entry : Entry). is_found entry.answer) entries.now }
-{
-    entries
-        .iter()
-        .any(|entry| matches!(entry.answer, Answer::Found(_)))
 }

@@ -9,10 +9,12 @@ ghost use Rattle.gp_words.specs.Command.{IsInRanges, command_of, form_of};
 
 use crate::analysing::{analysed, asked_of};
 use crate::compacting::compacted;
+use crate::deadlocks::deadlocks_at;
 use crate::finish::{finish, put_reply};
 use crate::linking::linked;
 use crate::listing::listed;
 use crate::making::make_at;
+use crate::notifying::notified;
 use crate::outcome::Outcome;
 use crate::replaying::replayed;
 use crate::reply::words_refused;
@@ -26,7 +28,7 @@ use std::thread::Threads;
 /// Does what the words ask for, with the files of the folder, and writes the text to the sink.
 ///
 /// `words` are the words after the program's name: options, of which `--task` is one, and the folder that holds
-/// `manifest`, `t1.trace` and so on, and `props`, `schedule` or `report`. A worker of task analyse passes the gate before
+/// `manifest`, `t1.trace` and so on, and `props`, `schedule` or `report`. A worker of tasks analyse and stuck passes the gate before
 /// each query; those of task link, each with windows of its own, pass none. Two workers or more of one window pass each other
 /// what they learn, and one may wait there for another: that the call returns is said by no clause.
 pub fn run<R: AllocGlobal + Threads + Wait + Sync, F: Folder, S: Sink, G: Gate + Sync>(
@@ -116,6 +118,14 @@ fn answer<R: AllocGlobal + Threads + Wait + Sync, F: Folder, S: Sink, G: Gate + 
         }
         Task::Link => {
             let made = linked(rt, folder, directory, asked_of(command));
+            finish(alloc, sink, made)
+        }
+        Task::Stuck => {
+            let made = deadlocks_at(rt, folder, directory, asked_of(command), gate);
+            finish(alloc, sink, made)
+        }
+        Task::Notify => {
+            let made = notified(rt, folder, directory, asked_of(command), gate);
             finish(alloc, sink, made)
         }
         Task::Make => make_at(alloc, command, folder, sink),

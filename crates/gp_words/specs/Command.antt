@@ -44,7 +44,9 @@ task_named name =
     else (if bytes_eq name (codes "check") then Some task.Check
     else (if bytes_eq name (codes "make") then Some task.Make
     else (if bytes_eq name (codes "compact") then Some task.Compact
-    else (if bytes_eq name (codes "link") then Some task.Link else None))))))
+    else (if bytes_eq name (codes "link") then Some task.Link
+    else (if bytes_eq name (codes "stuck") then Some task.Stuck
+    else (if bytes_eq name (codes "notify") then Some task.Notify else None))))))))
 
 -- the task, which must be given
 abbrev pub task_of : List (List ℕ) → Option Task

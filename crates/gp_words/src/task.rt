@@ -18,6 +18,10 @@ pub enum Task {
     Compact,
     /// To say of each window whether it leads on to the next.
     Link,
+    /// To say which threads can come to wait for each other's locks.
+    Stuck,
+    /// To answer each instance of each property, where each wake needs a signal.
+    Notify,
 }
 
 /// The task of this name.
@@ -32,6 +36,8 @@ pub fn task_named(name: &str) -> Option<Task>
         "make" => Some(Task::Make),
         "compact" => Some(Task::Compact),
         "link" => Some(Task::Link),
+        "stuck" => Some(Task::Stuck),
+        "notify" => Some(Task::Notify),
         _ => None,
     }
 }

@@ -45,6 +45,18 @@ const CHECK: Job = (&["--task=check", "d"], 0, "accepted 1\n");
 
 const MAKE_COMPACT: Job = (&["--task=compact", "d"], 0, COMPACT);
 
+const STUCK: Job = (
+    &["--task=stuck", "d"],
+    0,
+    "gpredict 1\nbudget 200\nwindow 1\nproperty deadlock 0\nsummary 0 0 0\n",
+);
+
+const NOTIFY: Job = (
+    &["--task=notify", "d"],
+    1,
+    "gpnotify 1\nbudget 200\nwindow 1\nproperty late_auth 1\ninstance 0 2.0 1.1\nfound 3\n1.0 2.0 1.1\npairs 0\nsummary 1 0 0\n",
+);
+
 const MAKE: Job = (&["--task=make", "--events=1", "d"], 0, "made 4 1 1\n");
 
 fn ends_so<R: AllocGlobal + Threads + Wait + Sync>(rt: &R, job: &Job) -> Result<bool, AllocError> {
@@ -90,6 +102,18 @@ fn a_report_is_made_compact(rt: HostRuntime) -> Result<(), Fail> {
 }
 
 #[test]
+fn deadlocks_are_answered(rt: HostRuntime) -> Result<(), Fail> {
+    assert!(rt; ends_so(&rt, &STUCK)?);
+    Ok(())
+}
+
+#[test]
+fn instances_are_answered_with_signals(rt: HostRuntime) -> Result<(), Fail> {
+    assert!(rt; ends_so(&rt, &NOTIFY)?);
+    Ok(())
+}
+
+#[test]
 fn a_recording_is_made(rt: HostRuntime) -> Result<(), Fail> {
     assert!(rt; ends_so(&rt, &MAKE)?);
     Ok(())
@@ -123,7 +147,17 @@ fn texts_are_whole_or_begun<R: AllocGlobal + Threads + Wait + Sync>(
 
 #[test]
 fn want_of_memory_leaves_a_prefix_of_the_text(rt: HostRuntime) -> Result<(), Fail> {
-    const JOBS: [Job; 7] = [REFUSED, REPLAY, LIST, ANALYSE, CHECK, MAKE_COMPACT, MAKE];
+    const JOBS: [Job; 9] = [
+        REFUSED,
+        REPLAY,
+        LIST,
+        ANALYSE,
+        CHECK,
+        MAKE_COMPACT,
+        STUCK,
+        NOTIFY,
+        MAKE,
+    ];
     assert!(rt; texts_are_whole_or_begun(&rt, &JOBS)?);
     Ok(())
 }

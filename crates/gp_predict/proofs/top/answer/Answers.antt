@@ -5,9 +5,11 @@ use Rattle.gp_words.specs.declared.task.Task.TheVariants as task
 use Rattle.gp_predict.specs.declared.analysing.Asked.{Asked}
 use Rattle.gp_predict.specs.Analysing.{analysing_at, of_report}
 use Rattle.gp_predict.specs.Compacting.{of_compact_form}
+use Rattle.gp_predict.specs.Deadlocks.{deadlocks_at, of_deadlocks}
 use Rattle.gp_predict.specs.Linking.{linking_at, of_links}
 use Rattle.gp_predict.specs.Listing.{of_to_list}
-use Rattle.gp_predict.specs.Tasks.{as_analysis, as_linking, either_expected}
+use Rattle.gp_predict.specs.Notifying.{notifying_at, of_notified}
+use Rattle.gp_predict.specs.Tasks.{as_analysis, as_deadlocks, as_linking, as_notifying, either_expected}
 use Rattle.gp_predict.specs.Telling.{of_answer}
 use Rattle.gp_predict.specs.Finished.{CameTo, told_by}
 use Rattle.gp_predict.specs.Stage.{IsStage}
@@ -41,3 +43,15 @@ returns-in-Link-clause-run g c =
     ran_stage of_links c.linked-made.result (form_of c.args.command.now) task.Link _ _ _ _ _ _ _ _ _ c.in-Link.is refl
     (subst (λ (asked : Asked). IsStage c.linked-made.result (λ files. CameTo (told_by of_links c.linked-made.result) (either_expected (as_linking (linking_at files c.args.command.now.folder.now asked.budget)))) (g.F.Folder.files c.args.folder.now) (g.F.Folder.files c.linked-made.new.folder) (g.F.Folder.faults c.args.folder.now) (g.F.Folder.faults c.linked-made.new.folder))
     c.asked_of-in-Link.ensures.numbers c.linked-made.ensures) c.finish-in-Link.ensures.finished
+
+pub returns-in-Stuck-clause-run : goal.returns-in-Stuck-clause-run
+returns-in-Stuck-clause-run g c =
+    ran_stage of_deadlocks c.deadlocks_at-made.result (form_of c.args.command.now) task.Stuck _ _ _ _ _ _ _ _ _ c.in-Stuck.is refl
+    (subst (λ (asked : Asked). IsStage c.deadlocks_at-made.result (λ files. CameTo (told_by of_deadlocks c.deadlocks_at-made.result) (either_expected (as_deadlocks (deadlocks_at files c.args.command.now.folder.now asked)))) (g.F.Folder.files c.args.folder.now) (g.F.Folder.files c.deadlocks_at-made.new.folder) (g.F.Folder.faults c.args.folder.now) (g.F.Folder.faults c.deadlocks_at-made.new.folder))
+    c.asked_of-in-Stuck.ensures.numbers c.deadlocks_at-made.ensures) c.finish-in-Stuck.ensures.finished
+
+pub returns-in-Notify-clause-run : goal.returns-in-Notify-clause-run
+returns-in-Notify-clause-run g c =
+    ran_stage of_notified c.notified-made.result (form_of c.args.command.now) task.Notify _ _ _ _ _ _ _ _ _ c.in-Notify.is refl
+    (subst (λ (asked : Asked). IsStage c.notified-made.result (λ files. CameTo (told_by of_notified c.notified-made.result) (either_expected (as_notifying (notifying_at files c.args.command.now.folder.now asked)))) (g.F.Folder.files c.args.folder.now) (g.F.Folder.files c.notified-made.new.folder) (g.F.Folder.faults c.args.folder.now) (g.F.Folder.faults c.notified-made.new.folder))
+    c.asked_of-in-Notify.ensures.numbers c.notified-made.ensures) c.finish-in-Notify.ensures.finished

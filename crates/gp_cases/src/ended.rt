@@ -1,5 +1,6 @@
 use crate::case::Case;
 use crate::style::{Style, tell_text};
+use gp_notified::NotifyReport;
 use gp_outside::{FreeGate, MemoryFolder, MemorySink};
 use gp_predict::{Outcome, run};
 use gp_report::Report;
@@ -21,8 +22,22 @@ impl Ended {
         self.outcome.status
     }
 
+    /// The report that is kept, of an analysis or of deadlocks.
     pub fn report(&self) -> Option<&Report> {
-        self.outcome.report.as_ref()
+        match &self.outcome.report {
+            Some(report) => Some(report),
+            None => self.deadlocks(),
+        }
+    }
+
+    /// The report of deadlocks that is kept.
+    pub fn deadlocks(&self) -> Option<&Report> {
+        self.outcome.stuck.as_ref()
+    }
+
+    /// The report with signals that is kept.
+    pub fn notified(&self) -> Option<&NotifyReport> {
+        self.outcome.notified.as_ref()
     }
 
     pub fn text(&self) -> &[u8] {
@@ -65,11 +80,19 @@ pub fn ran_where<R: AllocGlobal + Threads + Wait + Sync>(
 
 /// What is kept beside the status.
 pub fn kept(ended: &Ended) -> &str {
-    match (&ended.outcome.report, &ended.outcome.links) {
-        (Some(_), None) => " report",
-        (None, Some(_)) => " links",
-        (None, None) => "",
-        (Some(_), Some(_)) => " report links",
+    let outcome = &ended.outcome;
+    match (
+        &outcome.report,
+        &outcome.links,
+        &outcome.stuck,
+        &outcome.notified,
+    ) {
+        (None, None, None, None) => "",
+        (Some(_), None, None, None) => " report",
+        (None, Some(_), None, None) => " links",
+        (None, None, Some(_), None) => " stuck",
+        (None, None, None, Some(_)) => " notified",
+        _ => " several",
     }
 }
 

@@ -2,8 +2,10 @@
 use crate::book::Book;
 use crate::case::Case;
 use crate::ended::{Ended, ran, tell};
+use crate::notified::tell_notified;
 use crate::reading::tell_report;
-use gp_report::{Answer, Report, WindowRecord};
+use gp_notified::{NotifyReport, Paired};
+use gp_report::{AnswerOf, Report, WindowRecordOf};
 use gp_window::Schedule;
 use std::alloc::{AllocError, Global};
 use std::io;
@@ -15,8 +17,16 @@ pub fn kept_report(book: &Book) -> Option<&Report> {
     book.ended()?.report()
 }
 
+/// The report with signals that the last run kept.
+pub fn kept_notified(book: &Book) -> Option<&NotifyReport> {
+    book.ended()?.notified()
+}
+
 /// Tells the report that the last run kept as it is printed.
 pub fn tell_kept(rt: &(impl AllocGlobal + Print), book: &Book) -> io::Result<()> {
+    if let Some(report) = kept_notified(book) {
+        return tell_notified(rt, book.case(), report);
+    }
     match kept_report(book) {
         Some(report) => tell_report(rt, book.case(), report),
         None => println!(rt; "no report"),
@@ -28,16 +38,36 @@ pub fn tell_replayed<R: AllocGlobal + Print + Threads + Wait + Sync>(
     rt: &R,
     book: &Book,
 ) -> io::Result<()> {
+    if let Some(report) = kept_notified(book) {
+        return replay_all(rt, book.case(), report.windows.as_slice());
+    }
     match kept_report(book) {
         Some(report) => replay_all(rt, book.case(), report.windows()),
         None => println!(rt; "no report"),
     }
 }
 
-fn replay_all<R: AllocGlobal + Print + Threads + Wait + Sync>(
+/// What has a schedule.
+trait Scheduled {
+    fn schedule(&self) -> &Schedule;
+}
+
+impl Scheduled for Schedule {
+    fn schedule(&self) -> &Schedule {
+        self
+    }
+}
+
+impl Scheduled for Paired {
+    fn schedule(&self) -> &Schedule {
+        &self.schedule
+    }
+}
+
+fn replay_all<S: Scheduled, R: AllocGlobal + Print + Threads + Wait + Sync>(
     rt: &R,
     case: &Case,
-    windows: &[WindowRecord],
+    windows: &[WindowRecordOf<S>],
 ) -> io::Result<()> {
     for window in windows {
         replay_window(rt, case, window)?;
@@ -45,10 +75,10 @@ fn replay_all<R: AllocGlobal + Print + Threads + Wait + Sync>(
     Ok(())
 }
 
-fn replay_window<R: AllocGlobal + Print + Threads + Wait + Sync>(
+fn replay_window<S: Scheduled, R: AllocGlobal + Print + Threads + Wait + Sync>(
     rt: &R,
     case: &Case,
-    window: &WindowRecord,
+    window: &WindowRecordOf<S>,
 ) -> io::Result<()> {
     for property in window.body.properties() {
         for entry in property.body.entries() {
@@ -58,14 +88,14 @@ fn replay_window<R: AllocGlobal + Print + Threads + Wait + Sync>(
     Ok(())
 }
 
-fn replay_answer<R: AllocGlobal + Print + Threads + Wait + Sync>(
+fn replay_answer<S: Scheduled, R: AllocGlobal + Print + Threads + Wait + Sync>(
     rt: &R,
     case: &Case,
     window: u32,
-    answer: &Answer,
+    answer: &AnswerOf<S>,
 ) -> io::Result<()> {
     match answer {
-        Answer::Found(schedule) => replay_schedule(rt, case, window, schedule),
+        AnswerOf::Found(shown) => replay_schedule(rt, case, window, shown.schedule()),
         _ => Ok(()),
     }
 }

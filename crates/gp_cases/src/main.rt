@@ -16,18 +16,20 @@
 //     absent PATH          takes a file away
 //     fail N               call N of the folder fails
 //     cut N B              put N of the sink fails when B bytes are out
-//     free WHAT            `certificates` or `schedules` that are not told, since several are right
+//     free WHAT            `certificates`, `schedules` or `pairs` that are not told, since several are right
 //     only TEXT            of a text only the lines that begin so are told
 //     = TEXT               a line that has to come, passed over here
 //
 // and what is done:
 //
-//     run                  runs the command: tells its status, whether a report or links are kept, its text, the files that it wrote
+//     run                  runs the command: tells its status, what is kept (a report, links, deadlocks or a report with signals), its
+//                          text, the files that it wrote
 //     again A B C          the same with these words, on the files that the run before left, with its text as `d/report`
 //     sweep calls, puts    runs it with each call, or each put, that fails in turn
 //     kept                 prints the report that the last run kept
 //     replay               replays each schedule of that report
-//     refute               checks the one certificate of that report over constraints made anew
+//     signals              says of each of them whether its pairs serve its wakes
+//     refute               checks the one certificate of the report of an analysis over constraints made anew
 //     read PATH            reads a file as a report, and prints it
 //
 // The verbs of the layers below a run stand in `layers.rt`, those of what a window gives the solver in `encodings.rt`.
@@ -45,6 +47,7 @@ mod evidence;
 mod file;
 mod kept;
 mod layers;
+mod notified;
 mod reading;
 mod style;
 mod sweep;

@@ -1,12 +1,13 @@
 use std::alloc::{AllocError, Global};
 use std::{io, str};
 
-/// What of a text is told: where several certificates or schedules are right, not which of them it is; and where lines are
+/// What of a text is told: where several certificates, schedules or pairs are right, not which of them it is; and where lines are
 /// named by how they begin, only these.
 #[derive(Clone, Drop)]
 pub struct Style {
     certificates: bool,
     schedules: bool,
+    pairs: bool,
     only: Vec<String>,
 }
 
@@ -16,6 +17,7 @@ impl Style {
         Style {
             certificates: false,
             schedules: false,
+            pairs: false,
             only: Vec::new(alloc),
         }
     }
@@ -25,6 +27,7 @@ impl Style {
         match what {
             "certificates" => self.certificates = true,
             "schedules" => self.schedules = true,
+            "pairs" => self.pairs = true,
             _ => {}
         }
     }
@@ -51,6 +54,9 @@ impl Style {
             return line.rsplit_once(' ').map(|(told, _steps)| told);
         }
         if self.schedules && (line.starts_with("found ") || line.starts_with("linked ")) {
+            return Some(line);
+        }
+        if self.pairs && line.starts_with("pairs ") {
             return Some(line);
         }
         None

@@ -3,6 +3,7 @@ use crate::book::Book;
 use crate::ended::{give_back, ran, tell};
 use crate::evidence::tell_refuted;
 use crate::kept::{tell_kept, tell_replayed};
+use crate::notified::tell_signals;
 use crate::reading::tell_read;
 use crate::sweep::{sweep_calls, sweep_puts};
 use std::io;
@@ -23,6 +24,7 @@ pub fn obeys<R: AllocGlobal + Print + Threads + Wait + Sync>(
         "refute" => tell_refuted(rt, book)?,
         "kept" => tell_kept(rt, book)?,
         "replay" => tell_replayed(rt, book)?,
+        "signals" => tell_signals(rt, book)?,
         "read" => tell_read(rt, book.case(), rest)?,
         _ => return Ok(false),
     }

@@ -31,7 +31,7 @@ use Rattle.gp_patterns.specs.Answered.{AnswersBody, AnswersEach, AnswersListed, 
 turn_counted : (problem : Problem) (query : Query) (worker : WorkerRecord) (ticket budget from to : ℕ) → HasTurnSpentOn problem query worker ticket budget from to → to ≡ from + budget
 turn_counted problem query worker ticket budget from to (turn, within, ticketed, spent) = sym spent.ends ∙ spent.learning.counted ∙ ap (λ (n : ℕ). n + budget) spent.begins
 
-spent_counted : (problem : Problem) (query : Query) (own : Option WorkerRecord) (ticket budget from to : ℕ)
+pub spent_counted : (problem : Problem) (query : Query) (own : Option WorkerRecord) (ticket budget from to : ℕ)
     → IsSomeAnd own (λ (worker : WorkerRecord). HasTurnSpentOn problem query worker ticket budget from to) → to ≡ from + budget
 spent_counted problem query None ticket budget from to spent = absurd spent
 spent_counted problem query (Some worker) ticket budget from to spent = turn_counted problem query worker ticket budget from to spent

@@ -1,2 +1,3 @@
 mod Acceptance
 mod Compacted
+mod Resumed

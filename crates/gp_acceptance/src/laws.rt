@@ -1,4 +1,4 @@
-ghost use Rattle.gp_acceptance.specs.Acceptance.{AnsweredIsAccepted, CompactIsAnswered};
+ghost use Rattle.gp_acceptance.specs.Acceptance.{AnsweredIsAccepted, CompactIsAnswered, ResumedIsAccepted};
 
 use gp_compact::compact_keeps_acceptance;
 
@@ -15,3 +15,9 @@ pub fn compact_is_answered()
 {
     compact_keeps_acceptance();
 }
+
+/// A law: a report that goes on from an old one is accepted by the checker, whatever the old one says, and whatever its workers
+/// and its budget.
+pub fn resumed_is_accepted()
+    ensures { ResumedIsAccepted }
+{}

@@ -4,4 +4,4 @@
 
 mod laws;
 
-pub use laws::{answered_is_accepted, compact_is_answered};
+pub use laws::{answered_is_accepted, compact_is_answered, resumed_is_accepted};

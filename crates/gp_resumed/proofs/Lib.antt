@@ -1,0 +1,4 @@
+mod Keeping
+mod Lawful
+mod Numbering
+mod Shared

@@ -4,6 +4,7 @@ pub mod Compacting
 pub mod Content
 pub mod Deadlocks
 pub mod Notifying
+pub mod Resuming
 pub mod Due
 pub mod Finished
 pub mod Lines

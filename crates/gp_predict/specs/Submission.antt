@@ -1,4 +1,4 @@
--- What tasks check and compact read: a report beside the recording and its properties, whoever wrote it.
+-- What tasks check, compact and resume read: a report beside the recording and its properties, whoever wrote it.
 use Rattle.std.specs.Prelude.{ℕ, ◌≤◌, List, Result, Ok, length}
 use Rattle.std.specs.List.{AllByRecursion}
 use Rattle.gp_outside.specs.Folders.{File}

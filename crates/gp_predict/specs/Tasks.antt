@@ -22,13 +22,14 @@ use Rattle.gp_predict.specs.Listing.{list_at}
 use Rattle.gp_predict.specs.Making.{made_answer}
 use Rattle.gp_predict.specs.Notifying.{AnswersNotifying, NotifyingForm, notifying_at, of_notified}
 use Rattle.gp_predict.specs.Replaying.{replay_at}
+use Rattle.gp_predict.specs.Resuming.{AnswersResumption, ResumptionForm, resuming_at}
 use Rattle.gp_predict.specs.Submission.{submission_at}
 use Rattle.gp_predict.specs.Telling.{of_reply}
 use Rattle.gp_predict.specs.Told.{Told}
 use Rattle.gp_predict.specs.Verdict.{IsVerdict, verdict_on}
 
 -- what is due: a text with its status, an analysis, the verdict on a report, a report in its compact form, a linking, an
--- analysis for deadlocks, or an analysis with signals
+-- analysis for deadlocks, an analysis with signals, or an analysis that keeps what still stands of an old report
 pub data Expected : Type 0 where
   Text : Reply → Expected
   Analysis : AnalysisForm → Expected
@@ -37,6 +38,7 @@ pub data Expected : Type 0 where
   Linking : LinkingForm → Expected
   Deadlocks : DeadlocksForm → Expected
   Notifying : NotifyingForm → Expected
+  Resumption : ResumptionForm → Expected
 
 -- a text that is due, or the refusal that came before it
 abbrev pub as_text : Result Reply Reply → Result Expected Reply
@@ -66,6 +68,10 @@ as_deadlocks due = and_then due (λ analysis. Ok (Deadlocks analysis))
 abbrev pub as_notifying : Result NotifyingForm Reply → Result Expected Reply
 as_notifying due = and_then due (λ analysis. Ok (Notifying analysis))
 
+-- an analysis that keeps what still stands, or the refusal that came before it
+abbrev pub as_resumption : Result ResumptionForm Reply → Result Expected Reply
+as_resumption due = and_then due (λ resumption. Ok (Resumption resumption))
+
 -- what is due to a task on the files of a folder
 abbrev pub task_at : CommandForm → Task → List File → Result Expected Reply
 task_at command task.Replay files = as_text (replay_at files command.folder)
@@ -76,6 +82,7 @@ task_at command task.Compact files = as_compacted (submission_at files command.f
 task_at command task.Link files = as_linking (linking_at files command.folder command.budget)
 task_at command task.Stuck files = as_deadlocks (deadlocks_at files command.folder (asked_of command))
 task_at command task.Notify files = as_notifying (notifying_at files command.folder (asked_of command))
+task_at command task.Resume files = as_resumption (resuming_at files command.folder (asked_of command))
 task_at command task.Make files = Ok (Text (made_answer (recipe_of command)))
 
 -- whether a task reads files: task make only writes them
@@ -89,6 +96,7 @@ reads_files task.Compact = true
 reads_files task.Link = true
 reads_files task.Stuck = true
 reads_files task.Notify = true
+reads_files task.Resume = true
 
 -- what was reached, or the refusal that came before it
 abbrev pub either_expected : Result Expected Reply → Expected
@@ -97,7 +105,8 @@ either_expected (Err refusal) = Text refusal
 
 -- what may be told where this is due: a text; a report that answers the analysis; the verdict on a report; the compact form
 -- of a report; a report that answers, of each window but the last, whether it is linked to the next; a report that answers
--- each cycle of waiting threads; a report that answers the analysis where each wake needs a signal
+-- each cycle of waiting threads; a report that answers the analysis where each wake needs a signal; a report that keeps what
+-- still stands of an old one and answers the rest
 abbrev pub Means : Expected → Told → Type 0
 Means (Text reply) told = told ≡ of_reply reply
 Means (Analysis analysis) told = (report : ReportForm) × Answers analysis report × (told ≡ of_report report)
@@ -106,3 +115,4 @@ Means (Compacted submission) told = told ≡ of_compact (compacted submission.li
 Means (Linking linking) told = (report : LinkReport) × AreAnswered linking.recording linking.budget report × (told ≡ of_links report)
 Means (Deadlocks analysis) told = (report : ReportForm) × AnswersDeadlocks analysis report × (told ≡ of_stuck report)
 Means (Notifying analysis) told = (report : NotifyReport) × AnswersNotifying analysis report × (told ≡ of_notified report)
+Means (Resumption resumption) told = (report : ReportForm) × AnswersResumption resumption report × (told ≡ of_report report)

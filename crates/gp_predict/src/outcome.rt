@@ -11,7 +11,7 @@ pub struct Outcome {
     /// window is not linked, or something is found; 2 the words are refused, 3 an input file is refused, 4 the folder failed,
     /// 5 the sink failed, 6 want of memory, 7 too much work is asked.
     pub status: u8,
-    /// The report of task analyse, where it was made.
+    /// The report of task analyse or resume, where it was made.
     pub report: Option<Report>,
     /// The report of task link, where it was made.
     pub links: Option<LinkReport>,

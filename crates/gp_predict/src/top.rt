@@ -18,6 +18,7 @@ use crate::notifying::notified;
 use crate::outcome::Outcome;
 use crate::replaying::replayed;
 use crate::reply::words_refused;
+use crate::resuming::resumed;
 use crate::verdict::checked;
 use gp_outside::{Folder, Gate, Sink};
 use gp_words::{Command, Task, command_of};
@@ -28,9 +29,9 @@ use std::thread::Threads;
 /// Does what the words ask for, with the files of the folder, and writes the text to the sink.
 ///
 /// `words` are the words after the program's name: options, of which `--task` is one, and the folder that holds
-/// `manifest`, `t1.trace` and so on, and `props`, `schedule` or `report`. A worker of tasks analyse and stuck passes the gate before
-/// each query; those of task link, each with windows of its own, pass none. Two workers or more of one window pass each other
-/// what they learn, and one may wait there for another: that the call returns is said by no clause.
+/// `manifest`, `t1.trace` and so on, and `props`, `schedule` or `report`. A worker of tasks analyse, resume, stuck and notify passes
+/// the gate before each query; those of task link, each with windows of its own, pass none. Two workers or more of one window pass
+/// each other what they learn, and one may wait there for another: that the call returns is said by no clause.
 pub fn run<R: AllocGlobal + Threads + Wait + Sync, F: Folder, S: Sink, G: Gate + Sync>(
     rt: &R,
     words: &[String],
@@ -126,6 +127,10 @@ fn answer<R: AllocGlobal + Threads + Wait + Sync, F: Folder, S: Sink, G: Gate + 
         }
         Task::Notify => {
             let made = notified(rt, folder, directory, asked_of(command), gate);
+            finish(alloc, sink, made)
+        }
+        Task::Resume => {
+            let made = resumed(rt, folder, directory, asked_of(command), gate);
             finish(alloc, sink, made)
         }
         Task::Make => make_at(alloc, command, folder, sink),

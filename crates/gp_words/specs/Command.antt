@@ -46,7 +46,8 @@ task_named name =
     else (if bytes_eq name (codes "compact") then Some task.Compact
     else (if bytes_eq name (codes "link") then Some task.Link
     else (if bytes_eq name (codes "stuck") then Some task.Stuck
-    else (if bytes_eq name (codes "notify") then Some task.Notify else None))))))))
+    else (if bytes_eq name (codes "notify") then Some task.Notify
+    else (if bytes_eq name (codes "resume") then Some task.Resume else None)))))))))
 
 -- the task, which must be given
 abbrev pub task_of : List (List ℕ) → Option Task

@@ -22,6 +22,8 @@ pub enum Task {
     Stuck,
     /// To answer each instance of each property, where each wake needs a signal.
     Notify,
+    /// To answer what an earlier report does not answer any more, or yet.
+    Resume,
 }
 
 /// The task of this name.
@@ -38,6 +40,7 @@ pub fn task_named(name: &str) -> Option<Task>
         "link" => Some(Task::Link),
         "stuck" => Some(Task::Stuck),
         "notify" => Some(Task::Notify),
+        "resume" => Some(Task::Resume),
         _ => None,
     }
 }

@@ -13,6 +13,7 @@ mod corrupting;
 mod large;
 mod linking;
 mod logs;
+mod resuming;
 mod tasks;
 
 type Files = Vec<(String, Vec<u8>)>;

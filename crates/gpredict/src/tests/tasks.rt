@@ -57,6 +57,9 @@ const NOTIFY: Job = (
     "gpnotify 1\nbudget 200\nwindow 1\nproperty late_auth 1\ninstance 0 2.0 1.1\nfound 3\n1.0 2.0 1.1\npairs 0\nsummary 1 0 0\n",
 );
 
+/// What the report answers still stands.
+const RESUME: Job = (&["--task=resume", "d"], 1, COMPACT);
+
 const MAKE: Job = (&["--task=make", "--events=1", "d"], 0, "made 4 1 1\n");
 
 fn ends_so<R: AllocGlobal + Threads + Wait + Sync>(rt: &R, job: &Job) -> Result<bool, AllocError> {
@@ -114,6 +117,12 @@ fn instances_are_answered_with_signals(rt: HostRuntime) -> Result<(), Fail> {
 }
 
 #[test]
+fn what_still_stands_is_kept(rt: HostRuntime) -> Result<(), Fail> {
+    assert!(rt; ends_so(&rt, &RESUME)?);
+    Ok(())
+}
+
+#[test]
 fn a_recording_is_made(rt: HostRuntime) -> Result<(), Fail> {
     assert!(rt; ends_so(&rt, &MAKE)?);
     Ok(())
@@ -147,7 +156,7 @@ fn texts_are_whole_or_begun<R: AllocGlobal + Threads + Wait + Sync>(
 
 #[test]
 fn want_of_memory_leaves_a_prefix_of_the_text(rt: HostRuntime) -> Result<(), Fail> {
-    const JOBS: [Job; 9] = [
+    const JOBS: [Job; 10] = [
         REFUSED,
         REPLAY,
         LIST,
@@ -156,6 +165,7 @@ fn want_of_memory_leaves_a_prefix_of_the_text(rt: HostRuntime) -> Result<(), Fai
         MAKE_COMPACT,
         STUCK,
         NOTIFY,
+        RESUME,
         MAKE,
     ];
     assert!(rt; texts_are_whole_or_begun(&rt, &JOBS)?);

@@ -9,7 +9,8 @@ use Rattle.gp_predict.specs.Deadlocks.{deadlocks_at, of_deadlocks}
 use Rattle.gp_predict.specs.Linking.{linking_at, of_links}
 use Rattle.gp_predict.specs.Listing.{of_to_list}
 use Rattle.gp_predict.specs.Notifying.{notifying_at, of_notified}
-use Rattle.gp_predict.specs.Tasks.{as_analysis, as_deadlocks, as_linking, as_notifying, either_expected}
+use Rattle.gp_predict.specs.Resuming.{resuming_at}
+use Rattle.gp_predict.specs.Tasks.{as_analysis, as_deadlocks, as_linking, as_notifying, as_resumption, either_expected}
 use Rattle.gp_predict.specs.Telling.{of_answer}
 use Rattle.gp_predict.specs.Finished.{CameTo, told_by}
 use Rattle.gp_predict.specs.Stage.{IsStage}
@@ -55,3 +56,9 @@ returns-in-Notify-clause-run g c =
     ran_stage of_notified c.notified-made.result (form_of c.args.command.now) task.Notify _ _ _ _ _ _ _ _ _ c.in-Notify.is refl
     (subst (λ (asked : Asked). IsStage c.notified-made.result (λ files. CameTo (told_by of_notified c.notified-made.result) (either_expected (as_notifying (notifying_at files c.args.command.now.folder.now asked)))) (g.F.Folder.files c.args.folder.now) (g.F.Folder.files c.notified-made.new.folder) (g.F.Folder.faults c.args.folder.now) (g.F.Folder.faults c.notified-made.new.folder))
     c.asked_of-in-Notify.ensures.numbers c.notified-made.ensures) c.finish-in-Notify.ensures.finished
+
+pub returns-in-Resume-clause-run : goal.returns-in-Resume-clause-run
+returns-in-Resume-clause-run g c =
+    ran_stage of_report c.resumed-made.result (form_of c.args.command.now) task.Resume _ _ _ _ _ _ _ _ _ c.in-Resume.is refl
+    (subst (λ (asked : Asked). IsStage c.resumed-made.result (λ files. CameTo (told_by of_report c.resumed-made.result) (either_expected (as_resumption (resuming_at files c.args.command.now.folder.now asked)))) (g.F.Folder.files c.args.folder.now) (g.F.Folder.files c.resumed-made.new.folder) (g.F.Folder.faults c.args.folder.now) (g.F.Folder.faults c.resumed-made.new.folder))
+    c.asked_of-in-Resume.ensures.numbers c.resumed-made.ensures) c.finish-in-Resume.ensures.finished

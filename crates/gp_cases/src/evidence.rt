@@ -1,25 +1,24 @@
 // The certificate of a kept report, checked again over constraints that are made anew.
-ghost use Rattle.std.specs.Prelude.{◌≡◌, ◌≤◌, true, length};
-ghost use Rattle.gp_instance.specs.Instance.{is_instance};
+mod cycle;
+mod instance;
+mod signals;
 
 use crate::book::Book;
 use crate::case::Case;
-use crate::kept::kept_report;
-use gp_certificate::{Certificate, Step, check_certificate};
+use gp_base::Row;
+use gp_certificate::{Certificate, Step};
 use gp_clause::Lit;
-use gp_constraint::{Encoded, base, problems_are_valid, query};
-use gp_instance::{Instance, InstancesFault, instances, lists_exactly};
 use gp_outside::MemoryFolder;
 use gp_property::{Property, read_properties};
-use gp_report::{Answer, Report};
+use gp_report::{AnswerOf, WindowRecordOf};
 use gp_window::{Window, cut, read_recording};
-use std::alloc::{AllocError, Global};
+use std::alloc::Global;
 use std::io;
 use std::thread::Threads;
 
-/// The answer in the last window of a report, which has one property of one instance.
-fn only_answer(report: &Report) -> Option<&Answer> {
-    let [.., window] = report.windows() else {
+/// The answer in the last of these windows, which has one property of one instance.
+fn only_answer<S>(windows: &[WindowRecordOf<S>]) -> Option<&AnswerOf<S>> {
+    let [.., window] = windows else {
         return None;
     };
     let [property] = window.body.properties() else {
@@ -31,8 +30,16 @@ fn only_answer(report: &Report) -> Option<&Answer> {
     }
 }
 
+/// The certificate of that answer.
+fn only_certificate<S>(windows: &[WindowRecordOf<S>]) -> Option<&Certificate> {
+    match only_answer(windows)? {
+        AnswerOf::Impossible(certificate) => Some(certificate),
+        _ => None,
+    }
+}
+
 /// Whether the last step has negations of assumptions alone.
-fn ends_in_negations(assumed: &[Lit], steps: &[Step]) -> bool {
+pub fn ends_in_negations(assumed: &[Lit], steps: &[Step]) -> bool {
     match steps {
         [.., last] => last
             .clause
@@ -43,87 +50,36 @@ fn ends_in_negations(assumed: &[Lit], steps: &[Step]) -> bool {
     }
 }
 
-/// Whether a certificate refutes the query of an instance.
-fn refutes(
-    alloc: Global,
-    encoded: &Encoded,
-    property: &Property,
-    instance: &Instance,
-    certificate: &Certificate,
-) -> Result<bool, AllocError>
-    requires few { length instance.now.events ≤ 6 }
-    requires instance { is_instance encoded.now property.now instance.now.events ≡ true }
-{
-    problems_are_valid();
-    let problem = encoded.problem();
-    let query = query(alloc, encoded, property, instance)?;
-    let passes = check_certificate(alloc, problem, &[], &query, certificate)?;
-    Ok(passes && ends_in_negations(query.assumed.as_slice(), certificate.steps.as_slice()))
-}
-
-/// Whether a certificate refutes the query of the one instance of a property.
-fn refutes_the_one(
-    alloc: Global,
-    encoded: &Encoded,
-    property: &Property,
-    certificate: &Certificate,
-) -> Result<bool, InstancesFault> {
-    lists_exactly();
-    let window = encoded.window();
-    let listed = instances(alloc, window, property, 0)?;
-    let [instance] = listed.as_slice() else {
-        return Ok(false);
-    };
-    if instance.events.len() > 6 {
-        return Ok(false);
-    }
-    Ok(refutes(alloc, encoded, property, instance, certificate)?)
-}
-
-/// The same in a window, where its constraints are not too many.
-fn refutes_in(
-    alloc: Global,
-    window: Window,
-    property: &Property,
-    certificate: &Certificate,
-) -> Option<bool> {
-    match base(alloc, window) {
-        Ok(encoded) => refutes_the_one(alloc, &encoded, property, certificate).ok(),
-        Err(_) => None,
-    }
-}
-
 /// The last window of the recording of a case.
-fn last_window<R: AllocGlobal + Threads + Sync>(rt: &R, case: &Case) -> Option<Window> {
+pub fn last_window<R: AllocGlobal + Threads + Sync>(rt: &R, case: &Case) -> Option<Window> {
     let files = case.files(rt.alloc()).ok()?;
     let mut folder = MemoryFolder::new(files, Vec::new(rt.alloc()));
     let recording = read_recording(rt, rt.alloc(), &mut folder, "d").ok()?;
     cut(rt.alloc(), &recording, recording.manifest().epochs()).ok()
 }
 
-/// The same in the last window of a case, for its one property.
-fn refutes_last<R: AllocGlobal + Threads + Sync>(
-    rt: &R,
-    case: &Case,
-    certificate: &Certificate,
-) -> Option<bool> {
-    let text = case.bytes(rt.alloc(), "d/props").ok()?;
+/// The properties of a case, where their file is small.
+pub fn properties_of(alloc: Global, case: &Case) -> Option<Row<Property>> {
+    let text = case.bytes(alloc, "d/props").ok()?;
     if text.len() >= 1000 {
         return None;
     }
-    let properties = read_properties(rt.alloc(), text.as_slice()).ok()?;
-    match properties.as_slice() {
-        [property] => refutes_in(rt.alloc(), last_window(rt, case)?, property, certificate),
-        _ => None,
-    }
+    read_properties(alloc, text.as_slice()).ok()
 }
 
 /// Whether the certificate in the report that the last run kept holds.
 fn is_refuted<R: AllocGlobal + Threads + Sync>(rt: &R, book: &Book) -> Option<bool> {
-    let Answer::Impossible(certificate) = only_answer(kept_report(book)?)? else {
-        return None;
-    };
-    refutes_last(rt, book.case(), certificate)
+    let case = book.case();
+    let ended = book.ended()?;
+    match (ended.notified(), ended.deadlocks()) {
+        (Some(report), _) => {
+            signals::refutes_last(rt, case, only_certificate(report.windows.as_slice())?)
+        }
+        (None, Some(report)) => cycle::refutes_last(rt, case, only_certificate(report.windows())?),
+        (None, None) => {
+            instance::refutes_last(rt, case, only_certificate(ended.report()?.windows())?)
+        }
+    }
 }
 
 /// Tells whether the certificate in the report that the last run kept holds.

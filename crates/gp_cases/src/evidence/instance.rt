@@ -1,0 +1,76 @@
+// The certificate that an instance of a property cannot happen, checked again.
+ghost use Rattle.std.specs.Prelude.{◌≡◌, ◌≤◌, true, length};
+ghost use Rattle.gp_instance.specs.Instance.{is_instance};
+
+use crate::case::Case;
+use crate::evidence::{ends_in_negations, last_window, properties_of};
+use gp_certificate::{Certificate, check_certificate};
+use gp_constraint::{Encoded, base, problems_are_valid, query};
+use gp_instance::{Instance, InstancesFault, instances, lists_exactly};
+use gp_property::Property;
+use gp_window::Window;
+use std::alloc::{AllocError, Global};
+use std::thread::Threads;
+
+/// Whether a certificate refutes the query of an instance.
+fn refutes(
+    alloc: Global,
+    encoded: &Encoded,
+    property: &Property,
+    instance: &Instance,
+    certificate: &Certificate,
+) -> Result<bool, AllocError>
+    requires few { length instance.now.events ≤ 6 }
+    requires instance { is_instance encoded.now property.now instance.now.events ≡ true }
+{
+    problems_are_valid();
+    let problem = encoded.problem();
+    let query = query(alloc, encoded, property, instance)?;
+    let passes = check_certificate(alloc, problem, &[], &query, certificate)?;
+    Ok(passes && ends_in_negations(query.assumed.as_slice(), certificate.steps.as_slice()))
+}
+
+/// Whether a certificate refutes the query of the one instance of a property.
+fn refutes_the_one(
+    alloc: Global,
+    encoded: &Encoded,
+    property: &Property,
+    certificate: &Certificate,
+) -> Result<bool, InstancesFault> {
+    lists_exactly();
+    let window = encoded.window();
+    let listed = instances(alloc, window, property, 0)?;
+    let [instance] = listed.as_slice() else {
+        return Ok(false);
+    };
+    if instance.events.len() > 6 {
+        return Ok(false);
+    }
+    Ok(refutes(alloc, encoded, property, instance, certificate)?)
+}
+
+/// The same in a window, where its constraints are not too many.
+fn refutes_in(
+    alloc: Global,
+    window: Window,
+    property: &Property,
+    certificate: &Certificate,
+) -> Option<bool> {
+    match base(alloc, window) {
+        Ok(encoded) => refutes_the_one(alloc, &encoded, property, certificate).ok(),
+        Err(_) => None,
+    }
+}
+
+/// The same in the last window of a case, for its one property.
+pub fn refutes_last<R: AllocGlobal + Threads + Sync>(
+    rt: &R,
+    case: &Case,
+    certificate: &Certificate,
+) -> Option<bool> {
+    let properties = properties_of(rt.alloc(), case)?;
+    match properties.as_slice() {
+        [property] => refutes_in(rt.alloc(), last_window(rt, case)?, property, certificate),
+        _ => None,
+    }
+}

@@ -1,0 +1,10 @@
+pub mod Deeds
+pub mod Examples
+pub mod Folding
+pub mod Laws
+pub mod Lines
+pub mod Parts
+pub mod Past
+pub mod Shared
+pub mod Source
+pub mod Touched

@@ -66,8 +66,12 @@ def windows_of(folder):
             if epoch <= number:
                 window.values[name] = told[epoch, name]
         for thread, (segments, ended) in traces.items():
+            left = Window()  # by this thread alone, since its locks may have been those of others before
             for event in [event for segment in segments[:number - 1] for event in segment]:
-                pass_over(window, thread, event)
+                pass_over(left, thread, event)
+            window.holders.update(left.holders)
+            window.readers |= left.readers
+            window.started |= left.started
             window.segments[thread] = segments[number - 1]
             if ended is not None and ended <= number:
                 window.exited.add(thread)

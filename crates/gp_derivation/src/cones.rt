@@ -1,5 +1,5 @@
 ghost use Rattle.std.specs.Prelude.{◌≡◌, ℕ, ◌+◌, ◌-◌, ◌<◌, ◌^◌, [], ◌∷◌, ◌++◌, Some, length, map, IfOk, OnOk, All, AllPairs, slice_get};
-ghost use Rattle.gp_derivation.specs.Cones.{IsCone, ConeChecks, ConeIsUnique, ConeStays, cone_step, steps_given};
+ghost use Rattle.gp_derivation.specs.Cones.{IsCone, ConeChecks, ConeIsThere, ConeIsUnique, ConeStays, cone_step, steps_given};
 ghost use Rattle.gp_derivation.specs.Numbering.{CanBeNumbered, IsNumberable, IsNumbered, number_beside, moved, with_hints, size_of};
 ghost use Rattle.gp_derivation.specs.Reach.{AreReached};
 ghost use Rattle.gp_certificate.specs.declared.step.Step.{Step};
@@ -57,6 +57,11 @@ pub(crate) fn cone_over(
 /// A law: the cone of a step that passes at the end of a log whose entries pass is a certificate that checks.
 pub fn cone_checks()
     ensures { ConeChecks }
+{}
+
+/// A law: a step that can be numbered has a cone.
+pub fn cone_is_there()
+    ensures { ConeIsThere }
 {}
 
 /// A law: a step has one cone at most.

@@ -5,7 +5,7 @@ use Rattle.gp_clause.specs.declared.problem.Query.{Query}
 use Rattle.gp_clause.specs.Valuation.{Meets}
 use Rattle.gp_derivation.specs.declared.log.LogEntry.{LogEntry}
 use Rattle.gp_derivation.specs.declared.record.Turn.{Turn}
-use Rattle.gp_certificate.specs.Certificate.{Refutes}
+use Rattle.gp_derivation.specs.Cones.{RefutesByCone}
 use Rattle.gp_derivation.specs.Log.{IsLearned, IsTaken, LogPasses}
 use Rattle.gp_derivation.specs.Spent.{IsSpentOn}
 use Rattle.gp_search.specs.declared.verdict.Verdict.{Verdict}
@@ -59,13 +59,13 @@ pub record IsUsedUp (problem : Problem) (query : Query) (budget : ℕ) (log : Li
 -- another one on
 abbrev pub IsDue : Problem → Query → ℕ → List LogEntry → ℕ → ℕ → Verdict → Type 0
 IsDue problem query budget log begins learned (Model valuation) = Meets problem query valuation
-IsDue problem query budget log begins learned (Refuted certificate) = Refutes problem query certificate
+IsDue problem query budget log begins learned (Refuted last) = RefutesByCone problem query log last
 IsDue problem query budget log begins learned (Spent from to) = IsUsedUp problem query budget log begins learned from to
 
--- a verdict is a model or a certificate
+-- a verdict is a model or a refutation
 abbrev pub IsConclusive : Verdict → Type 0
 IsConclusive (Model valuation) = Unit {0}
-IsConclusive (Refuted certificate) = Unit {0}
+IsConclusive (Refuted last) = Unit {0}
 IsConclusive (Spent from to) = ⊥
 
 -- a verdict is conclusive where the budget is 3 to the number of variables or more

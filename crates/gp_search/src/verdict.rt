@@ -1,11 +1,11 @@
-use gp_certificate::Certificate;
+use gp_certificate::Step;
 use gp_clause::Valuation;
 
-/// The answer to a query: values and places, a certificate that refutes it, or a spent budget with the part of the log
-/// that was learned.
+/// The answer to a query: values and places; a step over the log, whose cone is a certificate that refutes the query; or a
+/// spent budget with the part of the log that was learned.
 #[derive(Debug, Drop)]
 pub enum Verdict {
     Model(Valuation),
-    Refuted(Certificate),
+    Refuted(Step),
     Spent { from: u32, to: u32 },
 }

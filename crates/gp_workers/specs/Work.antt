@@ -1,11 +1,15 @@
 -- What the workers of a window answer to its queries.
-use Rattle.std.specs.Prelude.{ℕ, ◌≡◌, ◌+◌, ◌-◌, ◌*◌, ◌≤◌, List, [], ◌∷◌, length, slice_get, All, IsSomeAnd}
+use Rattle.std.specs.Prelude.{ℕ, ◌≡◌, ◌+◌, ◌-◌, ◌*◌, ◌≤◌, List, [], ◌∷◌, Option, None, Some, length, slice_get, All, IsSomeAnd}
 use Rattle.gp_clause.specs.declared.problem.Problem.{Problem}
 use Rattle.gp_clause.specs.declared.problem.Query.{Query}
 use Rattle.gp_clause.specs.Problem.{IsValidProblem, IsValidQuery}
 use Rattle.gp_clause.specs.Valuation.{Meets}
 use Rattle.gp_derivation.specs.declared.record.WorkerRecord.{WorkerRecord}
-use Rattle.gp_certificate.specs.Certificate.{Refutes}
+use Rattle.gp_certificate.specs.declared.certificate.Certificate.{Certificate}
+use Rattle.gp_certificate.specs.declared.step.Step.{Step}
+use Rattle.gp_derivation.specs.declared.log.LogEntry.{LogEntry}
+use Rattle.gp_derivation.specs.Cones.{RefutesByCone, cone_of}
+use Rattle.gp_derivation.specs.Numbering.{CanBeNumbered}
 use Rattle.gp_derivation.specs.Spent.{HasTurnSpentOn}
 use Rattle.gp_clause.specs.Edge.{IsSolvable}
 use Rattle.gp_workers.specs.declared.work.WindowWork.{WindowWork}
@@ -18,10 +22,29 @@ pub record IsSpentBy (problem : Problem) (query : Query) (budget : ℕ) (workers
   pub counts : 1 ≤ worker
   pub own : IsSomeAnd (slice_get workers (worker - 1)) (λ own. HasTurnSpentOn problem query own ticket budget from to)
 
+-- the worker of this number, from 1, refutes a query by the cone of a step over its log
+pub record IsRefutedBy (problem : Problem) (query : Query) (workers : List WorkerRecord) (worker : ℕ) (last : Step) : Type 0 where
+  pub counts : 1 ≤ worker
+  pub own : IsSomeAnd (slice_get workers (worker - 1)) (λ own. RefutesByCone problem query own.log last)
+
+-- the cone of a step over the log of the worker of a number can be made
+pub record CanBeCertified (bases : ℕ) (workers : List WorkerRecord) (worker : ℕ) (last : Step) : Type 0 where
+  pub counts : 1 ≤ worker
+  pub own : IsSomeAnd (slice_get workers (worker - 1)) (λ own. CanBeNumbered bases own.log last)
+
+-- the log of a worker, if there is one
+abbrev pub log_in : Option WorkerRecord → List LogEntry
+log_in None = []
+log_in (Some own) = own.log
+
+-- the cone of a step over the log of the worker of a number
+abbrev pub certificate_by : ℕ → List WorkerRecord → ℕ → Step → Certificate
+certificate_by bases workers worker last = cone_of bases (log_in (slice_get workers (worker - 1))) last
+
 -- what an answer to the query with a ticket says
 abbrev pub IsAnswerTo : Problem → Query → ℕ → List WorkerRecord → ℕ → WorkAnswer → Type 0
 IsAnswerTo problem query budget workers ticket (Model valuation) = Meets problem query valuation
-IsAnswerTo problem query budget workers ticket (Refuted certificate) = Refutes problem query certificate
+IsAnswerTo problem query budget workers ticket (Refuted worker last) = IsRefutedBy problem query workers worker last
 IsAnswerTo problem query budget workers ticket (Spent worker from to) = IsSpentBy problem query budget workers ticket worker from to
 
 -- answers to queries, one for each in order, the first of which has this ticket

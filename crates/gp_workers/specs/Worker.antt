@@ -6,7 +6,7 @@ use Rattle.gp_clause.specs.declared.problem.Query.{Query}
 use Rattle.gp_clause.specs.Valuation.{Meets}
 use Rattle.gp_derivation.specs.declared.log.LogEntry.{LogEntry}
 use Rattle.gp_derivation.specs.declared.record.WorkerRecord.{WorkerRecord}
-use Rattle.gp_certificate.specs.Certificate.{Refutes}
+use Rattle.gp_derivation.specs.Cones.{RefutesByCone}
 use Rattle.gp_derivation.specs.Log.{LogPasses}
 use Rattle.gp_derivation.specs.Spent.{HasTurnSpentOn}
 use Rattle.gp_search.specs.declared.verdict.Verdict.{Verdict}
@@ -45,13 +45,13 @@ pub record TakesTurn (query : Query) (ticket budget : ℕ) (old new : Worker) (b
 -- what the worker of a number answers by a verdict of its search
 abbrev pub answer_by : ℕ → Verdict → WorkAnswer
 answer_by number (verdict.Model valuation) = answer.Model valuation
-answer_by number (verdict.Refuted certificate) = answer.Refuted certificate
+answer_by number (verdict.Refuted last) = answer.Refuted number last
 answer_by number (verdict.Spent from to) = answer.Spent number from to
 
 -- what an answer of the worker with this number and this record says of the query with a ticket
 abbrev pub IsAnswerBy : Problem → Query → ℕ → ℕ → WorkerRecord → ℕ → WorkAnswer → Type 0
 IsAnswerBy problem query budget number own ticket (answer.Model valuation) = Meets problem query valuation
-IsAnswerBy problem query budget number own ticket (answer.Refuted certificate) = Refutes problem query certificate
+IsAnswerBy problem query budget number own ticket (answer.Refuted worker last) = (worker ≡ number) × RefutesByCone problem query own.log last
 IsAnswerBy problem query budget number own ticket (answer.Spent worker from to) = (worker ≡ number) × HasTurnSpentOn problem query own ticket budget from to
 
 -- the answer to a ticket is an answer to the query of that place

@@ -6,6 +6,7 @@ pub mod Rehinting
 pub mod Coning
 pub mod Growing
 pub mod Staying
+pub mod Sweeping
 pub mod ConeParts
 pub mod LeavingOut
 pub mod Rooms

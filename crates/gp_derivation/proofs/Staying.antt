@@ -99,7 +99,7 @@ reached_longer : (bases : ℕ) (log more : List LogEntry) (hints : List ℕ) (pl
 reached_longer bases log more hints place (direct p by) = direct p by
 reached_longer bases log more hints place (through p other entry reached got by) = through p other entry (reached_longer bases log more hints other reached) (got_front log more other entry got) by
 
-reached_shorter : (bases : ℕ) (log more : List LogEntry) (hints : List ℕ) → AllNameEarlier bases log → All (λ hint. hint < bases + length log) hints
+pub reached_shorter : (bases : ℕ) (log more : List LogEntry) (hints : List ℕ) → AllNameEarlier bases log → All (λ hint. hint < bases + length log) hints
     → (place : ℕ) → IsReached bases (log ++ more) hints place → IsReached bases log hints place
 reached_shorter bases log more hints names within place (direct p by) = direct p by
 reached_shorter bases log more hints names within place (through p other entry reached got by) =

@@ -78,6 +78,10 @@ cone_of bases log last =
 abbrev pub ConeIsThere : Type 0
 ConeIsThere = (bases : ℕ) (log : List LogEntry) (last : Step) → CanBeNumbered bases log last → IsCone bases log last (cone_of bases log last)
 
+-- the cone of a step that can be numbered stays the same when the log grows at its end
+abbrev pub ConeOfStays : Type 0
+ConeOfStays = (bases : ℕ) (log more : List LogEntry) (last : Step) → CanBeNumbered bases log last → cone_of bases (log ++ more) last ≡ cone_of bases log last
+
 -- a step, by its cone, refutes a query
 pub record RefutesByCone (problem : Problem) (query : Query) (log : List LogEntry) (last : Step) : Type 0 where
   pub numbered : CanBeNumbered (length problem.clauses) log last

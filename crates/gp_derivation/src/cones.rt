@@ -1,5 +1,5 @@
 ghost use Rattle.std.specs.Prelude.{◌≡◌, ℕ, ◌+◌, ◌-◌, ◌<◌, ◌^◌, [], ◌∷◌, ◌++◌, Some, length, map, IfOk, OnOk, All, AllPairs, slice_get};
-ghost use Rattle.gp_derivation.specs.Cones.{IsCone, ConeChecks, ConeIsThere, ConeIsUnique, ConeStays, cone_step, steps_given};
+ghost use Rattle.gp_derivation.specs.Cones.{IsCone, ConeChecks, ConeIsThere, ConeIsUnique, ConeOfStays, ConeStays, cone_step, steps_given};
 ghost use Rattle.gp_derivation.specs.Numbering.{CanBeNumbered, IsNumberable, IsNumbered, number_beside, moved, with_hints, size_of};
 ghost use Rattle.gp_derivation.specs.Reach.{AreReached};
 ghost use Rattle.gp_certificate.specs.declared.step.Step.{Step};
@@ -72,6 +72,11 @@ pub fn cone_is_unique()
 /// A law: the cone of a step stays the same when the log grows.
 pub fn cone_stays()
     ensures { ConeStays }
+{}
+
+/// A law: the same of the cone as a function of the log.
+pub fn cone_of_stays()
+    ensures { ConeOfStays }
 {}
 
 // The steps of a cone so far, and the number of the last step of each entry that was passed.

@@ -14,7 +14,7 @@ mod room;
 mod tester;
 mod tightening;
 
-pub use cones::{cone, cone_checks, cone_is_there, cone_is_unique, cone_stays};
+pub use cones::{cone, cone_checks, cone_is_there, cone_is_unique, cone_of_stays, cone_stays};
 pub use exchange::{SharedClause, fit_is_good, good_follows};
 pub use fit::{fit_stays, small_cone};
 pub use log::{LogEntry, Origin, log_grows, pure_follows};

@@ -1,5 +1,5 @@
 -- The last steps of refutations, and their cones.
-use Rattle.std.proofs.Common.{◌≡◌, ◌≢◌, refl, sym, ◌∙◌, ap, subst, ℕ, zero, suc, ◌+◌, ◌<◌, ◌≤◌, ◌==◌, Bool, true, false, cond, not, Some, List, [], ◌∷◌, ◌++◌, length, All, Contains, sum_by, IsPermutation, inl, inr, arith}
+use Rattle.std.proofs.Common.{◌≡◌, ◌≢◌, refl, sym, ◌∙◌, ap, subst, ℕ, zero, suc, ◌+◌, ◌<◌, ◌≤◌, ◌^◌, ◌==◌, Bool, true, false, cond, not, Some, List, [], ◌∷◌, ◌++◌, length, All, Contains, sum_by, IsPermutation, inl, inr, arith}
 use Rattle.std.proofs.lemmas.Bool.{cases_eq, eq-eqb, ne_eqb}
 use Rattle.std.proofs.lemmas.Bool.Decides.{nat_tests}
 use Rattle.std.specs.List.{slice_get}
@@ -19,14 +19,15 @@ use Rattle.gp_derivation.specs.declared.log.Origin.TheVariants.{Learned, Taken}
 use Rattle.gp_certificate.specs.declared.step.Step.{Step}
 use Rattle.gp_derivation.specs.EarlierLaws.{all_earlier}
 use Rattle.gp_derivation.specs.Log.{IsLearned, LearnedPasses}
-use Rattle.gp_derivation.specs.Numbering.{CanBeNumbered, size_of, steps_by}
+use Rattle.gp_derivation.specs.Cones.{ConeChecks, ConeIsThere, RefutesByCone, cone_of, cone_step, cone_steps, is_needed}
+use Rattle.gp_derivation.specs.Numbering.{CanBeNumbered, number_of, size_of, steps_by}
 use Rattle.gp_sat.specs.declared.assigned.Assigned.{Assigned}
 use Rattle.gp_sat.specs.State.{SolverForm, assigned}
 use Rattle.gp_sat.specs.Standing.{IsFalse, Each}
 use Rattle.gp_sat.specs.Sound.{true_lit}
 use Rattle.gp_sat.specs.Learning.{IsLearned as Follows, IsDecided}
 use Rattle.gp_search.specs.declared.engine.Engine.{Engine}
-use Rattle.gp_search.specs.Inside.{all_kinds, IsTurning, IsAssuming, most_steps}
+use Rattle.gp_search.specs.Inside.{all_kinds, IsTurning, IsAssuming, IsWhole, most_steps}
 use Rattle.gp_base.specs.ListLaws.{all_from_contains}
 use Rattle.gp_search.proofs.LearnedSteps.{final_passes}
 use Rattle.gp_clause.specs.LitLaws.{opposite_twice}
@@ -47,18 +48,41 @@ few_steps (entry ∷ log) (suc from) small learned =
     let first : size_of entry ≤ 64 = All-head (λ (e : LogEntry). size_of e ≤ 64) entry log small in
     omega (arith, sum_by-cons size_of entry log, first, rest)
 
+-- behind the steps of a log there is a number for one more
+pub numbered_behind : (problem : Problem) (query : Query) (engine : Engine) → IsWhole problem query engine → length problem.clauses + sum_by size_of engine.log.items + 1 < 2 ^ 32
+numbered_behind problem query engine whole = omega (arith, few_steps engine.log.items engine.learned whole.log.small whole.log.learned, whole.few)
+
 -- a step whose hints name what stands in the log has a cone
 pub can_number : (problem : Problem) (query : Query) (engine : Engine) (bases : ℕ) (log : List LogEntry) (step : Step) → IsTurning problem query engine → bases ≡ length problem.clauses → log ≡ engine.log.items
     → All (λ hint. hint < length problem.clauses + length engine.log.items) step.hints → CanBeNumbered bases log step
 can_number problem query engine bases log step turning counted same hints =
     let P : ℕ → Type 0 = λ n. CanBeNumbered n log step in
     let Q : List LogEntry → Type 0 = λ xs. CanBeNumbered (length problem.clauses) xs step in
-    let sizes : sum_by size_of engine.log.items ≤ most_steps engine.log.items engine.learned = few_steps engine.log.items engine.learned turning.whole.log.small turning.whole.log.learned in
     subst P (sym counted) (subst Q (sym same) (record {
       entries = all_earlier problem query.locals engine.log.items engine.begins turning.whole.log.passes;
       hints = hints;
-      few = omega (arith, sizes, turning.whole.few);
+      few = numbered_behind problem query engine turning.whole;
     }))
+
+-- a step that passes at the end of a log, and has negated assumptions alone, refutes the query by its cone
+pub refutes_by_cone : ConeIsThere → ConeChecks → (problem : Problem) (query : Query) (engine : Engine) (last : Step) → IsTurning problem query engine → LearnedPasses problem query.locals engine.log.items engine.begins (length engine.log.items) last
+    → All (λ lit. Contains query.assumed (opposite lit)) last.clause → RefutesByCone problem query engine.log.items last
+refutes_by_cone there checks problem query engine last turning passes negated = record {
+  numbered = numbered;
+  refutes = record {
+    checks = checks problem query engine.log.items engine.begins last (cone_of bases engine.log.items last) turning.whole.valid turning.whole.log.passes passes (there bases engine.log.items last numbered);
+    ends = (cone_step bases (number_of bases kept engine.log.items) last, (cone_steps bases kept engine.log.items (length engine.log.items), refl), negated);
+  };
+}
+  where
+    bases : ℕ
+    bases = length problem.clauses
+
+    kept : ℕ → Bool
+    kept = is_needed bases engine.log.items last.hints
+
+    numbered : CanBeNumbered bases engine.log.items last
+    numbered = can_number problem query engine bases engine.log.items last turning refl refl passes.hints
 
 -- how often a literal counts for a variable
 abbrev counted : ℕ → Lit → ℕ

@@ -18,6 +18,7 @@ use Rattle.gp_search.specs.Inside.{IsWhole, IsTurning, turn_from}
 use Rattle.gp_search.specs.Mail.{MailForm, Offers, SharesWith, taken_entry}
 use Rattle.gp_search.specs.Moves.{Adds, AddsFew, AddsFewAndOffers, GrowsAndShares, HasGivenAll, IsGrown, KeepsLog, LearnsOne, OffersAll, TakesAll, TakesSome}
 use Rattle.gp_search.specs.Verdict.{IsUsedUp, Learns, LearnsAndShares}
+use Rattle.gp_search.proofs.Refuting.{numbered_behind}
 
 -- at first nothing was added
 unfoldable pub adds_none : (engine : Engine) → Adds 0 engine engine
@@ -171,6 +172,7 @@ learns problem query budget old new whole begins grown = record {
   place = grown.learned ∙ ap (λ (n : ℕ). length old.log.items + n) (sym (length-map grown.gave taken_entry));
   few_taken = let same : length (map taken_entry grown.gave) ≡ length grown.gave = length-map grown.gave taken_entry in omega (arith, same, grown.few_taken);
   few = grown.few;
+  numbered = numbered_behind problem query new whole;
 }
   where
     front : List LogEntry

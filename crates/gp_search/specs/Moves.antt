@@ -10,7 +10,7 @@ use Rattle.gp_certificate.specs.declared.certificate.Certificate.{Certificate}
 use Rattle.gp_derivation.specs.declared.exchange.SharedClause.{SharedClause}
 use Rattle.gp_derivation.specs.declared.log.LogEntry.{LogEntry}
 use Rattle.gp_certificate.specs.declared.step.Step.{Step}
-use Rattle.gp_certificate.specs.Certificate.{Refutes}
+use Rattle.gp_derivation.specs.Cones.{RefutesByCone}
 use Rattle.gp_derivation.specs.Fit.{IsFit}
 use Rattle.gp_derivation.specs.Log.{LearnedPasses, logged}
 use Rattle.gp_derivation.specs.Spent.{IsNewBy, turned}
@@ -170,15 +170,15 @@ pub record DecidesNext (old new : SolverForm) : Type 0 where
   pub next : IsNextFree old lit.variable
   pub decided : new ≡ with_literal old lit (old.level + 1) None
 
--- a verdict other than a spent budget is right
-abbrev pub IsRightVerdict : Problem → Query → Verdict → Type 0
-IsRightVerdict problem query (Model valuation) = Meets problem query valuation
-IsRightVerdict problem query (Refuted certificate) = Refutes problem query certificate
-IsRightVerdict problem query (Spent from to) = ⊥
+-- a verdict other than a spent budget is right beside a log
+abbrev pub IsRightVerdict : Problem → Query → List LogEntry → Verdict → Type 0
+IsRightVerdict problem query log (Model valuation) = Meets problem query valuation
+IsRightVerdict problem query log (Refuted last) = RefutesByCone problem query log last
+IsRightVerdict problem query log (Spent from to) = ⊥
 
 -- a descent ended with a verdict, or with a conflict above the levels of the assumptions
 abbrev pub IsEnded : Problem → Query → Engine → Descent → Type 0
-IsEnded problem query engine (Ended verdict) = IsRightVerdict problem query verdict
+IsEnded problem query engine (Ended verdict) = IsRightVerdict problem query engine.log.items verdict
 IsEnded problem query engine (Stuck conflict) = IsConflict problem query engine.solver conflict.lits.items conflict.number × (engine.assumed < engine.solver.level)
 
 -- so many entries came to the end of the log

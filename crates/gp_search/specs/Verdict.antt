@@ -1,5 +1,6 @@
 -- What a search answers.
 use Rattle.std.specs.Prelude.{◌≡◌, ℕ, ◌+◌, ◌*◌, ◌^◌, ◌<◌, ◌≤◌, Option, List, ◌++◌, length, All}
+use Rattle.std.specs.List.{sum_by}
 use Rattle.gp_clause.specs.declared.problem.Problem.{Problem}
 use Rattle.gp_clause.specs.declared.problem.Query.{Query}
 use Rattle.gp_clause.specs.Valuation.{Meets}
@@ -7,6 +8,7 @@ use Rattle.gp_derivation.specs.declared.log.LogEntry.{LogEntry}
 use Rattle.gp_derivation.specs.declared.record.Turn.{Turn}
 use Rattle.gp_derivation.specs.Cones.{RefutesByCone}
 use Rattle.gp_derivation.specs.Log.{IsLearned, IsTaken, LogPasses}
+use Rattle.gp_derivation.specs.Numbering.{size_of}
 use Rattle.gp_derivation.specs.Spent.{IsSpentOn}
 use Rattle.gp_search.specs.declared.verdict.Verdict.{Verdict}
 use Rattle.gp_search.specs.declared.verdict.Verdict.TheVariants.{Model, Refuted, Spent}
@@ -32,12 +34,14 @@ pub record Grows (problem : Problem) (query : Query) (old new : List LogEntry) :
   pub learned : All (λ (entry : LogEntry). IsLearned entry.origin) added
   pub passes : LogPasses problem query.locals new (length old)
 
--- the log grew by at most 256 taken entries, and by as many learned ones as the budget at most, which stand from a place on
+-- the log grew by at most 256 taken entries, and by as many learned ones as the budget at most, which stand from a place on;
+-- and behind all steps that its entries stand for there is a number for one more
 pub record Learns (problem : Problem) (query : Query) (budget : ℕ) (old new : List LogEntry) (from : ℕ) : Type 0 where
   pub grows : Grows problem query old new
   pub place : from ≡ length old + length grows.taken
   pub few_taken : length grows.taken ≤ 256
   pub few : length grows.added ≤ budget
+  pub numbered : length problem.clauses + sum_by size_of new + 1 < 2 ^ 32
 
 -- the log grew so, and what the turn took and learned is what the mail told before and after it
 pub record LearnsAndShares (problem : Problem) (query : Query) (budget : ℕ) (old new : List LogEntry) (from : ℕ) (before after : Option MailForm) : Type 0 where

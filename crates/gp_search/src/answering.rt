@@ -1,7 +1,7 @@
 ghost use Rattle.std.specs.Prelude.{◌≡◌, ◌+◌, ◌<◌, ◌≤◌, length, IfOk, All, Contains, Some};
 ghost use Rattle.gp_clause.specs.Lit.{opposite};
 ghost use Rattle.gp_clause.specs.Valuation.{Meets};
-ghost use Rattle.gp_certificate.specs.Certificate.{Refutes};
+ghost use Rattle.gp_derivation.specs.Cones.{RefutesByCone};
 ghost use Rattle.gp_derivation.specs.Log.{LearnedPasses};
 ghost use Rattle.gp_sat.specs.State.{assigned};
 ghost use Rattle.gp_sat.specs.Learning.{IsFinal};
@@ -13,54 +13,56 @@ use crate::asked::Asked;
 use crate::engine::{Conflict, Engine};
 use crate::lesson::add_number;
 use gp_base::Row;
-use gp_certificate::{Certificate, Step};
+use gp_certificate::Step;
 use gp_clause::{Clause, Lit, Valuation, true_or_false};
-use gp_derivation::{cone, cone_checks};
+use gp_derivation::{cone_checks, cone_is_there};
 use gp_sat::Learned;
 use std::alloc::AllocError;
 
 impl Engine {
-    // The certificate of a conflict while every decision is an assumption.
+    // The last step of a refutation by a conflict while every decision is an assumption.
     pub(crate) fn refute(
         &mut self,
         asked: &Asked<'_>,
         conflict: &Conflict,
-    ) -> Result<Certificate, AllocError>
+    ) -> Result<Step, AllocError>
         requires turning { IsTurning asked.now.problem.now asked.now.query.now self.old }
         requires conflict { IsConflict asked.now.problem.now asked.now.query.now self.old.solver conflict.now.lits.items conflict.now.number }
         requires low { self.old.solver.level ≤ self.old.assumed }
         ensures same { self.new ≡ self.old }
-        ensures refutes { IfOk result (Refutes asked.now.problem.now asked.now.query.now) }
+        ensures refutes { IfOk result (RefutesByCone asked.now.problem.now asked.now.query.now self.new.log.items) }
     {
         let learned = self.analyse_final(conflict.lits.as_slice())?;
-        let step = Step {
+        let last = Step {
             clause: learned.clause,
             hints: add_number(learned.hints, conflict.number)?,
         };
-        self.certify(asked, &step)
+        self.certify(asked, &last);
+        Ok(last)
     }
 
-    // The certificate of an assumption that is false while every decision is an assumption.
+    // The last step of a refutation by an assumption that is false while every decision is an assumption.
     pub(crate) fn refute_assumption(
         &mut self,
         asked: &Asked<'_>,
         lit: Lit,
-    ) -> Result<Certificate, AllocError>
+    ) -> Result<Step, AllocError>
         requires turning { IsTurning asked.now.problem.now asked.now.query.now self.old }
         requires assumed { Contains asked.now.query.now.assumed lit }
         requires fell { IsFalse (assigned self.old.solver) lit }
         requires low { self.old.solver.level ≤ self.old.assumed }
         ensures same { self.new ≡ self.old }
-        ensures refutes { IfOk result (Refutes asked.now.problem.now asked.now.query.now) }
+        ensures refutes { IfOk result (RefutesByCone asked.now.problem.now asked.now.query.now self.new.log.items) }
     {
         let learned = self.analyse_final(&[lit])?;
         let mut lits = learned.clause.into_vec();
         lits.push(lit.negated())?;
-        let step = Step {
+        let last = Step {
             clause: Clause::of(lits).unwrap(),
             hints: learned.hints,
         };
-        self.certify(asked, &step)
+        self.certify(asked, &last);
+        Ok(last)
     }
 
     // The negated decisions that a conflict rests on.
@@ -72,20 +74,15 @@ impl Engine {
         self.solver.analyse_final(conflict)
     }
 
-    // The cone of a step that has negated assumptions alone.
-    fn certify(&self, asked: &Asked<'_>, step: &Step) -> Result<Certificate, AllocError>
+    // A step that has negated assumptions alone refutes the query by its cone, which is not made here.
+    fn certify(&self, asked: &Asked<'_>, last: &Step)
         requires turning { IsTurning asked.now.problem.now asked.now.query.now self.now }
-        requires passes { LearnedPasses asked.now.problem.now asked.now.query.now.locals self.now.log.items self.now.begins (length self.now.log.items) step.now }
-        requires negated { All (λ lit. Contains asked.now.query.now.assumed (opposite lit)) step.now.clause }
-        ensures { IfOk result (Refutes asked.now.problem.now asked.now.query.now) }
+        requires passes { LearnedPasses asked.now.problem.now asked.now.query.now.locals self.now.log.items self.now.begins (length self.now.log.items) last.now }
+        requires negated { All (λ lit. Contains asked.now.query.now.assumed (opposite lit)) last.now.clause }
+        ensures { RefutesByCone asked.now.problem.now asked.now.query.now self.now.log.items last.now }
     {
+        cone_is_there();
         cone_checks();
-        cone(
-            *self.log.allocator(),
-            asked.problem.clauses.len() as u32,
-            self.log.as_slice(),
-            step,
-        )
     }
 
     // The values of the trail, and the places of the graph.

@@ -21,7 +21,7 @@ impl Engine {
         requires settled { IsSettled self.old }
         ensures turning { IsTurning asked.now.problem.now asked.now.query.now self.new }
         ensures same { KeepsLog self.old self.new }
-        ensures found { IfOk result (λ found. MatchOption found (GoesFurther self.old.solver self.new.solver) (IsRightVerdict asked.now.problem.now asked.now.query.now)) }
+        ensures found { IfOk result (λ found. MatchOption found (GoesFurther self.old.solver self.new.solver) (IsRightVerdict asked.now.problem.now asked.now.query.now self.new.log.items)) }
     {
         match self.open_assumption(asked) {
             Some(lit) => self.assume(asked, lit),
@@ -65,11 +65,11 @@ impl Engine {
         requires next { IsOpen asked.now.query.now.assumed self.old.solver lit }
         ensures turning { IsTurning asked.now.problem.now asked.now.query.now self.new }
         ensures same { KeepsLog self.old self.new }
-        ensures found { IfOk result (λ found. MatchOption found (GoesFurther self.old.solver self.new.solver) (IsRightVerdict asked.now.problem.now asked.now.query.now)) }
+        ensures found { IfOk result (λ found. MatchOption found (GoesFurther self.old.solver self.new.solver) (IsRightVerdict asked.now.problem.now asked.now.query.now self.new.log.items)) }
     {
         if self.solver.value(lit.variable).is_some() {
-            let certificate = self.refute_assumption(asked, lit)?;
-            return Ok(Some(Verdict::Refuted(certificate)));
+            let last = self.refute_assumption(asked, lit)?;
+            return Ok(Some(Verdict::Refuted(last)));
         }
         self.begin_level(asked, lit)?;
         self.assumed = self.solver.level();
@@ -103,7 +103,7 @@ impl Engine {
         ensures turning { IsTurning asked.now.problem.now asked.now.query.now self.new }
         ensures same { KeepsLog self.old self.new }
         ensures first { IfOk result (λ found. MatchOption found (DecidesNext self.old.solver self.new.solver) (λ _. IsFull self.old.solver)) }
-        ensures found { IfOk result (λ found. MatchOption found (GoesFurther self.old.solver self.new.solver) (IsRightVerdict asked.now.problem.now asked.now.query.now)) }
+        ensures found { IfOk result (λ found. MatchOption found (GoesFurther self.old.solver self.new.solver) (IsRightVerdict asked.now.problem.now asked.now.query.now self.new.log.items)) }
     {
         match self.free_variable() {
             None => Ok(Some(Verdict::Model(self.model(asked)?))),

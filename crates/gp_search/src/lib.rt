@@ -1,5 +1,5 @@
 // One search over a problem. It answers one query after another: with values and places that meet the problem and the
-// query, with a certificate that refutes the query, or with as many learned clauses as the query's budget allows. The
+// query, with a step whose cone refutes the query, or with as many learned clauses as the query's budget allows. The
 // assumptions of a query are its first decisions. The solver's trail and the difference graph go along: each literal of
 // the trail that bounds two places is a bound of the graph, and a negative cycle is a conflict of such literals. What is
 // learned at a query is made tight and logged with its hints, and what rests on the problem alone serves the queries

@@ -126,8 +126,8 @@ impl Engine {
                 if self.assumed < self.solver.level() {
                     return Ok(Descent::Conflict(conflict));
                 }
-                let certificate = self.refute(asked, &conflict)?;
-                return Ok(Descent::Verdict(Verdict::Refuted(certificate)));
+                let last = self.refute(asked, &conflict)?;
+                return Ok(Descent::Verdict(Verdict::Refuted(last)));
             }
             if let Some(verdict) = self.decide(asked)? {
                 return Ok(Descent::Verdict(verdict));

@@ -34,8 +34,8 @@ returns-clause-found c =
     (named_within c.args.asked.now.problem.now c.args.asked.now.query.now c.args.self.now c.args.lit c.requires.turning c.requires.next.0)
     (unassigned (assigned c.args.self.now.solver c.args.lit.variable) c.value.result c.is_some.result c.value.ensures c.is_some.ensures c.if-is_some.false)
 
-pub returns-in_err-certificate-clause-turning : goal.returns-in_err-certificate-clause-turning
-returns-in_err-certificate-clause-turning c = subst (λ (e : Engine). IsTurning c.args.asked.now.problem.now c.args.asked.now.query.now e) (sym c.refute_assumption.ensures.same) c.requires.turning
+pub returns-in_err-last-clause-turning : goal.returns-in_err-last-clause-turning
+returns-in_err-last-clause-turning c = subst (λ (e : Engine). IsTurning c.args.asked.now.problem.now c.args.asked.now.query.now e) (sym c.refute_assumption.ensures.same) c.requires.turning
 
-pub returns-in_err-certificate-clause-same : goal.returns-in_err-certificate-clause-same
-returns-in_err-certificate-clause-same c = keeps_same c.args.self.now c.refute_assumption.new.self c.refute_assumption.ensures.same
+pub returns-in_err-last-clause-same : goal.returns-in_err-last-clause-same
+returns-in_err-last-clause-same c = keeps_same c.args.self.now c.refute_assumption.new.self c.refute_assumption.ensures.same

@@ -17,7 +17,7 @@ returns-in-Some-clause-same c = keeps_on c.args.self.now c.open_assumption.new.s
 
 pub returns-in-Some-clause-found : goal.returns-in-Some-clause-found
 returns-in-Some-clause-found c =
-    let P : SolverForm → Type 0 = λ s. IfOk c.assume.result (λ found. MatchOption found (GoesFurther s c.assume.new.self.solver) (IsRightVerdict c.args.asked.now.problem.now c.args.asked.now.query.now)) in
+    let P : SolverForm → Type 0 = λ s. IfOk c.assume.result (λ found. MatchOption found (GoesFurther s c.assume.new.self.solver) (IsRightVerdict c.args.asked.now.problem.now c.args.asked.now.query.now c.assume.new.self.log.items)) in
     subst P (ap (λ (e : Engine). e.solver) c.open_assumption.ensures.same) c.assume.ensures.found
 
 pub returns-in-None-clause-same : goal.returns-in-None-clause-same
@@ -25,5 +25,5 @@ returns-in-None-clause-same c = keeps_on c.args.self.now c.open_assumption.new.s
 
 pub returns-in-None-clause-found : goal.returns-in-None-clause-found
 returns-in-None-clause-found c =
-    let P : SolverForm → Type 0 = λ s. IfOk c.fill.result (λ found. MatchOption found (GoesFurther s c.fill.new.self.solver) (IsRightVerdict c.args.asked.now.problem.now c.args.asked.now.query.now)) in
+    let P : SolverForm → Type 0 = λ s. IfOk c.fill.result (λ found. MatchOption found (GoesFurther s c.fill.new.self.solver) (IsRightVerdict c.args.asked.now.problem.now c.args.asked.now.query.now c.fill.new.self.log.items)) in
     subst P (ap (λ (e : Engine). e.solver) c.open_assumption.ensures.same) c.fill.ensures.found

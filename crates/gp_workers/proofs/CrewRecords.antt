@@ -9,6 +9,7 @@ use Rattle.std.proofs.lemmas.List.Sorted.{All-permutation, IsPermutation-map, Is
 use Rattle.gp_clause.specs.declared.problem.Problem.{Problem}
 use Rattle.gp_clause.specs.declared.problem.Query.{Query}
 use Rattle.gp_derivation.specs.declared.record.WorkerRecord.{WorkerRecord}
+use Rattle.gp_derivation.specs.Cones.{RefutesByCone}
 use Rattle.gp_derivation.specs.Spent.{HasTurnSpentOn}
 use Rattle.gp_tickets.specs.declared.drawn.Made.{Made}
 use Rattle.gp_workers.specs.declared.crew.Gathered.{Gathered}
@@ -41,7 +42,11 @@ last_has P (first ∷ xs) x is = last_has P xs x is
 own_answer : (problem : Problem) (query : Query) (budget : ℕ) (before : List WorkerRecord) (own : WorkerRecord) (ticket : ℕ) (answer : WorkAnswer) → IsAnswerBy problem query budget (length before + 1) own ticket answer
     → IsAnswerTo problem query budget (before ++ own ∷ []) ticket answer
 own_answer problem query budget before own ticket (answer.Model valuation) is = is
-own_answer problem query budget before own ticket (answer.Refuted certificate) is = is
+own_answer problem query budget before own ticket (answer.Refuted worker last) is =
+    let place : length before ≡ worker - 1 = omega (arith, is.0) in record {
+      counts = omega (arith, is.0);
+      own = subst (λ (n : ℕ). IsSomeAnd (slice_get (before ++ own ∷ []) n) (λ one. RefutesByCone problem query one.log last)) place (last_has (λ one. RefutesByCone problem query one.log last) before own is.1);
+    }
 own_answer problem query budget before own ticket (answer.Spent worker from to) is =
     let place : length before ≡ worker - 1 = omega (arith, is.0) in record {
       counts = omega (arith, is.0);
@@ -52,7 +57,10 @@ own_answer problem query budget before own ticket (answer.Spent worker from to) 
 -- and it stays one when more records come
 kept_answer : (problem : Problem) (query : Query) (budget : ℕ) (before more : List WorkerRecord) (ticket : ℕ) (answer : WorkAnswer) → IsAnswerTo problem query budget before ticket answer → IsAnswerTo problem query budget (before ++ more) ticket answer
 kept_answer problem query budget before more ticket (answer.Model valuation) is = is
-kept_answer problem query budget before more ticket (answer.Refuted certificate) is = is
+kept_answer problem query budget before more ticket (answer.Refuted worker last) is = record {
+  counts = is.counts;
+  own = longer_has (λ one. RefutesByCone problem query one.log last) before more (worker - 1) is.own;
+}
 kept_answer problem query budget before more ticket (answer.Spent worker from to) is = record {
   counts = is.counts;
   own = longer_has (λ one. HasTurnSpentOn problem query one ticket budget from to) before more (worker - 1) is.own;

@@ -12,6 +12,7 @@ use Rattle.gp_derivation.specs.declared.exchange.SharedClause.{SharedClause}
 use Rattle.gp_derivation.specs.declared.log.LogEntry.{LogEntry}
 use Rattle.gp_derivation.specs.declared.record.Turn.{Turn}
 use Rattle.gp_derivation.specs.declared.record.WorkerRecord.{WorkerRecord}
+use Rattle.gp_derivation.specs.Cones.{RefutesByCone}
 use Rattle.gp_derivation.specs.Spent.{HasTurnSpentOn}
 use Rattle.gp_inbox.specs.declared.inbox.Inbox.{Inbox}
 use Rattle.gp_inbox.specs.declared.rule.View.{View}
@@ -42,7 +43,7 @@ use Rattle.gp_workers.proofs.DeskPasses.{passes_know}
 same_answer : (problem : Problem) (query : Query) (budget number : ℕ) (old new : WorkerRecord) (ticket : ℕ) (answer : WorkAnswer) → new.log ≡ old.log → new.turns ≡ old.turns
     → IsAnswerBy problem query budget number old ticket answer → IsAnswerBy problem query budget number new ticket answer
 same_answer problem query budget number old new ticket (answer.Model valuation) logs turns is = is
-same_answer problem query budget number old new ticket (answer.Refuted certificate) logs turns is = is
+same_answer problem query budget number old new ticket (answer.Refuted worker last) logs turns is = (is.0, subst (λ (log : List LogEntry). RefutesByCone problem query log last) (sym logs) is.1)
 same_answer problem query budget number old new ticket (answer.Spent worker from to) logs turns is = (
   is.0,
   subst (λ (own : List LogEntry × List Turn). HasTurnSpentOn problem query (record { log = own.0; turns = own.1; offered = new.offered }) ticket budget from to) (λ i. (sym logs i, sym turns i)) is.1,

@@ -1,5 +1,5 @@
 -- How far one worker has come with the tickets that it draws.
-use Rattle.std.proofs.Common.{◌≡◌, refl, sym, ◌∙◌, ap, subst, ℕ, ◌+◌, ◌-◌, ◌*◌, ◌<◌, ◌≤◌, Bool, false, Option, None, Some, List, [], ◌∷◌, ◌++◌, length, map, All, append_assoc, arith}
+use Rattle.std.proofs.Common.{◌≡◌, refl, sym, ◌∙◌, ap, subst, ℕ, ◌+◌, ◌-◌, ◌*◌, ◌^◌, ◌<◌, ◌≤◌, Bool, false, Option, None, Some, List, [], ◌∷◌, ◌++◌, length, map, All, sum_by, append_assoc, arith}
 use Rattle.std.specs.Prelude.{IsSomeAnd}
 use Rattle.std.specs.List.{slice_get}
 use Rattle.std.proofs.Math.Nat.{suc-mul}
@@ -15,7 +15,10 @@ use Rattle.gp_derivation.specs.declared.record.Turn.{Turn}
 use Rattle.gp_derivation.specs.declared.record.WorkerRecord.{WorkerRecord}
 use Rattle.gp_certificate.specs.Certificate.{CertificateFollows}
 use Rattle.gp_base.specs.ListLaws.{got_all, slice_get_back, slice_get_front}
+use Rattle.gp_derivation.specs.Cones.{ConeOfStays}
+use Rattle.gp_derivation.specs.EarlierLaws.{all_earlier}
 use Rattle.gp_derivation.specs.Log.{IsLearned, IsTaken}
+use Rattle.gp_derivation.specs.Numbering.{AllNameEarlier, size_of}
 use Rattle.gp_tickets.specs.TicketLaws.{single_has_drawn}
 use Rattle.gp_derivation.specs.FitStaying.{FitStays}
 use Rattle.gp_derivation.specs.Spent.{SpentStays}
@@ -127,13 +130,13 @@ grows_so problem query budget ticket old new from learns = record {
     longer = ap (λ (es : List LogEntry). length es) learns.grows.longer ∙ length-append (old ++ taken) added
 
 -- an answer to one ticket more
-one_answer_more : SpentStays → FitStays → (problem : Problem) (queries : List Query) (budget : ℕ) (drawn : List ℕ) (query : Query) (ticket : ℕ) (old new : Worker) (answers : List (Made WorkAnswer)) (answer : WorkAnswer) (may : Bool) (before after : Option MailForm)
+one_answer_more : SpentStays → ConeOfStays → FitStays → (problem : Problem) (queries : List Query) (budget : ℕ) (drawn : List ℕ) (query : Query) (ticket : ℕ) (old new : Worker) (answers : List (Made WorkAnswer)) (answer : WorkAnswer) (may : Bool) (before after : Option MailForm)
     → HasWorked problem queries budget drawn old answers before → slice_get queries ticket ≡ Some query → TakesTurn query ticket budget old new before after → TellsOrGivesNone may before → (may ≡ false → new.search.learned ≡ length old.search.log)
     → IsAnswerBy problem query budget old.number (record_of new) ticket answer → HasWorked problem queries budget (drawn ++ ticket ∷ []) new (answers ++ record { number = ticket; value = answer } ∷ []) after
-one_answer_more stays fit problem queries budget drawn query ticket old new answers answer may before after worked at took gives quiet is = record {
+one_answer_more spent cone fit problem queries budget drawn query ticket old new answers answer may before after worked at took gives quiet is = record {
   searches = took.problem ∙ worked.searches;
   answered = subst (λ (n : ℕ). All (AnswersOwn problem queries budget n (record_of new)) (answers ++ answered ∷ [])) (sym took.number)
-      (All-push (AnswersOwn problem queries budget old.number (record_of new)) answers answered (answers_stay stays problem queries budget old.number (record_of old) (record_of new) answers on worked.answered)
+      (All-push (AnswersOwn problem queries budget old.number (record_of new)) answers answered (answers_stay spent cone problem queries budget old.number (record_of old) (record_of new) answers on worked.answered)
       (subst (λ o. IsSomeAnd o (λ one. IsAnswerBy problem one budget old.number (record_of new) ticket answer)) (sym at) is));
   told = map-append (λ (one : Made WorkAnswer). one.number) answers (answered ∷ []) ∙ ap (λ (ns : List ℕ). ns ++ ticket ∷ []) worked.told;
   tickets = ap (λ (ts : List Turn). map (λ (turn : Turn). turn.ticket) ts) took.turns ∙ map-append (λ (turn : Turn). turn.ticket) old.turns.items (turn ∷ []) ∙ ap (λ (ns : List ℕ). ns ++ ticket ∷ []) worked.tickets;
@@ -153,8 +156,15 @@ one_answer_more stays fit problem queries budget drawn query ticket old new answ
     learns : Learns old.search.problem query budget old.search.log new.search.log new.search.learned
     learns = took.log.learns
 
-    on : GoesOn (record_of old) (record_of new)
-    on = record { added = learns.grows.taken ++ learns.grows.added; log = learns.grows.longer ∙ append_assoc old.search.log learns.grows.taken learns.grows.added; turn = turn; turns = took.turns }
+    on : GoesOn problem (record_of old) (record_of new)
+    on = record {
+      added = learns.grows.taken ++ learns.grows.added;
+      log = learns.grows.longer ∙ append_assoc old.search.log learns.grows.taken learns.grows.added;
+      earlier = subst (λ (p : Problem). AllNameEarlier (length p.clauses) new.search.log) worked.searches (all_earlier old.search.problem query.locals new.search.log (length old.search.log) learns.grows.passes);
+      few = subst (λ (p : Problem). length p.clauses + sum_by size_of new.search.log + 1 < 2 ^ 32) worked.searches learns.numbered;
+      turn = turn;
+      turns = took.turns;
+    }
 
     before_it : TurnsCover new.search.log 0 (length old.search.log) old.turns.items
     before_it = subst (λ (es : List LogEntry). TurnsCover es 0 (length old.search.log) old.turns.items) (sym on.log)
@@ -165,14 +175,14 @@ one_answer_more stays fit problem queries budget drawn query ticket old new answ
         (subst (λ (p : Problem). LearnsAndShares p query budget old.search.log new.search.log new.search.learned before after) worked.searches took.log) gives quiet worked.shares
 
 -- then one ticket more is answered
-pub one_more : SpentStays → FitStays → (problem : Problem) (queries : List Query) (budget : ℕ) (drawn now : List ℕ) (query : Query) (ticket : ℕ) (old new : Worker) (answers all : List (Made WorkAnswer)) (answer : WorkAnswer) (may : Bool) (before after : Option MailForm)
+pub one_more : SpentStays → ConeOfStays → FitStays → (problem : Problem) (queries : List Query) (budget : ℕ) (drawn now : List ℕ) (query : Query) (ticket : ℕ) (old new : Worker) (answers all : List (Made WorkAnswer)) (answer : WorkAnswer) (may : Bool) (before after : Option MailForm)
     → now ≡ drawn ++ ticket ∷ [] → all ≡ answers ++ record { number = ticket; value = answer } ∷ [] → slice_get queries ticket ≡ Some query
     → HasWorked problem queries budget drawn old answers before → TakesTurn query ticket budget old new before after → TellsOrGivesNone may before → (may ≡ false → new.search.learned ≡ length old.search.log)
     → IsAnswerBy old.search.problem query budget old.number (record_of new) ticket answer → HasWorked problem queries budget now new all after
-one_more stays fit problem queries budget drawn now query ticket old new answers all answer may before after longer pushed at worked took gives quiet is =
+one_more spent cone fit problem queries budget drawn now query ticket old new answers all answer may before after longer pushed at worked took gives quiet is =
     subst (λ (ns : List ℕ). HasWorked problem queries budget ns new all after) (sym longer)
     (subst (λ (rs : List (Made WorkAnswer)). HasWorked problem queries budget (drawn ++ ticket ∷ []) new rs after) (sym pushed)
-    (one_answer_more stays fit problem queries budget drawn query ticket old new answers answer may before after worked at took gives quiet (subst (λ (p : Problem). IsAnswerBy p query budget old.number (record_of new) ticket answer) worked.searches is)))
+    (one_answer_more spent cone fit problem queries budget drawn query ticket old new answers answer may before after worked at took gives quiet (subst (λ (p : Problem). IsAnswerBy p query budget old.number (record_of new) ticket answer) worked.searches is)))
 
 -- what a worker hands back is a record
 is_record : CertificateFollows → (problem : Problem) (queries : List Query) (budget : ℕ) (drawn : List ℕ) (worker : Worker) (answers : List (Made WorkAnswer)) (told : Option MailForm) → IsValidProblem problem → HasWorked problem queries budget drawn worker answers told

@@ -5,7 +5,7 @@ ghost use Rattle.gp_workers.specs.Work.{CanBeCertified, certificate_by};
 use gp_base::Row;
 use gp_certificate::{Certificate, Step};
 use gp_clause::Valuation;
-use gp_derivation::{WorkerRecord, cone};
+use gp_derivation::{WorkerRecord, cone, cone_is_there, cone_is_unique};
 use gp_inbox::Pass;
 use std::alloc::{AllocError, Global};
 
@@ -42,6 +42,8 @@ pub fn certificate_by(
     requires { CanBeCertified base_clauses records.now worker last.now }
     ensures { IfOk result (λ certificate. certificate ≡ certificate_by base_clauses records.now worker last.now) }
 {
+    cone_is_there();
+    cone_is_unique();
     let own = &records[(worker - 1) as usize];
     cone(alloc, base_clauses, own.log.as_slice(), last)
 }

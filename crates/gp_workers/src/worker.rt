@@ -15,7 +15,7 @@ use crate::work::WorkAnswer;
 use gp_base::Row;
 use gp_certificate::certificate_follows;
 use gp_clause::{Problem, Query};
-use gp_derivation::{Turn, WorkerRecord, fit_stays, spent_stays};
+use gp_derivation::{Turn, WorkerRecord, cone_of_stays, fit_stays, spent_stays};
 use gp_outside::Gate;
 use gp_search::{Mail, Search, Verdict};
 use gp_tickets::{Drawer, Drawn, Made};
@@ -106,7 +106,10 @@ fn answer_of(number: u32, verdict: Verdict) -> WorkAnswer
 {
     match verdict {
         Verdict::Model(valuation) => WorkAnswer::Model(valuation),
-        Verdict::Refuted(certificate) => WorkAnswer::Refuted(certificate),
+        Verdict::Refuted(last) => WorkAnswer::Refuted {
+            worker: number,
+            last,
+        },
         Verdict::Spent { from, to } => WorkAnswer::Spent {
             worker: number,
             from,
@@ -221,6 +224,7 @@ fn answer_one<G: Gate, M: Mail>(
         → OnOk result (HasWorked problem load.now.queries.now load.now.budget (drawn ++ ticket ∷ []) worker.new answers.new.items (M.told mail.new)) }
 {
     spent_stays();
+    cone_of_stays();
     fit_stays();
     load.gate.pass(worker.number, ticket);
     let answer = worker.answer(ticket, &load.queries[ticket as usize], load.budget, mail)?;

@@ -22,4 +22,4 @@ pub use queues::{grow, to_front};
 pub use searches::ask;
 pub use solvers::{analyse, attach, backjump, propagate};
 pub use tickets::{draw, in_order, take_drawn};
-pub use workers::{work_all, work_in_turn, work_one};
+pub use workers::{certificate_by, work_all, work_in_turn, work_one};

@@ -1,9 +1,11 @@
 ghost use Rattle.std.specs.Prelude.{◌≡◌, ◌≤◌, [], IfOk};
 ghost use Rattle.gp_workers.specs.Post.{IsPost};
 ghost use Rattle.gp_workers.specs.Sharing.{AllShared, WorksAlone};
-ghost use Rattle.gp_workers.specs.Work.{CanBeAsked, IsWork};
+ghost use Rattle.gp_workers.specs.Work.{CanBeAsked, CanBeCertified, IsWork, certificate_by};
 
+use gp_certificate::{Certificate, Step};
 use gp_clause::{Problem, Query};
+use gp_derivation::WorkerRecord;
 use gp_outside::Gate;
 use gp_workers::{Post, WindowWork};
 use std::alloc::{AllocError, Global};
@@ -65,4 +67,18 @@ pub fn work_one<G: Gate>(
     ensures alone { IfOk result WorksAlone }
 {
     gp_workers::work_one(alloc, problem, queries, budget, gate)
+}
+
+/// As `gp_workers::certificate_by`.
+pub fn certificate_by(
+    alloc: Global,
+    base_clauses: u32,
+    records: &[WorkerRecord],
+    worker: u32,
+    last: &Step,
+) -> Result<Certificate, AllocError>
+    requires { CanBeCertified base_clauses records.now worker last.now }
+    ensures { IfOk result (λ certificate. certificate ≡ certificate_by base_clauses records.now worker last.now) }
+{
+    gp_workers::certificate_by(alloc, base_clauses, records, worker, last)
 }

@@ -65,7 +65,7 @@ module _ (bases : ℕ) (log : List LogEntry) (hints : List ℕ) where
     done = λ place other entry past none got by. absurd (nothing_in other none);
   }
 
-  -- what is named where a place was not marked
+  -- one entry more from the end: its place is marked where what was found so far names it, and passed over where it does not
   module _ (count : ℕ) (later : List ℕ) (mark : ℕ) (at_mark : mark + suc count ≡ length log) (old : IsSwept count later) where
     reached_mark : are_naming bases log hints later mark ≡ true → IsReached bases log hints mark
     reached_mark told = elim (one_of (list_any (nat_eq (bases + mark)) hints) _ told) [

@@ -227,7 +227,8 @@ fn answers_again<L: Letters>(
     assert!(rt; is_asked(problem, &query));
     assert!(rt; problem.clauses.len() < 1000 && search.log().len() < 1000);
     let verdict = search.ask(&query, 27, mail)?;
-    Ok(is_due(&verdict, &again.due, &[]) && search.log().len() == again.logged)
+    let log = search.log();
+    Ok(is_due(alloc, problem, log, &verdict, &again.due, &[])? && log.len() == again.logged)
 }
 
 // The same, where it is asked again.
@@ -284,7 +285,7 @@ fn is_told<L: Letters>(
 ) -> Result<bool, Fail> {
     let log = search.log();
     Ok(
-        is_due(verdict, &mailed.due, &[])
+        is_due(alloc, problem, log, verdict, &mailed.due, &[])?
             && log.len() == mailed.logged
             && search.learned_from() as usize == mailed.waiting.len()
             && takes_all(log, mailed.waiting)

@@ -6,7 +6,9 @@ use crate::fixture::{
     EIGHT, FREE, Rows, are_kept, are_lits, is_asked, is_solvable, is_valid, lit, problem_of,
     query_of,
 };
+use gp_certificate::Step;
 use gp_clause::{Edge, Kind, Problem, Query};
+use gp_derivation::{LogEntry, can_be_numbered, cone};
 use gp_search::{NoMail, Search, Verdict};
 use std::alloc::Global;
 use std::process::Abort;
@@ -29,21 +31,46 @@ fn all_true(truth: &[bool], words: &[i32]) -> bool {
     words.iter().all(|word| is_true(truth, *word))
 }
 
-// Whether a verdict is the one that is due. The places of a model keep these edges.
-pub fn is_due(verdict: &Verdict, due: &Due, kept: &[Edge]) -> bool {
+// Whether the certificate that a step stands for over a log ends with this clause.
+fn ends_with(
+    alloc: Global,
+    problem: &Problem,
+    log: &[LogEntry],
+    last: &Step,
+    lits: &[i32],
+) -> Result<bool, Fail> {
+    let clauses = problem.clauses.len();
+    if clauses >= 1000 {
+        return Ok(false);
+    }
+    let clauses = clauses as u32;
+    if !can_be_numbered(clauses, log, last) {
+        return Ok(false);
+    }
+    let certificate = cone(alloc, clauses, log, last)?;
+    match certificate.steps.as_slice().last() {
+        Some(step) => Ok(are_lits(step.clause.lits(), lits)),
+        None => Ok(false),
+    }
+}
+
+// Whether the verdict of a search with a log is the one that is due. The places of a model keep these edges.
+pub fn is_due(
+    alloc: Global,
+    problem: &Problem,
+    log: &[LogEntry],
+    verdict: &Verdict,
+    due: &Due,
+    kept: &[Edge],
+) -> Result<bool, Fail> {
     match (verdict, due) {
-        (Verdict::Spent { from, to }, Due::Spent(first, end)) => from == first && to == end,
-        (Verdict::Refuted(certificate), Due::Refuted(lits)) => {
-            match certificate.steps.as_slice().last() {
-                Some(step) => are_lits(step.clause.lits(), lits),
-                None => false,
-            }
-        }
+        (Verdict::Spent { from, to }, Due::Spent(first, end)) => Ok(from == first && to == end),
+        (Verdict::Refuted(last), Due::Refuted(lits)) => ends_with(alloc, problem, log, last, lits),
         (Verdict::Model(valuation), Due::Model(lits)) => {
-            are_kept(valuation.places.as_slice(), kept)
-                && all_true(valuation.truth.as_slice(), lits)
+            let met = are_kept(valuation.places.as_slice(), kept);
+            Ok(met && all_true(valuation.truth.as_slice(), lits))
         }
-        _ => false,
+        _ => Ok(false),
     }
 }
 
@@ -63,6 +90,7 @@ fn has_length(length: usize, due: Option<usize>) -> bool {
 // Whether the verdict of a query that may be asked is the one that is due, and the log as long.
 fn is_answered(
     rt: &impl Abort,
+    alloc: Global,
     problem: &Problem,
     search: &mut Search,
     query: &Query,
@@ -79,7 +107,8 @@ fn is_answered(
     assert!(rt; 0 < *budget && *budget < 1000);
     let mut mail = NoMail::new(problem);
     let verdict = search.ask(query, *budget, &mut mail)?;
-    Ok(is_due(&verdict, due, kept) && has_length(search.log().len(), *logged))
+    let log = search.log();
+    Ok(is_due(alloc, problem, log, &verdict, due, kept)? && has_length(log.len(), *logged))
 }
 
 // Asks a search a query.
@@ -96,7 +125,7 @@ fn asks(
     ensures { search.new.problem ≡ problem.now }
 {
     let query = query_of(alloc, asked.0, asked.1)?;
-    let answered = is_answered(rt, problem, search, &query, kept, asked);
+    let answered = is_answered(rt, alloc, problem, search, &query, kept, asked);
     drop(query);
     answered
 }

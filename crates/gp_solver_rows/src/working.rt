@@ -1,15 +1,16 @@
 ghost use Rattle.std.specs.Prelude.{◌≤◌, All, IfOk, IsTrue};
 ghost use Rattle.gp_clause.specs.Problem.{IsValidProblem, IsValidQuery};
 ghost use Rattle.gp_workers.specs.Post.{IsPost};
-ghost use Rattle.gp_workers.specs.Work.{CanBeWorked};
+ghost use Rattle.gp_workers.specs.Work.{CanBeCertified, CanBeWorked};
 
 use crate::fixture::{EIGHT, FREE, Rows, is_asked, is_solvable, is_valid, problem_of, query_of};
 use crate::meeting::MeetGate;
+use gp_certificate::Step;
 use gp_clause::{Problem, Query};
-use gp_derivation::{LogEntry, Offered, Origin, Sent, Turn, WorkerRecord};
+use gp_derivation::{LogEntry, Offered, Origin, Sent, Turn, WorkerRecord, can_be_numbered};
 use gp_outside::{FreeGate, Gate, HoldGate};
 use gp_tickets::Tickets;
-use gp_workers::{Post, WindowWork, WorkAnswer, work_all, work_in_turn};
+use gp_workers::{Post, WindowWork, WorkAnswer, certificate_by, work_all, work_in_turn};
 use std::alloc::{AllocError, Global};
 use std::process::Abort;
 use std::sync::Wait;
@@ -46,6 +47,9 @@ const ROWS: Rows = Rows {
     clauses: &EIGHT,
 };
 
+// How many clauses these are.
+const CLAUSES: u32 = 8;
+
 // Three queries that assume nothing.
 fn queries(alloc: Global) -> Result<Vec<Query>, Fail> {
     let mut queries = Vec::new(alloc);
@@ -70,15 +74,55 @@ fn are_few(problem: &Problem, queries: &[Query]) -> bool
     problem.clauses.len() < 1000 && queries.len() < 1000
 }
 
-// Whether an answer is a certificate that ends with the clause of no literal.
-fn is_refuted(answer: &WorkAnswer) -> bool {
-    match answer {
-        WorkAnswer::Refuted(certificate) => match certificate.steps.as_slice().last() {
-            Some(step) => step.clause.lits().is_empty(),
-            None => false,
-        },
-        _ => false,
+// Whether the cone of a step over the log of the worker of a number can be made.
+fn can_be_certified(records: &[WorkerRecord], worker: u32, last: &Step) -> bool
+    ensures { IsTrue result → CanBeCertified CLAUSES records.now worker last.now }
+{
+    if worker == 0 {
+        return false;
     }
+    match records.get((worker - 1) as usize) {
+        Some(own) => can_be_numbered(CLAUSES, own.log.as_slice(), last),
+        None => false,
+    }
+}
+
+// Whether the certificate of a refutation ends with the clause of no literal.
+fn ends_empty(
+    alloc: Global,
+    records: &[WorkerRecord],
+    worker: u32,
+    last: &Step,
+) -> Result<bool, AllocError> {
+    if !can_be_certified(records, worker, last) {
+        return Ok(false);
+    }
+    let certificate = certificate_by(alloc, CLAUSES, records, worker, last)?;
+    match certificate.steps.as_slice().last() {
+        Some(step) => Ok(step.clause.lits().is_empty()),
+        None => Ok(false),
+    }
+}
+
+// Whether an answer is a refutation whose certificate ends so.
+fn is_refuted(
+    alloc: Global,
+    records: &[WorkerRecord],
+    answer: &WorkAnswer,
+) -> Result<bool, AllocError> {
+    match answer {
+        WorkAnswer::Refuted { worker, last } => ends_empty(alloc, records, *worker, last),
+        _ => Ok(false),
+    }
+}
+
+// Whether all answers are.
+fn are_refuted(alloc: Global, work: &WindowWork) -> Result<bool, AllocError> {
+    let mut all = true;
+    for answer in work.answers.as_slice() {
+        all &= is_refuted(alloc, work.records.as_slice(), answer)?;
+    }
+    Ok(all)
 }
 
 // The tickets of the turns of all workers, sorted.
@@ -98,7 +142,7 @@ fn is_due(alloc: Global, work: &WindowWork, workers: usize) -> Result<bool, Allo
     let tickets = tickets_of(alloc, work.records.as_slice())?;
     Ok(
         work.answers.len() == 3
-            && work.answers.as_slice().iter().all(is_refuted)
+            && are_refuted(alloc, work)?
             && work.records.len() == workers
             && tickets.as_slice() == [0, 1, 2].as_slice(),
     )

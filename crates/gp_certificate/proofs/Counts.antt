@@ -1,6 +1,7 @@
 -- Counts of the literals of a clause that did not fall.
-use Rattle.std.proofs.Common.{◌≡◌, ◌≢◌, ℕ, ◌+◌, ◌≤◌, suc, Bool, true, false, not, ◌||◌, cond, None, List, [], ◌∷◌, ◌++◌, length, get_or, All, Any, Contains, ◌⊎◌, inl, inr, refl, ap, sym, ◌∙◌, subst, arith, ◌==◌, eq-eqb}
+use Rattle.std.proofs.Common.{◌≡◌, ◌≢◌, ℕ, ◌+◌, ◌<◌, ◌≤◌, suc, take, Bool, true, false, not, ◌||◌, cond, None, List, [], ◌∷◌, ◌++◌, length, get_or, All, Any, Contains, ◌⊎◌, inl, inr, refl, ap, sym, ◌∙◌, subst, arith, ◌==◌, eq-eqb}
 use Rattle.std.proofs.lemmas.Bool.{false≢true, not_from_false}
+use Rattle.std.proofs.lemmas.List.{get_or-take, get_or_default, length-take}
 use Rattle.std.proofs.lemmas.List.Elements.{All-contains}
 use Rattle.std.proofs.lemmas.List.Folds.{Any-from_list_any, list_any-append, list_any_at}
 use Rattle.std.proofs.lemmas.List.Sums.{sum_by-cons}
@@ -13,7 +14,8 @@ use Rattle.gp_base.specs.CountLaws.{count_all, count_passes, count_two, twice_fr
 use Rattle.gp_base.specs.SumLaws.{count_cons}
 use Rattle.gp_certificate.specs.declared.assignment.Assignment.{Assignment}
 use Rattle.gp_certificate.specs.Assignment.{value_of, IsOpen, HasTwo, IsKept}
-use Rattle.gp_certificate.specs.Counting.{fell, standing, IsCounted}
+use Rattle.gp_certificate.specs.Counting.{fell, standing, IsDone}
+use Rattle.gp_certificate.specs.Rows.{occurs}
 use Rattle.gp_base.specs.ListLaws.{here, there}
 use Rattle.gp_certificate.proofs.Standing.{same_or_not, some_clash, open_by_true}
 
@@ -35,60 +37,57 @@ spared fallen lit = cond (not (fell fallen lit)) 1 0
 standing_cons : (fallen : List Lit) (lit : Lit) (clause : List Lit) → standing fallen (lit ∷ clause) ≡ spared fallen lit + standing fallen clause
 standing_cons fallen lit clause = count_cons (λ l. not (fell fallen l)) lit clause
 
-one_more : (fallen : List Lit) (one lit : Lit) → spared fallen lit ≤ spared (fallen ++ one ∷ []) lit + cond (lit_eq one (opposite lit)) 1 0
-one_more fallen one lit =
-    rw (list_any-append (λ other. lit_eq other (opposite lit)) fallen (one ∷ [])) (at (fell fallen lit) (lit_eq one (opposite lit)))
+two_in_one : (n : ℕ) → 2 ≤ n → n ≤ 1 → ⊥
+two_in_one n more less = omega arith
+
+both_ways : (a b : Bool) → (a ≡ true → b ≡ true) → (b ≡ true → a ≡ true) → a ≡ b
+both_ways true true there back = refl
+both_ways true false there back = sym (there refl)
+both_ways false true there back = back refl
+both_ways false false there back = refl
+
+flips : (one lit : Lit) → lit_eq one (opposite lit) ≡ lit_eq (opposite one) lit
+flips one lit = both_ways (lit_eq one (opposite lit)) (lit_eq (opposite one) lit)
+    (λ is. (lit_eq_decides (opposite one) lit).1 (ap opposite ((lit_eq_decides one (opposite lit)).0 is) ∙ opposite_twice lit))
+    (λ is. (lit_eq_decides one (opposite lit)).1 (sym (opposite_twice one) ∙ ap opposite ((lit_eq_decides (opposite one) lit).0 is)))
+
+one_exact : (fallen : List Lit) (one lit : Lit) → fell fallen (opposite one) ≡ false → spared fallen lit ≡ spared (fallen ++ one ∷ []) lit + cond (lit_eq (opposite one) lit) 1 0
+one_exact fallen one lit apart =
+    rw (list_any-append (λ other. lit_eq other (opposite lit)) fallen (one ∷ []))
+    (at (fell fallen lit) (lit_eq one (opposite lit)) (lit_eq (opposite one) lit) (flips one lit) (λ is. ap (fell fallen) (sym ((lit_eq_decides (opposite one) lit).0 is)) ∙ apart))
   where
-    at : (b c : Bool) → cond (not b) 1 0 ≤ cond (not (b || (c || false))) 1 0 + cond c 1 0
-    at true true = omega arith
-    at true false = omega arith
-    at false true = omega arith
-    at false false = omega arith
+    at : (b c d : Bool) → c ≡ d → (d ≡ true → b ≡ false) → cond {A = ℕ} (not b) 1 0 ≡ cond (not (b || (c || false))) 1 0 + cond d 1 0
+    at true true true same none = absurd (false≢true (sym (none refl)))
+    at true true false same none = absurd (false≢true (sym same))
+    at true false true same none = absurd (false≢true same)
+    at true false false same none = omega arith
+    at false true true same none = omega arith
+    at false true false same none = absurd (false≢true (sym same))
+    at false false true same none = absurd (false≢true same)
+    at false false false same none = omega arith
 
-eqb_same : (n : ℕ) → (n == n) ≡ true
-eqb_same n = eq-eqb n n refl
-
--- a literal is the negation of another at most as often as its variable stands there
-one_variable : (one lit : Lit) → cond (lit_eq one (opposite lit)) 1 0 ≤ cond (lit.variable == one.variable) 1 0
-one_variable one lit = at (lit_eq one (opposite lit)) refl
-  where
-    at : (b : Bool) → lit_eq one (opposite lit) ≡ b → cond b 1 0 ≤ cond (lit.variable == one.variable) 1 0
-    at true is =
-        let same : one ≡ opposite lit = (lit_eq_decides one (opposite lit)).0 is in
-        let variables : lit.variable ≡ one.variable = sym (ap (λ (l : Lit). l.variable) same) in
-        rw variables (rw (eqb_same one.variable) (omega arith))
-    at false is = omega arith
-
-lowered_by : (fallen : List Lit) (one : Lit) (clause : List Lit) → standing fallen clause ≤ standing (fallen ++ one ∷ []) clause + occurrences one.variable clause
-lowered_by fallen one [] = omega arith
-lowered_by fallen one (lit ∷ clause) =
+-- where one more falls, the count falls by as often as its negation stands there
+pub lowered : (fallen : List Lit) (one : Lit) (clause : List Lit) → fell fallen (opposite one) ≡ false → standing fallen clause ≡ standing (fallen ++ one ∷ []) clause + occurs (opposite one) clause
+lowered fallen one [] apart = refl
+lowered fallen one (lit ∷ clause) apart =
     let first = standing_cons fallen lit clause in
     let second = standing_cons (fallen ++ one ∷ []) lit clause in
-    let third : occurrences one.variable (lit ∷ clause) ≡ cond (lit.variable == one.variable) 1 0 + occurrences one.variable clause =
-    sum_by-cons (λ (l : Lit). cond (l.variable == one.variable) 1 0) lit clause in
-    omega (arith, first, second, third, one_more fallen one lit, one_variable one lit, lowered_by fallen one clause)
+    let third = count_cons (λ other. lit_eq (opposite one) other) lit clause in
+    omega (arith, first, second, third, one_exact fallen one lit apart, lowered fallen one clause apart)
 
--- where one more falls, the count falls by at most one
-pub lowered_once : (fallen : List Lit) (one : Lit) (clause : List Lit) → NamesOnce clause → standing fallen clause ≤ standing (fallen ++ one ∷ []) clause + 1
-lowered_once fallen one clause once =
-    let few : occurrences one.variable clause ≤ 1 = once one.variable in
-    omega (arith, lowered_by fallen one clause, few)
-
--- and by none where its negation does not stand there
-pub lowered_not : (fallen : List Lit) (one : Lit) (clause : List Lit) → (standing fallen clause ≤ standing (fallen ++ one ∷ []) clause) ⊎ Contains clause (opposite one)
-lowered_not fallen one [] = inl (omega arith)
-lowered_not fallen one (lit ∷ clause) = at (lit_eq one (opposite lit)) refl (lowered_not fallen one clause)
+-- the literal at a place of a trail did not fall before
+pub not_before : (trail : List Lit) (cursor : ℕ) (d : Lit) → NamesOnce trail → cursor < length trail → fell (take cursor trail) (opposite (get_or trail cursor d)) ≡ false
+not_before trail cursor d once within = at (fell (take cursor trail) (opposite (get_or trail cursor d))) refl
   where
-    flipped : one ≡ opposite lit → lit ≡ opposite one
-    flipped same = sym (opposite_twice lit) ∙ ap opposite (sym same)
-
-    at : (b : Bool) → lit_eq one (opposite lit) ≡ b → (standing fallen clause ≤ standing (fallen ++ one ∷ []) clause) ⊎ Contains clause (opposite one)
-        → (standing fallen (lit ∷ clause) ≤ standing (fallen ++ one ∷ []) (lit ∷ clause)) ⊎ Contains (lit ∷ clause) (opposite one)
-    at b is (inr later) = inr (there lit clause (opposite one) later)
-    at true is (inl less) = inr (let P : Lit → Type 0 = λ l. Contains (lit ∷ clause) l in subst P (flipped ((lit_eq_decides one (opposite lit)).0 is)) (here lit clause))
-    at false is (inl less) =
-        let same : cond {A = ℕ} (lit_eq one (opposite lit)) 1 0 ≡ 0 = ap (λ b. cond {A = ℕ} b 1 0) is in
-        inl (omega (arith, standing_cons fallen lit clause, standing_cons (fallen ++ one ∷ []) lit clause, one_more fallen one lit, less, same))
+    at : (b : Bool) → fell (take cursor trail) (opposite (get_or trail cursor d)) ≡ b → fell (take cursor trail) (opposite (get_or trail cursor d)) ≡ false
+    at false is = is
+    at true is =
+        let one : Lit = get_or trail cursor d in
+        let has : Contains (take cursor trail) one = subst (λ l. Contains (take cursor trail) l) (opposite_twice one) (fell_contains (take cursor trail) (opposite one) is) in
+        let before : has.0 < cursor = omega (arith, has.1, length-take cursor trail) in
+        let same : get_or trail has.0 d ≡ one = get_or_default trail has.0 d one (omega (arith, before, within)) ∙ sym (get_or-take cursor trail has.0 one before) ∙ has.2 in
+        let twice : 2 ≤ occurrences one.variable trail = twice_from_places (λ (l : Lit). l.variable) trail has.0 cursor d before within (ap (λ (l : Lit). l.variable) same) in
+        absurd (two_in_one (occurrences one.variable trail) twice (once one.variable))
 
 -- nothing fell at first
 pub all_stand : (clause : List Lit) → standing [] clause ≡ length clause
@@ -97,9 +96,6 @@ all_stand clause = count_all (λ lit. not (fell [] lit)) clause (λ lit is. refl
 false_from_not : (b : Bool) → not b ≡ true → b ≡ false
 false_from_not true is = absurd (false≢true is)
 false_from_not false is = refl
-
-two_in_one : (n : ℕ) → 2 ≤ n → n ≤ 1 → ⊥
-two_in_one n more less = omega arith
 
 -- where two count, two of different variables stand
 pub stand_two : (fallen clause : List Lit) → NamesOnce clause → 2 ≤ standing fallen clause
@@ -144,23 +140,20 @@ stays assignment fallen lit kept among none = at (fell fallen lit) refl
         let holds : IsTrueIn (value_of assignment.values.items) (opposite lit) = All-contains (IsTrueIn (value_of assignment.values.items)) assignment.trail.items (opposite lit) kept.noted trailed in
         absurd (some_clash (value_of assignment.values.items lit.variable) (not lit.positive) holds none)
 
--- a clause that stays open is counted again
-pub counted_open : (assignment : Assignment) (clause fallen : List Lit) → IsKept assignment → All (Contains assignment.trail.items) fallen
-    → Any (IsTrueIn (value_of assignment.values.items)) clause ⊎ HasTwo assignment.values.items clause → IsCounted fallen assignment.values.items clause 2
-counted_open assignment clause fallen kept among (inl holds) = inl holds
-counted_open assignment clause fallen kept among (inr (first, within, none, (k, second, inside, is, (apart, second_none)))) =
-    inr (
-      omega arith,
-      count_two (λ lit. not (fell fallen lit)) clause first second (λ same. apart (sym same)) within (k, inside, is)
-          (not_from_false (fell fallen first) (stays assignment fallen first kept among none))
-          (not_from_false (fell fallen second) (stays assignment fallen second kept among second_none)),
-    )
+-- a clause that was looked at needs no look
+pub done_open : (old new : Assignment) (clause fallen : List Lit) → IsKept old → All (Contains old.trail.items) fallen
+    → Any (IsTrueIn (value_of new.values.items)) clause ⊎ HasTwo old.values.items clause → IsDone fallen new.values.items clause
+done_open old new clause fallen kept among (inl holds) = inl holds
+done_open old new clause fallen kept among (inr (first, within, none, (k, second, inside, is, (apart, second_none)))) =
+    inr (count_two (λ lit. not (fell fallen lit)) clause first second (λ same. apart (sym same)) within (k, inside, is)
+    (not_from_false (fell fallen first) (stays old fallen first kept among none))
+    (not_from_false (fell fallen second) (stays old fallen second kept among second_none)))
 
--- where all that is true fell, a counted clause is open
-pub open_counted : (assignment : Assignment) (clause : List Lit) (left : ℕ) → IsKept assignment → NamesOnce clause → IsCounted assignment.trail.items assignment.values.items clause left
+-- where all that is true fell, a clause that needs no look is open
+pub open_done : (assignment : Assignment) (clause : List Lit) → IsKept assignment → NamesOnce clause → IsDone assignment.trail.items assignment.values.items clause
     → IsOpen assignment.values.items clause
-open_counted assignment clause left kept once (inl holds) = open_by_true assignment.values.items clause holds
-open_counted assignment clause left kept once (inr (two, few)) = at (stand_two assignment.trail.items clause once (omega (arith, two, few)))
+open_done assignment clause kept once (inl holds) = open_by_true assignment.values.items clause holds
+open_done assignment clause kept once (inr two) = at (stand_two assignment.trail.items clause once two)
   where
     not_false : (lit : Lit) → fell assignment.trail.items lit ≡ false → IsFalseIn (value_of assignment.values.items) lit → ⊥
     not_false lit stands false_in = false≢true (sym stands ∙ contains_fell assignment.trail.items lit (kept.trailed (opposite lit) false_in))

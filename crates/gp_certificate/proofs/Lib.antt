@@ -1,3 +1,5 @@
+pub mod Splitting
+pub mod Rowing
 pub mod Passing
 pub mod Checking
 pub mod Standing
@@ -8,6 +10,5 @@ pub mod Trying
 pub mod Sharing
 pub mod Owning
 pub mod Counts
-pub mod Falling
-pub mod Listing
+pub mod Propagating
 pub mod Readying

@@ -1,4 +1,4 @@
--- The loops over an assignment: taking a start, going over clauses, and taking all back.
+-- An assignment without a value.
 use Rattle.std.proofs.Common.{Vec, Global, ◌≡◌, ℕ, ◌+◌, ◌<◌, ◌≤◌, Bool, Option, None, Some, List, [], ◌++◌, length, take, get_or, set, replicate, vec_capacity, All, Contains, ◌⊎◌, inl, inr, refl, ap, sym, ◌∙◌, subst, arith, true}
 use Rattle.std.proofs.lemmas.Bool.{cases_eq, cases_lt}
 use Rattle.std.proofs.lemmas.List.{length-set, length-map, length-take, get_or-take, get_or-map, get_or-set_same, get_or-set_other, get_or_past, get_or_default}
@@ -12,32 +12,6 @@ use Rattle.gp_base.specs.CountLaws.{count_all, twice_from_places}
 use Rattle.gp_certificate.specs.declared.assignment.Assignment.{Assignment}
 use Rattle.gp_certificate.specs.Assignment.{value_of, unassigned, IsKept}
 use Rattle.gp_certificate.proofs.Standing.{some_clash, true_within}
-
--- while a start is taken, the variables to come have no value
-pub not_yet : (assignment : Assignment) (lits : List Lit) (i : ℕ) (d : Lit) → IsKept assignment → assignment.trail.items ≡ negations (take i lits) → NamesOnce lits → i < length lits
-    → value_of assignment.values.items (get_or lits i d).variable ≡ None
-not_yet assignment lits i d kept trail once within = at (value_of assignment.values.items (get_or lits i d).variable) refl
-  where
-    from : (other : Lit) → other.variable ≡ (get_or lits i d).variable → Contains (negations (take i lits)) other → ⊥
-    from other variable (k, inside, same) =
-        let short : k < length (take i lits) = omega (arith, length-map (take i lits) opposite) in
-        let before : k < i = omega (arith, length-take i lits) in
-        let at_k : opposite (get_or (take i lits) k d) ≡ other = sym (get_or-map opposite (take i lits) k d other short) ∙ same in
-        let variables : (get_or lits k d).variable ≡ (get_or lits i d).variable =
-        ap (λ (l : Lit). l.variable) (sym (get_or-take i lits k d before)) ∙ ap (λ (l : Lit). l.variable) at_k ∙ variable in
-        let twice : 2 ≤ occurrences (get_or lits i d).variable lits = twice_from_places (λ (l : Lit). l.variable) lits k i d before within variables in
-        let few : occurrences (get_or lits i d).variable lits ≤ 1 = once (get_or lits i d).variable in
-        two_in_one (occurrences (get_or lits i d).variable lits) twice few
-      where
-        two_in_one : (n : ℕ) → 2 ≤ n → n ≤ 1 → ⊥
-        two_in_one n more less = omega arith
-
-    at : (o : Option Bool) → value_of assignment.values.items (get_or lits i d).variable ≡ o → value_of assignment.values.items (get_or lits i d).variable ≡ None
-    at None has = has
-    at (Some sign) has =
-        let other : Lit = record { variable = (get_or lits i d).variable; positive = sign } in
-        let P : List Lit → Type 0 = λ ls. Contains ls other in
-        absurd (from other refl (subst P trail (kept.trailed other has)))
 
 -- where no variable has a value, all are unassigned
 all_unassigned : (values : List (Option Bool)) → ((variable : ℕ) (sign : Bool) → value_of values variable ≡ Some sign → ⊥) → unassigned values ≡ length values
@@ -54,6 +28,7 @@ none_kept assignment none trail room = record {
   count = omega (arith, all_unassigned assignment.values.items none, ap (λ (ls : List Lit). length ls) trail);
   trailed = λ lit holds. absurd (none lit.variable lit.positive holds);
   noted = let P : List Lit → Type 0 = λ ls. All (IsTrueIn (value_of assignment.values.items)) ls in subst P (sym trail) (All-nil (IsTrueIn (value_of assignment.values.items)));
+  once = subst NamesOnce (sym trail) (λ variable. omega arith);
 }
 
 -- no variable has a value when none is true
@@ -87,51 +62,3 @@ resized old new n m kept none values size trail room =
         at : (variable < length values) ⊎ (length values ≤ variable) → ⊥
         at (inl within) = some_clash _ sign has (all variable None within)
         at (inr past) = some_clash _ sign has (get_or_past values variable None past)
-
--- on the way of taking all back, what still has a value stands further on in the trail
-pub record IsClearing (old now : Assignment) (i : ℕ) : Type 0 where
-  pub trail : now.trail ≡ old.trail
-  pub size : length now.values.items ≡ length old.values.items
-  pub left : (lit : Lit) → IsTrueIn (value_of now.values.items) lit → (k : ℕ) × (i ≤ k) × (k < length old.trail.items) × ((get_or old.trail.items k lit).variable ≡ lit.variable)
-
-pub clearing_more : (old now new : Assignment) (i : ℕ) (d : Lit) → i < length old.trail.items → (get_or old.trail.items i d).variable < length now.values.items
-    → new.values.items ≡ set now.values.items (get_or old.trail.items i d).variable None → new.trail ≡ now.trail → IsClearing old now i → IsClearing old new (i + 1)
-clearing_more old now new i d within inside values trail clearing = record {
-  trail = trail ∙ clearing.trail;
-  size = ap (λ (vs : List (Option Bool)). length vs) values ∙ length-set now.values.items (get_or old.trail.items i d).variable None ∙ clearing.size;
-  left = λ lit holds. at lit (ap (λ vs. value_of vs lit.variable) (sym values) ∙ holds);
-}
-  where
-    same_default : (lit : Lit) → get_or old.trail.items i lit ≡ get_or old.trail.items i d
-    same_default lit = get_or_default old.trail.items i lit d within
-
-    further : (lit : Lit) → (lit.variable ≡ (get_or old.trail.items i d).variable → ⊥)
-        → (k : ℕ) × (i ≤ k) × (k < length old.trail.items) × ((get_or old.trail.items k lit).variable ≡ lit.variable)
-        → (k : ℕ) × (i + 1 ≤ k) × (k < length old.trail.items) × ((get_or old.trail.items k lit).variable ≡ lit.variable)
-    further lit apart (k, from, short, is) = (k, above (cases_eq i k), short, is)
-      where
-        above : (i ≡ k) ⊎ (i ≡ k → ⊥) → i + 1 ≤ k
-        above (inl same) = absurd (apart (sym is ∙ ap (λ n. (get_or old.trail.items n lit).variable) (sym same) ∙ ap (λ (l : Lit). l.variable) (same_default lit)))
-        above (inr other) = omega arith
-
-    at : (lit : Lit) → IsTrueIn (value_of (set now.values.items (get_or old.trail.items i d).variable None)) lit
-        → (k : ℕ) × (i + 1 ≤ k) × (k < length old.trail.items) × ((get_or old.trail.items k lit).variable ≡ lit.variable)
-    at lit holds = by (cases_eq lit.variable (get_or old.trail.items i d).variable)
-      where
-        by : (lit.variable ≡ (get_or old.trail.items i d).variable) ⊎ (lit.variable ≡ (get_or old.trail.items i d).variable → ⊥)
-            → (k : ℕ) × (i + 1 ≤ k) × (k < length old.trail.items) × ((get_or old.trail.items k lit).variable ≡ lit.variable)
-        by (inl same) = absurd (some_clash _ lit.positive holds
-            (ap (λ v. value_of (set now.values.items (get_or old.trail.items i d).variable None) v) same ∙ get_or-set_same now.values.items (get_or old.trail.items i d).variable None None inside))
-        by (inr apart) = further lit apart (clearing.left lit (sym (get_or-set_other now.values.items (get_or old.trail.items i d).variable lit.variable None None apart) ∙ holds))
-
-pub clearing_all : (old now : Assignment) (i : ℕ) → length old.trail.items ≤ i → IsClearing old now i → (variable : ℕ) (sign : Bool) → value_of now.values.items variable ≡ Some sign → ⊥
-clearing_all old now i end clearing variable sign has =
-    let left = clearing.left (record { variable = variable; positive = sign }) has in
-    omega (arith, end, left.1, left.2)
-
-pub clearing_at : (old now new : Assignment) (i : ℕ) (lit : Lit) → IsKept old → i < length old.trail.items → lit ≡ get_or now.trail.items i lit
-    → new.values.items ≡ set now.values.items lit.variable None → new.trail ≡ now.trail → IsClearing old now i → IsClearing old new (i + 1)
-clearing_at old now new i lit kept within is values trail clearing =
-    let same : lit ≡ get_or old.trail.items i lit = is ∙ (λ j. get_or (clearing.trail j).items i lit) in
-    let inside : (get_or old.trail.items i lit).variable < length old.values.items = true_within old.values.items (get_or old.trail.items i lit) (kept.noted i lit within) in
-    clearing_more old now new i lit within (omega (arith, inside, clearing.size)) (values ∙ ap (λ (l : Lit). set now.values.items l.variable None) same) trail clearing

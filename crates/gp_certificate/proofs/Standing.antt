@@ -1,10 +1,13 @@
 -- How clauses stand under an assignment, and what making a literal true changes.
-use Rattle.std.proofs.Common.{◌≡◌, ◌≢◌, ℕ, ◌+◌, ◌<◌, ◌≤◌, Bool, true, false, not, cond, Option, None, Some, List, [], ◌∷◌, ◌++◌, length, get_or, set, vec_capacity, All, Any, Contains, ◌⊎◌, inl, inr, refl, ap, sym, ◌∙◌, subst, arith}
+use Rattle.std.proofs.Common.{◌≡◌, ◌≢◌, ℕ, ◌+◌, ◌<◌, ◌≤◌, Bool, true, false, not, cond, Option, None, Some, List, [], ◌∷◌, ◌++◌, length, get_or, set, vec_capacity, All, Any, Contains, ◌⊎◌, inl, inr, refl, ap, sym, ◌∙◌, subst, arith, ◌==◌, eq-eqb}
 use Rattle.std.specs.Option.{is_none}
 use Rattle.std.proofs.lemmas.Bool.{cases_eq, cases_lt, false≢true}
 use Rattle.std.proofs.lemmas.List.{length-set, length_push, get_or-set_same, get_or-set_other, get_or_past}
-use Rattle.std.proofs.lemmas.List.Elements.{All-contains, All-weaker, All-push, Contains-push, Contains-append_left}
-use Rattle.std.proofs.lemmas.List.Sums.{sum_by-set}
+use Rattle.std.proofs.lemmas.List.Elements.{All-contains, All-weaker, All-push, Contains-push, Contains-push_cases, Contains-append_left}
+use Rattle.std.proofs.lemmas.List.Sums.{sum_by-set, sum_by_push}
+use Rattle.std.proofs.lemmas.Bool.Decides.{nat_tests}
+use Rattle.gp_clause.specs.Clause.{NamesOnce, occurrences}
+use Rattle.gp_base.specs.CountLaws.{count_none, count_one}
 use Rattle.std.proofs.lemmas.Option.{same_Some, none-some}
 use Rattle.gp_clause.specs.declared.lit.Lit.{Lit}
 use Rattle.gp_clause.specs.Closure.{Derived, Conflicts, IsTrueIn, IsFalseIn, LeavesNone}
@@ -72,6 +75,88 @@ true_after values lit none other holds =
     let apart : other.variable ≢ lit.variable = λ same. some_clash (value_of values other.variable) other.positive holds (ap (λ v. value_of values v) same ∙ none) in
     get_or-set_other values lit.variable other.variable (Some lit.positive) None apart ∙ holds
 
+-- how often a variable stands in one more literal
+occurs_push : (variable : ℕ) (lits : List Lit) (lit : Lit) → occurrences variable (lits ++ lit ∷ []) ≡ occurrences variable lits + cond (lit.variable == variable) 1 0
+occurs_push variable lits lit = sum_by_push (λ (l : Lit). cond {A = ℕ} (l.variable == variable) 1 0) lits lit
+
+-- a variable without a value is that of no true literal
+absent : (values : List (Option Bool)) (trail : List Lit) (variable : ℕ) → All (IsTrueIn (value_of values)) trail → value_of values variable ≡ None → occurrences variable trail ≡ 0
+absent values trail variable noted none = count_none (λ (l : Lit). l.variable == variable) trail each
+  where
+    each : (l : Lit) → Contains trail l → (l.variable == variable) ≡ false
+    each l has = elim (cases_eq l.variable variable) [
+      | inl same ↦ absurd (some_clash (value_of values l.variable) l.positive (All-contains (IsTrueIn (value_of values)) trail l noted has) (ap (value_of values) same ∙ none))
+      | inr apart ↦ grind (arith, nat_tests)
+    ]
+
+once_more : (values : List (Option Bool)) (trail : List Lit) (lit : Lit) → All (IsTrueIn (value_of values)) trail → NamesOnce trail → value_of values lit.variable ≡ None → NamesOnce (trail ++ lit ∷ [])
+once_more values trail lit noted once none variable = elim (cases_eq lit.variable variable) [
+  | inl same ↦
+      let zero_times : occurrences variable trail ≡ 0 = absent values trail variable noted (ap (value_of values) (sym same) ∙ none) in
+      omega (arith, occurs_push variable trail lit, zero_times, few (lit.variable == variable))
+  | inr apart ↦
+      let unlike : ◌≡◌ {A = ℕ} (cond (lit.variable == variable) 1 0) 0 = grind (arith, nat_tests) in
+      let before : occurrences variable trail ≤ 1 = once variable in
+      omega (arith, occurs_push variable trail lit, before, unlike)
+]
+  where
+    few : (b : Bool) → cond {A = ℕ} b 1 0 ≤ 1
+    few true = omega arith
+    few false = omega arith
+
+-- the last literal of a trail has a variable of its own
+last_apart : (front : List Lit) (lit other : Lit) → NamesOnce (front ++ lit ∷ []) → Contains front other → other.variable ≢ lit.variable
+last_apart front lit other once has same =
+    let self : ◌≡◌ {A = ℕ} (cond (lit.variable == lit.variable) 1 0) 1 = ap (λ b. cond {A = ℕ} b 1 0) (eq-eqb lit.variable lit.variable refl) in
+    let some : 1 ≤ occurrences lit.variable front = count_one (λ (l : Lit). l.variable == lit.variable) front other has (ap (λ (v : ℕ). v == lit.variable) same ∙ eq-eqb lit.variable lit.variable refl) in
+    let most : occurrences lit.variable (front ++ lit ∷ []) ≤ 1 = once lit.variable in
+    omega (arith, occurs_push lit.variable front lit, self, some, most)
+
+-- an assignment without its last literal
+pub kept_less : (old new : Assignment) (lit : Lit) → IsKept old → old.trail.items ≡ new.trail.items ++ lit ∷ [] → new.values.items ≡ set old.values.items lit.variable None
+    → vec_capacity new.trail ≡ vec_capacity old.trail → IsKept new
+kept_less old new lit kept trail values capacity = record {
+  room = omega (arith, kept.room, size, capacity);
+  count = omega (arith, kept.count, size, longer, more);
+  trailed = λ other holds. elim (cases_eq other.variable lit.variable) [
+    | inl same ↦ absurd (some_clash _ other.positive holds (ap (λ v. value_of new.values.items v) same ∙ gone))
+    | inr apart ↦ elim (Contains-push_cases new.trail.items lit other (subst (λ ls. Contains ls other) trail (kept.trailed other (sym (before other apart) ∙ holds)))) [
+      | inl has ↦ has
+      | inr equal ↦ absurd (apart (sym (ap (λ (l : Lit). l.variable) equal)))
+    ]
+  ];
+  noted = all_from_contains (IsTrueIn (value_of new.values.items)) new.trail.items (λ other has.
+      before other (last_apart new.trail.items lit other (subst NamesOnce trail kept.once) has)
+      ∙ All-contains (IsTrueIn (value_of old.values.items)) old.trail.items other kept.noted (subst (λ ls. Contains ls other) (sym trail) (Contains-append_left new.trail.items (lit ∷ []) other has)));
+  once = λ variable.
+      let most : occurrences variable old.trail.items ≤ 1 = kept.once variable in
+      omega (arith, most, ap (λ ls. occurrences variable ls) trail, occurs_push variable new.trail.items lit);
+}
+  where
+    size : length new.values.items ≡ length old.values.items
+    size = ap (λ (vs : List (Option Bool)). length vs) values ∙ length-set old.values.items lit.variable None
+
+    longer : length old.trail.items ≡ length new.trail.items + 1
+    longer = ap (λ (ls : List Lit). length ls) trail ∙ length_push new.trail.items lit
+
+    holds_lit : IsTrueIn (value_of old.values.items) lit
+    holds_lit = All-contains (IsTrueIn (value_of old.values.items)) old.trail.items lit kept.noted (subst (λ ls. Contains ls lit) (sym trail) (Contains-push new.trail.items lit))
+
+    within : lit.variable < length old.values.items
+    within = true_within old.values.items lit holds_lit
+
+    gone : value_of new.values.items lit.variable ≡ None
+    gone = ap (λ vs. value_of vs lit.variable) values ∙ get_or-set_same old.values.items lit.variable None None within
+
+    before : (other : Lit) → (other.variable ≡ lit.variable → ⊥) → value_of new.values.items other.variable ≡ value_of old.values.items other.variable
+    before other apart = ap (λ vs. value_of vs other.variable) values ∙ get_or-set_other old.values.items lit.variable other.variable None None apart
+
+    more : unassigned new.values.items ≡ unassigned old.values.items + 1
+    more =
+        let one : Option Bool → ℕ = λ value. cond (is_none value) 1 0 in
+        let had : one (value_of old.values.items lit.variable) ≡ 0 = ap one holds_lit in
+        omega (arith, ap (λ vs. unassigned vs) values, sum_by-set one old.values.items lit.variable None None within, had)
+
 pub kept_more : (old new : Assignment) (lit : Lit) → IsKept old → lit.variable < length old.values.items → value_of old.values.items lit.variable ≡ None
     → new.values.items ≡ set old.values.items lit.variable (Some lit.positive) → new.trail.items ≡ old.trail.items ++ lit ∷ [] → vec_capacity new.trail ≡ vec_capacity old.trail → IsKept new
 kept_more old new lit kept within none values trail capacity =
@@ -93,6 +178,7 @@ kept_more old new lit kept within none values trail capacity =
           (All-push (IsTrueIn (value_of (set old.values.items lit.variable (Some lit.positive)))) old.trail.items lit
           (All-weaker (IsTrueIn (value_of old.values.items)) (IsTrueIn (value_of (set old.values.items lit.variable (Some lit.positive)))) (true_after old.values.items lit none) old.trail.items kept.noted)
           new_true));
+      once = subst NamesOnce (sym trail) (once_more old.values.items old.trail.items lit kept.noted kept.once none);
     }
   where
     at : (other : Lit) → IsTrueIn (value_of old.values.items) other ⊎ (lit ≡ other) → Contains (old.trail.items ++ lit ∷ []) other

@@ -2,6 +2,7 @@
 use Rattle.std.specs.Prelude.{ℕ, ◌≡◌, ◌≢◌, ◌+◌, ◌≤◌, ◌⊎◌, Bool, List, Option, None, length, count_by, slice_index_or, vec_capacity, All, Any, Contains}
 use Rattle.std.specs.Option.{is_none}
 use Rattle.gp_clause.specs.declared.lit.Lit.{Lit}
+use Rattle.gp_clause.specs.Clause.{NamesOnce}
 use Rattle.gp_clause.specs.Closure.{Derived, IsTrueIn, IsFalseIn}
 use Rattle.gp_certificate.specs.declared.assignment.Assignment.{Assignment}
 use Rattle.gp_certificate.specs.declared.assignment.Standing.{Standing}
@@ -36,12 +37,13 @@ StandsAs values clause (Due lit) = IsDue values clause lit
 abbrev pub unassigned : List (Option Bool) → ℕ
 unassigned values = count_by is_none values
 
--- the trail holds exactly the literals that are true, and has room for those to come
+-- the trail holds exactly the literals that are true, each once, and has room for those to come
 pub record IsKept (assignment : Assignment) : Type 0 where
   pub room : length assignment.values.items ≤ vec_capacity assignment.trail
   pub count : unassigned assignment.values.items + length assignment.trail.items ≡ length assignment.values.items
   pub trailed : (lit : Lit) → IsTrueIn (value_of assignment.values.items) lit → Contains assignment.trail.items lit
   pub noted : All (IsTrueIn (value_of assignment.values.items)) assignment.trail.items
+  pub once : NamesOnce assignment.trail.items
 
 -- an assignment on the way from a start to its closure: it makes the start true, and what it makes true is derived
 pub record IsClosing (start : List Lit) (clauses : List (List Lit)) (assignment : Assignment) : Type 0 where

@@ -1,9 +1,15 @@
+pub mod ClauseList
+pub mod Rows
+pub mod Loaded
 pub mod Places
 pub mod Step
 pub mod Assignment
 pub mod Counting
 pub mod Certificate
 pub mod Shared
+pub mod Lost
+pub mod Levels
+pub mod Named
 pub mod Bench
 pub mod Judge
 pub mod PassingLaws

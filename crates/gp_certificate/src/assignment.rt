@@ -1,12 +1,13 @@
-ghost use Rattle.std.specs.Prelude.{◌≡◌, ◌≢◌, ◌+◌, ◌<◌, ◌≤◌, ◌↔◌, None, Some, [], ◌∷◌, ◌++◌, length, IsTrue, IfOk, OnOk, MatchBool, MatchOption, All, Any, Contains, List, ℕ, ◌*◌, take, slice_set, slice_get, slice_index_or, vec_capacity};
+ghost use Rattle.std.specs.Prelude.{◌≡◌, ◌≢◌, ◌+◌, ◌-◌, ◌<◌, ◌≤◌, ◌↔◌, ◌⊎◌, None, Some, [], ◌∷◌, ◌++◌, length, IsTrue, IfOk, OnOk, MatchBool, MatchOption, All, Any, Contains, List, take, slice_set, vec_capacity};
 ghost use Rattle.gp_clause.specs.declared.lit.Lit.{Lit};
 ghost use Rattle.gp_clause.specs.Clause.{NamesBelow, NamesOnce};
-ghost use Rattle.gp_clause.specs.Closure.{Conflicts, IsTrueIn, IsFalseIn};
-ghost use Rattle.gp_certificate.specs.Assignment.{value_of, StandsAs, IsOpen, IsKept, IsClosing};
-ghost use Rattle.gp_certificate.specs.Counting.{AreCounted, AreListed, Extends, StaysClosing, FindsConflict, Recounts, row_of, code_of};
-ghost use Rattle.gp_clause.specs.Lit.{negations};
+ghost use Rattle.gp_clause.specs.Closure.{IsTrueIn, IsFalseIn};
+ghost use Rattle.gp_clause.specs.Lit.{opposite, negations};
+ghost use Rattle.gp_certificate.specs.Assignment.{value_of, StandsAs, HasTwo, IsKept};
+ghost use Rattle.gp_certificate.specs.Counting.{AreDone, IsExact, HasBegun, IsThrough, Extends, StaysClosing, FindsConflict, GoesOn, LooksAt};
 
-use gp_clause::{Clause, Lit};
+use crate::loaded::Loaded;
+use gp_clause::Lit;
 use std::alloc::{AllocError, Global};
 
 // How a clause stands under an assignment.
@@ -17,11 +18,13 @@ pub(crate) enum Standing {
     Due(Lit),
 }
 
-// The value of each variable that has one, and the literals that are true in the order in which they became so.
+// The value of each variable that has one, and the literals that are true in the order in which they became so. The first
+// ones were gone through.
 #[derive(Debug, Drop)]
 pub(crate) struct Assignment {
     values: Vec<Option<bool>>,
     trail: Vec<Lit>,
+    cursor: usize,
 }
 
 impl Assignment {
@@ -30,11 +33,16 @@ impl Assignment {
         ensures kept { IfOk result IsKept }
         ensures none { IfOk result (λ made. made.trail.items ≡ []) }
         ensures size { IfOk result (λ made. length made.values.items ≡ variables) }
+        ensures cursor { IfOk result (λ made. made.cursor ≡ 0) }
     {
         let mut values = Vec::new(alloc);
         values.resize(variables, None)?;
         let trail = Vec::with_capacity(alloc, variables)?;
-        Ok(Assignment { values, trail })
+        Ok(Assignment {
+            values,
+            trail,
+            cursor: 0,
+        })
     }
 
     // Makes room for so many variables.
@@ -42,6 +50,7 @@ impl Assignment {
         requires { self.old.trail.items ≡ [] }
         ensures values { self.new.values.items ≡ self.old.values.items }
         ensures trail { self.new.trail.items ≡ self.old.trail.items }
+        ensures cursor { self.new.cursor ≡ self.old.cursor }
         ensures room { OnOk result ((variables ≤ vec_capacity self.new.values) × (variables ≤ vec_capacity self.new.trail)) }
         ensures more { vec_capacity self.old.trail ≤ vec_capacity self.new.trail }
     {
@@ -59,6 +68,7 @@ impl Assignment {
         ensures kept { IsKept self.new }
         ensures none { self.new.trail.items ≡ [] }
         ensures size { length self.new.values.items ≡ variables }
+        ensures cursor { self.new.cursor ≡ self.old.cursor }
     {
         let _ = self.values.resize(variables, None);
     }
@@ -70,153 +80,213 @@ impl Assignment {
         self.trail.as_slice()
     }
 
-    // Makes each of the literals false.
-    pub(crate) fn assume(&mut self, lits: &[Lit])
+    // How many literals of the trail were gone through.
+    pub(crate) fn cursor(&self) -> usize
+        ensures { result ≡ self.now.cursor }
+    {
+        self.cursor
+    }
+
+    // Makes each of the literals false, until one is true. Tells whether one was.
+    pub(crate) fn take(&mut self, lits: &[Lit]) -> bool
         requires kept { IsKept self.old }
-        requires none { self.old.trail.items ≡ [] }
         requires within { NamesBelow (length self.old.values.items) lits.now }
-        requires once { NamesOnce lits.now }
-        ensures kept { IsKept self.new }
-        ensures trail { self.new.trail.items ≡ negations lits.now }
-        ensures size { length self.new.values.items ≡ length self.old.values.items }
+        ensures extends { Extends self.old self.new }
+        ensures cursor { self.new.cursor ≡ self.old.cursor }
+        ensures among { All (λ lit. Contains self.old.trail.items lit ⊎ Contains (negations lits.now) lit) self.new.trail.items }
+        ensures gives { MatchBool result (Any (Contains self.new.trail.items) lits.now) (All (Contains self.new.trail.items) (negations lits.now)) }
     {
         for lit in lits {
+            if self.is_true(*lit) {
+                return true;
+            }
+            self.make_false(*lit);
+        }
+        false
+    }
+
+    // Makes a literal false that is not true.
+    fn make_false(&mut self, lit: Lit)
+        requires kept { IsKept self.old }
+        requires within { lit.variable < length self.old.values.items }
+        requires apart { IsTrueIn (value_of self.old.values.items) lit → ⊥ }
+        ensures extends { Extends self.old self.new }
+        ensures cursor { self.new.cursor ≡ self.old.cursor }
+        ensures falls { Contains self.new.trail.items (opposite lit) }
+        ensures among { All (λ one. Contains self.old.trail.items one ⊎ (opposite lit ≡ one)) self.new.trail.items }
+    {
+        if self.is_unassigned(lit) {
             self.assign(lit.negated());
         }
     }
 
     // Makes true what unit clauses force, until a clause is false or none is unit. Tells whether a clause is false. Each
-    // literal that becomes true lowers the counts of the clauses in which its negation stands.
-    pub(crate) fn settle(
-        &mut self,
-        clauses: &[Clause],
-        rows: &[Vec<usize>],
-        left: &mut [usize],
-    ) -> bool
+    // literal that was gone through lowered the counts of the clauses in which its negation stands.
+    pub(crate) fn settle(&mut self, loaded: &mut Loaded) -> bool
         requires kept { IsKept self.old }
-        requires within { All (NamesBelow (length self.old.values.items)) clauses.now }
-        requires once { All NamesOnce clauses.now }
-        requires listed { AreListed clauses.now rows.now }
-        requires left { length left.old ≡ length clauses.now }
-        ensures closing { IsClosing self.old.trail.items clauses.now self.new }
-        ensures size { length self.new.values.items ≡ length self.old.values.items }
-        ensures gives { MatchBool result (Conflicts self.old.trail.items clauses.now) (All (IsOpen self.new.values.items) clauses.now) }
+        requires within { All (NamesBelow (length self.old.values.items)) loaded.old.clauses }
+        requires once { All NamesOnce loaded.old.clauses }
+        requires exact { IsExact self.old loaded.old }
+        requires begun { HasBegun self.old loaded.old.clauses }
+        ensures on { GoesOn self.old self.new loaded.old loaded.new }
+        ensures gives { MatchBool result (FindsConflict loaded.old.clauses self.old) (IsThrough self.new loaded.old.clauses) }
     {
-        if self.count_all(clauses, left) {
+        if self.begin(loaded) {
             return true;
         }
-        let mut cursor = 0;
-        while cursor < self.trail.len() {
-            if self.fall(clauses, rows, left, cursor) {
-                return true;
-            }
-            cursor += 1;
-        }
-        false
-    }
-
-    // Counts the literals of each clause, and looks at those that have fewer than two. Tells whether a clause is false.
-    fn count_all(&mut self, clauses: &[Clause], left: &mut [usize]) -> bool
-        requires kept { IsKept self.old }
-        requires within { All (NamesBelow (length self.old.values.items)) clauses.now }
-        requires left { length left.old ≡ length clauses.now }
-        ensures extends { Extends self.old self.new }
-        ensures closing { StaysClosing clauses.now self.old self.new }
-        ensures gives { MatchBool result (FindsConflict clauses.now self.old) (AreCounted [] self.new.values.items clauses.now left.new) }
-    {
-        for (number, clause) in clauses.iter().enumerate() {
-            let lits = clause.lits();
-            let Some(count) = self.recount(lits, lits.len() + 1) else {
-                return true;
-            };
-            left[number] = count;
-        }
-        false
-    }
-
-    // Lowers the counts of the clauses in which the negation of a literal of the trail stands. Tells whether a clause is
-    // false.
-    fn fall(
-        &mut self,
-        clauses: &[Clause],
-        rows: &[Vec<usize>],
-        left: &mut [usize],
-        cursor: usize,
-    ) -> bool
-        requires kept { IsKept self.old }
-        requires within { All (NamesBelow (length self.old.values.items)) clauses.now }
-        requires once { All NamesOnce clauses.now }
-        requires listed { AreListed clauses.now rows.now }
-        requires cursor { cursor < length self.old.trail.items }
-        requires counted { AreCounted (take cursor self.old.trail.items) self.old.values.items clauses.now left.old }
-        ensures extends { Extends self.old self.new }
-        ensures closing { StaysClosing clauses.now self.old self.new }
-        ensures gives { MatchBool result (FindsConflict clauses.now self.old) (AreCounted (take (cursor + 1) self.new.trail.items) self.new.values.items clauses.now left.new) }
-    {
-        let fallen = self.trail[cursor].negated();
-        for number in row(rows, fallen) {
-            if self.lower(clauses, left, *number) {
+        while self.cursor < self.trail.len() {
+            if self.fall(loaded) {
                 return true;
             }
         }
         false
     }
 
-    // Lowers the count of one clause. Tells whether it is false.
-    fn lower(&mut self, clauses: &[Clause], left: &mut [usize], number: usize) -> bool
+    // Looks at the clauses of fewer than two literals where nothing was gone through. Tells whether a clause is false.
+    fn begin(&mut self, loaded: &Loaded) -> bool
         requires kept { IsKept self.old }
-        requires within { All (NamesBelow (length self.old.values.items)) clauses.now }
-        requires left { length left.old ≡ length clauses.now }
+        requires within { All (NamesBelow (length self.old.values.items)) loaded.now.clauses }
+        requires exact { IsExact self.old loaded.now }
+        requires begun { HasBegun self.old loaded.now.clauses }
         ensures extends { Extends self.old self.new }
-        ensures closing { StaysClosing clauses.now self.old self.new }
-        ensures gives { MatchBool result (FindsConflict clauses.now self.old) ((clause : List Lit) → slice_get clauses.now number ≡ Some clause → Recounts self.old self.new clause (slice_index_or left.old number 0) (slice_index_or left.new number 0)) }
-        ensures others { (other : ℕ) → other ≢ number → slice_index_or left.new other 0 ≡ slice_index_or left.old other 0 }
+        ensures closing { StaysClosing loaded.now.clauses self.old self.new }
+        ensures cursor { self.new.cursor ≡ self.old.cursor }
+        ensures gives { MatchBool result (FindsConflict loaded.now.clauses self.old) (AreDone (take self.old.cursor self.old.trail.items) self.new.values.items loaded.now.clauses) }
     {
-        if number >= clauses.len() {
+        if self.cursor > 0 {
             return false;
         }
-        let Some(count) = self.recount(clauses[number].lits(), left[number]) else {
-            return true;
-        };
-        left[number] = count;
+        self.look_all(loaded, loaded.short())
+    }
+
+    // Goes through one literal of the trail: lowers the counts of the clauses in which its negation stands, and looks at
+    // those that have fewer than two left. Tells whether a clause is false.
+    fn fall(&mut self, loaded: &mut Loaded) -> bool
+        requires kept { IsKept self.old }
+        requires within { All (NamesBelow (length self.old.values.items)) loaded.old.clauses }
+        requires more { self.old.cursor < length self.old.trail.items }
+        requires exact { IsExact self.old loaded.old }
+        requires done { AreDone (take self.old.cursor self.old.trail.items) self.old.values.items loaded.old.clauses }
+        ensures on { GoesOn self.old self.new loaded.old loaded.new }
+        ensures cursor { self.new.cursor ≡ self.old.cursor + 1 }
+        ensures gives { MatchBool result (FindsConflict loaded.old.clauses self.old) (AreDone (take self.new.cursor self.new.trail.items) self.new.values.items loaded.old.clauses) }
+    {
+        let fallen = self.trail[self.cursor].negated();
+        loaded.fall(fallen);
+        self.cursor += 1;
+        self.look_all(loaded, loaded.row(fallen))
+    }
+
+    // Looks at the clauses of some numbers that have fewer than two literals left. Tells whether one is false.
+    fn look_all(&mut self, loaded: &Loaded, numbers: &[u32]) -> bool
+        requires kept { IsKept self.old }
+        requires within { All (NamesBelow (length self.old.values.items)) loaded.now.clauses }
+        requires size { length loaded.now.left ≡ length loaded.now.clauses }
+        ensures extends { Extends self.old self.new }
+        ensures closing { StaysClosing loaded.now.clauses self.old self.new }
+        ensures cursor { self.new.cursor ≡ self.old.cursor }
+        ensures gives { MatchBool result (FindsConflict loaded.now.clauses self.old) (LooksAt loaded.now self.old self.new numbers.now) }
+    {
+        for number in numbers {
+            if self.look_at(loaded, *number as usize) {
+                return true;
+            }
+        }
         false
     }
 
-    // Lowers the count of a clause, and looks at it where fewer than two are left. Its new count, or none where it is
-    // false.
-    fn recount(&mut self, clause: &[Lit], left: usize) -> Option<usize>
+    // Looks at a clause where it has fewer than two literals left. Tells whether it is false.
+    fn look_at(&mut self, loaded: &Loaded, number: usize) -> bool
+        requires kept { IsKept self.old }
+        requires within { All (NamesBelow (length self.old.values.items)) loaded.now.clauses }
+        requires size { length loaded.now.left ≡ length loaded.now.clauses }
+        ensures extends { Extends self.old self.new }
+        ensures closing { StaysClosing loaded.now.clauses self.old self.new }
+        ensures cursor { self.new.cursor ≡ self.old.cursor }
+        ensures gives { MatchBool result (FindsConflict loaded.now.clauses self.old) (LooksAt loaded.now self.old self.new (number ∷ [])) }
+    {
+        if number >= loaded.len() {
+            return false;
+        }
+        if loaded.left(number) > 1 {
+            return false;
+        }
+        self.look(loaded.clause(number))
+    }
+
+    // Makes the literal true that is due in a clause, if one is. Tells whether the clause is false.
+    fn look(&mut self, clause: &[Lit]) -> bool
         requires kept { IsKept self.old }
         requires within { NamesBelow (length self.old.values.items) clause.now }
         ensures extends { Extends self.old self.new }
         ensures closing { (clauses : List (List Lit)) → Contains clauses clause.now → StaysClosing clauses self.old self.new }
-        ensures gives { MatchOption result (All (IsFalseIn (value_of self.old.values.items)) clause.now) (Recounts self.old self.new clause.now left) }
+        ensures cursor { self.new.cursor ≡ self.old.cursor }
+        ensures gives { MatchBool result (All (IsFalseIn (value_of self.old.values.items)) clause.now) (Any (IsTrueIn (value_of self.new.values.items)) clause.now ⊎ HasTwo self.old.values.items clause.now) }
     {
-        let less = left.saturating_sub(1);
-        if less > 1 {
-            return Some(less);
-        }
         match self.standing(clause) {
-            Standing::Open => Some(2),
-            Standing::False => None,
+            Standing::Open => false,
+            Standing::False => true,
             Standing::Due(lit) => {
                 self.assign(lit);
-                Some(less)
+                false
             }
         }
     }
 
-    // Takes all values back.
-    pub(crate) fn clear(&mut self)
+    // Raises the counts again that were lowered behind a place of the trail.
+    pub(crate) fn raise_to(&mut self, loaded: &mut Loaded, cursor: usize)
+        requires kept { IsKept self.old }
+        requires before { cursor ≤ self.old.cursor }
+        requires exact { IsExact self.old loaded.old }
+        ensures cursor { self.new ≡ record self.old { cursor = cursor } }
+        ensures same { loaded.new ≡ record loaded.old { left = loaded.new.left } }
+        ensures exact { IsExact self.new loaded.new }
+    {
+        while self.cursor > cursor {
+            self.rise(loaded);
+        }
+    }
+
+    // Raises the counts that the last literal lowered that was gone through.
+    fn rise(&mut self, loaded: &mut Loaded)
+        requires kept { IsKept self.old }
+        requires some { 0 < self.old.cursor }
+        requires exact { IsExact self.old loaded.old }
+        ensures cursor { self.new ≡ record self.old { cursor = self.old.cursor - 1 } }
+        ensures same { loaded.new ≡ record loaded.old { left = loaded.new.left } }
+        ensures exact { IsExact self.new loaded.new }
+    {
+        let last = self.cursor - 1;
+        loaded.rise(self.trail[last].negated());
+        self.cursor = last;
+    }
+
+    // Takes back the literals of the trail but so many first ones.
+    pub(crate) fn cut_to(&mut self, count: usize)
         requires { IsKept self.old }
         ensures kept { IsKept self.new }
-        ensures none { self.new.trail.items ≡ [] }
+        ensures trail { self.new.trail.items ≡ take count self.old.trail.items }
         ensures size { length self.new.values.items ≡ length self.old.values.items }
+        ensures cursor { self.new.cursor ≡ self.old.cursor }
     {
-        for index in 0..self.trail.len() {
-            let variable = self.trail[index].variable as usize;
-            self.values[variable] = None;
+        while self.trail.len() > count {
+            self.take_back();
         }
-        self.trail.clear();
+    }
+
+    // Takes back the last literal of the trail.
+    fn take_back(&mut self)
+        requires kept { IsKept self.old }
+        requires some { 0 < length self.old.trail.items }
+        ensures kept { IsKept self.new }
+        ensures trail { self.new.trail.items ≡ take (length self.old.trail.items - 1) self.old.trail.items }
+        ensures size { length self.new.values.items ≡ length self.old.values.items }
+        ensures cursor { self.new.cursor ≡ self.old.cursor }
+    {
+        let Some(lit) = self.trail.pop() else {
+            return;
+        };
+        self.values[lit.variable as usize] = None;
     }
 
     // Makes an unassigned literal true.
@@ -227,6 +297,7 @@ impl Assignment {
         ensures kept { IsKept self.new }
         ensures values { self.new.values.items ≡ slice_set self.old.values.items lit.variable (Some lit.positive) }
         ensures trail { self.new.trail.items ≡ self.old.trail.items ++ lit ∷ [] }
+        ensures cursor { self.new.cursor ≡ self.old.cursor }
     {
         self.values[lit.variable as usize] = Some(lit.positive);
         self.trail.push_reserved(lit);
@@ -306,21 +377,4 @@ impl Assignment {
             None => None,
         }
     }
-}
-
-// The clauses that the row of a literal lists.
-fn row(rows: &[Vec<usize>], lit: Lit) -> &[usize]
-    ensures { result.now ≡ row_of rows.now lit }
-{
-    match rows.get(code(lit)) {
-        Some(row) => row.as_slice(),
-        None => &[],
-    }
-}
-
-// The number of a literal.
-pub(crate) fn code(lit: Lit) -> usize
-    ensures { result ≡ code_of lit }
-{
-    2 * lit.variable as usize + usize::from(lit.positive)
 }

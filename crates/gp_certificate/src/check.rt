@@ -69,7 +69,7 @@ pub(crate) fn first_to_fail(
         if !step_passes(hinted, all, base, shared, &own[..place], step)? {
             return Ok(Some(place as u64));
         }
-        all.load(step.clause.clone()?)?;
+        all.load(step.clause.lits())?;
     }
     Ok(None)
 }
@@ -144,7 +144,7 @@ fn load_hinted(
 {
     for hint in hints {
         if let Some(clause) = numbered(base, shared, own, *hint as usize) {
-            bench.load(clause.clone()?)?;
+            bench.load(clause.lits())?;
         }
     }
     Ok(())

@@ -106,7 +106,7 @@ fn all_loaded(alloc: Global, problem: &Problem) -> Result<Bench, AllocError>
 {
     let mut bench = Bench::new(alloc, problem, &[])?;
     for clause in problem.clauses.as_slice() {
-        bench.load(clause.clone()?)?;
+        bench.load(clause.lits())?;
     }
     Ok(bench)
 }

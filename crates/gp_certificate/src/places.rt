@@ -1,8 +1,9 @@
-ghost use Rattle.std.specs.Prelude.{◌≡◌, ◌+◌, ◌<◌, ◌≤◌, ◌↔◌, [], ◌++◌, length, IsTrue, IfOk, OnOk, All};
+ghost use Rattle.std.specs.Prelude.{◌≡◌, ◌+◌, ◌-◌, ◌<◌, ◌≤◌, [], ◌++◌, length, take, false, IfOk, OnOk, All, MatchBool};
 ghost use Rattle.gp_clause.specs.Clause.{NamesBelow};
 ghost use Rattle.gp_clause.specs.Problem.{IsValidEdge, IsValidKind};
 ghost use Rattle.gp_clause.specs.Walk.{HasNegativeCycle};
-ghost use Rattle.gp_certificate.specs.Places.{AreBare, bounds_at};
+ghost use Rattle.gp_difference.specs.Bounds.{edges_of};
+ghost use Rattle.gp_certificate.specs.Places.{bounds_at, AreFixed, KeepsMore, KeepsAll};
 
 use gp_base::Row;
 use gp_clause::{Edge, Kind, Lit};
@@ -28,7 +29,9 @@ impl Places {
     ) -> Result<Places, AllocError>
         requires few { points ≤ 65536 }
         requires within { All (IsValidEdge points) edges.now }
-        ensures bare { IfOk result (AreBare count) }
+        ensures fixed { IfOk result AreFixed }
+        ensures none { IfOk result (λ made. made.graph.kept ≡ []) }
+        ensures room { IfOk result (λ made. count ≤ made.graph.room) }
         ensures points { IfOk result (λ made. made.graph.points ≡ points) }
         ensures edges { IfOk result (λ made. made.edges ≡ edges.now) }
     {
@@ -48,7 +51,7 @@ impl Places {
 
     // Makes room for so many bounds.
     pub(crate) fn reserve(&mut self, count: u32) -> Result<(), AllocError>
-        requires { AreBare 0 self.old }
+        requires { self.old.graph.kept ≡ [] }
         ensures same { self.new ≡ record self.old { graph = self.new.graph } }
         ensures graph { self.new.graph ≡ record self.old.graph { room = self.new.graph.room } }
         ensures room { OnOk result (count ≤ self.new.graph.room) }
@@ -57,21 +60,42 @@ impl Places {
         self.graph.reserve(count)
     }
 
-    // Whether the edges and the bounds of the literals hold a negative cycle.
-    pub(crate) fn close_cycle(&mut self, kinds: &[Kind], lits: &[Lit]) -> bool
-        requires bare { AreBare (length lits.now) self.old }
+    // Whether the fixed edges hold a negative cycle.
+    pub(crate) fn is_cyclic(&self) -> bool
+        ensures { result ≡ self.now.cyclic }
+    {
+        self.cyclic
+    }
+
+    // The number of kept bounds.
+    pub(crate) fn mark(&self) -> u32
+        ensures { result ≡ length self.now.graph.kept }
+    {
+        self.graph.mark()
+    }
+
+    // Keeps the bounds of literals until one closes a negative cycle. Tells whether one did.
+    pub(crate) fn extend(&mut self, kinds: &[Kind], lits: &[Lit]) -> bool
+        requires fixed { AreFixed self.old }
+        requires some { self.old.cyclic ≡ false }
+        requires acyclic { HasNegativeCycle (self.old.edges ++ edges_of self.old.graph.kept) → ⊥ }
+        requires room { length lits.now ≤ self.old.graph.room }
         requires kinds { All (IsValidKind self.old.graph.points) kinds.now }
         requires within { NamesBelow (length kinds.now) lits.now }
-        ensures closes { IsTrue result ↔ HasNegativeCycle (self.old.edges ++ bounds_at kinds.now lits.now) }
+        ensures gives { MatchBool result (HasNegativeCycle (self.old.edges ++ (edges_of self.old.graph.kept ++ bounds_at kinds.now lits.now))) (KeepsAll self.old.edges kinds.now lits.now self.old.graph self.new.graph) }
+        ensures more { KeepsMore self.old.graph self.new.graph }
         ensures same { self.new ≡ record self.old { graph = self.new.graph } }
-        ensures graph { self.new.graph ≡ record self.old.graph { places = self.new.graph.places; cycle = self.new.graph.cycle } }
     {
-        if self.cyclic {
-            return true;
-        }
-        let closes = add_bounds(&mut self.graph, kinds, lits);
-        self.graph.undo_to(0);
-        closes
+        add_bounds(&mut self.graph, kinds, lits)
+    }
+
+    // Takes back the bounds that were kept since a mark.
+    pub(crate) fn undo_to(&mut self, mark: u32)
+        requires { mark ≤ length self.old.graph.kept }
+        ensures same { self.new ≡ record self.old { graph = self.new.graph } }
+        ensures graph { self.new.graph ≡ record self.old.graph { kept = take mark self.old.graph.kept; room = self.old.graph.room + (length self.old.graph.kept - mark) } }
+    {
+        self.graph.undo_to(mark);
     }
 }
 
@@ -86,17 +110,14 @@ fn without_edges(alloc: Global, points: u32) -> Result<Graph, AllocError>
     }
 }
 
-// Keeps the bounds of the literals until one closes a negative cycle. Tells whether one did.
+// Keeps the bounds of literals until one closes a negative cycle. Tells whether one did.
 fn add_bounds(graph: &mut Graph, kinds: &[Kind], lits: &[Lit]) -> bool
-    requires none { graph.old.kept ≡ [] }
-    requires acyclic { HasNegativeCycle graph.old.edges → ⊥ }
+    requires acyclic { HasNegativeCycle (graph.old.edges ++ edges_of graph.old.kept) → ⊥ }
     requires room { length lits.now ≤ graph.old.room }
     requires kinds { All (IsValidKind graph.old.points) kinds.now }
     requires within { NamesBelow (length kinds.now) lits.now }
-    ensures closes { IsTrue result ↔ HasNegativeCycle (graph.old.edges ++ bounds_at kinds.now lits.now) }
-    ensures points { graph.new.points ≡ graph.old.points }
-    ensures edges { graph.new.edges ≡ graph.old.edges }
-    ensures room { length graph.new.kept + graph.new.room ≡ graph.old.room }
+    ensures gives { MatchBool result (HasNegativeCycle (graph.old.edges ++ (edges_of graph.old.kept ++ bounds_at kinds.now lits.now))) (KeepsAll graph.old.edges kinds.now lits.now graph.old graph.new) }
+    ensures more { KeepsMore graph.old graph.new }
 {
     for lit in lits {
         let Some(edge) = kinds[lit.variable as usize].bound(lit.positive) else {

@@ -1,27 +1,40 @@
-use Rattle.std.proofs.Common.{rules}
-use Rattle.gp_certificate.proofs.Falling.{extends_more, all_open}
-use Rattle.gp_certificate.proofs.Trying.{closing_start}
+use Rattle.std.proofs.Common.{rules, ◌≡◌, ◌≤◌, ℕ, take, length, List, All, ap, sym, ◌∙◌, subst, arith, true, false}
+use Rattle.std.proofs.lemmas.List.{take_all}
+use Rattle.std.specs.Prelude.{MatchBool}
+use Rattle.gp_clause.specs.declared.lit.Lit.{Lit}
+use Rattle.gp_clause.specs.Clause.{NamesBelow}
+use Rattle.gp_certificate.specs.Counting.{AreDone}
+use Rattle.gp_certificate.specs.Loaded.{LoadedForm}
+use Rattle.gp_certificate.proofs.Propagating.{goes_begun, goes_more, found_more, first_on}
 use Rattle.gp_certificate.proofs.assignment.Assignment.settle.Goals as goal
 
-pub returns-then-count_all-clause-closing : goal.returns-then-count_all-clause-closing
-returns-then-count_all-clause-closing c = c.count_all.ensures.closing c.args.self.now.trail.items (closing_start c.args.clauses.now c.args.self.now c.requires.kept)
+pub returns-then-begin-clause-on : goal.returns-then-begin-clause-on
+returns-then-begin-clause-on c = goes_begun c.args.self.now c.begin.new.self c.args.loaded.now c.requires.exact c.begin.ensures.extends c.begin.ensures.closing c.begin.ensures.cursor
 
-pub returns-then-count_all-clause-gives : goal.returns-then-count_all-clause-gives
-returns-then-count_all-clause-gives c = c.if-count_all.ensures.gives c.args.self.now.trail.items (closing_start c.args.clauses.now c.args.self.now c.requires.kept)
+pub loop-self-init : goal.loop-self-init
+loop-self-init c =
+    let first : take c.begin.new.self.cursor c.begin.new.self.trail.items ≡ take c.args.self.now.cursor c.args.self.now.trail.items =
+    ap (λ n. take n c.begin.new.self.trail.items) c.begin.ensures.cursor ∙ first_on c.args.self.now c.begin.new.self c.args.self.now.cursor c.begin.ensures.extends c.requires.exact.within in (
+      goes_begun c.args.self.now c.begin.new.self c.args.loaded.now c.requires.exact c.begin.ensures.extends c.begin.ensures.closing c.begin.ensures.cursor,
+      subst (λ ls. AreDone ls c.begin.new.self.values.items c.args.loaded.now.clauses) (sym first) c.if-begin.ensures.gives,
+    )
 
-pub loop-cursor-init : goal.loop-cursor-init
-loop-cursor-init c = (c.count_all.ensures.extends, c.count_all.ensures.closing c.args.self.now.trail.items (closing_start c.args.clauses.now c.args.self.now c.requires.kept), c.if-count_all.ensures.gives)
+pub returns-then-fall-clause-on : goal.returns-then-fall-clause-on
+returns-then-fall-clause-on c = goes_more c.args.self.now c.loop-self.self c.fall.new.self c.args.loaded.now c.loop-self.loaded c.fall.new.loaded c.loop-self.invariant.0 c.fall.ensures.on
 
-pub returns-then-fall-clause-closing : goal.returns-then-fall-clause-closing
-returns-then-fall-clause-closing c = c.fall.ensures.closing c.args.self.now.trail.items c.loop-cursor.invariant.1
+pub returns-then-fall-clause-gives : goal.returns-then-fall-clause-gives
+returns-then-fall-clause-gives c = found_more c.args.self.now c.loop-self.self c.args.loaded.now c.loop-self.loaded c.loop-self.invariant.0 c.if-fall.ensures.gives
 
-pub loop-cursor-preserved : goal.loop-cursor-preserved
-loop-cursor-preserved c = (
-  extends_more c.args.self.now c.loop-cursor.self c.fall.new.self c.loop-cursor.invariant.0 c.fall.ensures.extends,
-  c.fall.ensures.closing c.args.self.now.trail.items c.loop-cursor.invariant.1,
-  c.if-fall.ensures.gives,
+pub loop-self-preserved : goal.loop-self-preserved
+loop-self-preserved c = (
+  goes_more c.args.self.now c.loop-self.self c.fall.new.self c.args.loaded.now c.loop-self.loaded c.fall.new.loaded c.loop-self.invariant.0 c.fall.ensures.on,
+  subst (λ cs. AreDone (take c.fall.new.self.cursor c.fall.new.self.trail.items) c.fall.new.self.values.items cs) (ap (λ (l : LoadedForm). l.clauses) c.loop-self.invariant.0.same) c.if-fall.ensures.gives,
 )
 
 pub returns-clause-gives : goal.returns-clause-gives
 returns-clause-gives c =
-    all_open c.loop-cursor.self c.args.clauses.now c.loop-cursor.left c.loop-cursor.cursor c.loop-cursor.invariant.0.kept c.requires.once (search rules) c.loop-cursor.invariant.2
+    let end : length c.loop-self.self.trail.items ≤ c.loop-self.self.cursor = search rules in
+    record {
+      all = omega (arith, end, c.loop-self.invariant.0.exact.within);
+      done = subst (λ ls. AreDone ls c.loop-self.self.values.items c.args.loaded.now.clauses) (take_all c.loop-self.self.cursor c.loop-self.self.trail.items end) c.loop-self.invariant.1;
+    }

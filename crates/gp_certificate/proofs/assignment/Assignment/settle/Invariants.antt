@@ -1,11 +1,9 @@
 use Rattle.std.proofs.Common.{◌-◌, length, take}
-use Rattle.gp_certificate.specs.Assignment.{IsClosing}
-use Rattle.gp_certificate.specs.Counting.{AreCounted, Extends}
+use Rattle.gp_certificate.specs.Counting.{GoesOn, AreDone}
 use Rattle.gp_certificate.proofs.assignment.Assignment.settle.Given as goal
 
-abbrev pub invariant-loop-cursor : goal.invariant-loop-cursor
-invariant-loop-cursor l =
-    Extends l.fn.self l.self × IsClosing l.fn.self.trail.items l.clauses l.self × AreCounted (take l.cursor l.self.trail.items) l.self.values.items l.clauses l.left
+abbrev pub invariant-loop-self : goal.invariant-loop-self
+invariant-loop-self l = GoesOn l.fn.self l.self l.fn.loaded l.loaded × AreDone (take l.self.cursor l.self.trail.items) l.self.values.items l.fn.loaded.clauses
 
-abbrev pub decreases-loop-cursor : goal.decreases-loop-cursor
-decreases-loop-cursor l = length l.self.values.items - l.cursor
+abbrev pub decreases-loop-self : goal.decreases-loop-self
+decreases-loop-self l = length l.self.values.items - l.self.cursor

@@ -11,4 +11,5 @@ pub mod Sharing
 pub mod Owning
 pub mod Counts
 pub mod Propagating
+pub mod Levelling
 pub mod Readying

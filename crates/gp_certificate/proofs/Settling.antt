@@ -62,3 +62,13 @@ resized old new n m kept none values size trail room =
         at : (variable < length values) ⊎ (length values ≤ variable) → ⊥
         at (inl within) = some_clash _ sign has (all variable None within)
         at (inr past) = some_clash _ sign has (get_or_past values variable None past)
+
+-- an assignment with more room
+pub kept_same : (old new : Assignment) → IsKept old → new.values.items ≡ old.values.items → new.trail.items ≡ old.trail.items → vec_capacity old.trail ≤ vec_capacity new.trail → IsKept new
+kept_same old new kept values trail more = record {
+  room = omega (arith, kept.room, more, ap (λ (vs : List (Option Bool)). length vs) values);
+  count = omega (arith, kept.count, ap (λ vs. unassigned vs) values, ap (λ (vs : List (Option Bool)). length vs) values, ap (λ (ls : List Lit). length ls) trail);
+  trailed = λ lit holds. subst (λ ls. Contains ls lit) (sym trail) (kept.trailed lit (ap (λ vs. value_of vs lit.variable) (sym values) ∙ holds));
+  noted = subst (λ ls. All (IsTrueIn (value_of new.values.items)) ls) (sym trail) (subst (λ vs. All (IsTrueIn (value_of vs)) old.trail.items) (sym values) kept.noted);
+  once = subst NamesOnce (sym trail) kept.once;
+}

@@ -15,7 +15,7 @@ use Rattle.gp_clause.specs.Walk.{HasNegativeCycle}
 use Rattle.gp_certificate.specs.declared.assignment.Assignment.{Assignment}
 use Rattle.gp_certificate.specs.declared.places.Places.{Places}
 use Rattle.gp_certificate.specs.Assignment.{value_of, IsOpen, IsKept, IsClosing}
-use Rattle.gp_certificate.specs.Places.{AreBare, bounds_at}
+use Rattle.gp_certificate.specs.Places.{bounds_at}
 use Rattle.gp_certificate.specs.Step.{IsDerivedBound, LeadsToConflict}
 use Rattle.gp_certificate.proofs.BoundsAt.{cycle_beside, bound_among, bounds_from}
 use Rattle.gp_base.specs.ListLaws.{all_from_contains}
@@ -44,11 +44,17 @@ derived_bound start clauses kinds assignment closing lit edge is some =
     bound_parts (IsDerivedBound kinds clauses start edge) kinds lit edge some
     (λ kind at bound. (lit, kind, All-contains (Derived start clauses) assignment.trail.items lit closing.derived is, at, bound))
 
+-- a cycle with the bounds of what is true refutes
+pub trail_leads : (edges : List Edge) (kinds : List Kind) (start : List Lit) (clauses : List (List Lit)) (assignment : Assignment) → IsClosing start clauses assignment
+    → HasNegativeCycle (edges ++ bounds_at kinds assignment.trail.items) → LeadsToConflict edges kinds clauses start
+trail_leads edges kinds start clauses assignment closing cycle =
+    inr (bounds_at kinds assignment.trail.items, bounds_from (IsDerivedBound kinds clauses start) kinds assignment.trail.items (derived_bound start clauses kinds assignment closing), cycle)
+
 -- where all clauses are open, a cycle with the bounds of what is true is all that refutes
 pub closed_refutes : ClosureIsLeast → (edges : List Edge) (kinds : List Kind) (start : List Lit) (clauses : List (List Lit)) (assignment : Assignment) → IsClosing start clauses assignment
     → All (IsOpen assignment.values.items) clauses → HasNegativeCycle (edges ++ bounds_at kinds assignment.trail.items) ↔ LeadsToConflict edges kinds clauses start
 closed_refutes least edges kinds start clauses assignment closing all = (
-  λ cycle. inr (bounds_at kinds assignment.trail.items, bounds_from (IsDerivedBound kinds clauses start) kinds assignment.trail.items (derived_bound start clauses kinds assignment closing), cycle),
+  trail_leads edges kinds start clauses assignment closing,
   from,
 )
   where
@@ -65,18 +71,3 @@ closed_refutes least edges kinds start clauses assignment closing all = (
     from (inl conflict) = absurd (least.no_conflict start clauses (value_of assignment.values.items) starts (leaves_none assignment.values.items clauses all) conflict)
     from (inr (bounds, derived, cycle)) =
         cycle_beside edges bounds (bounds_at kinds assignment.trail.items) (All-weaker (IsDerivedBound kinds clauses start) (Contains (bounds_at kinds assignment.trail.items)) among bounds derived) cycle
-
--- places whose bounds were taken back are bare again
-pub bare_again : (n : ℕ) (old new : Places) → new ≡ record old { graph = new.graph } → new.graph ≡ record old.graph { places = new.graph.places; cycle = new.graph.cycle } → AreBare n old → AreBare n new
-bare_again n old new same graph bare =
-    let Q : Bool → List Edge → List Edge → Type 0 = λ cyclic edges held. MatchBool cyclic (HasNegativeCycle edges) ((held ≡ edges) × (HasNegativeCycle edges → ⊥)) in
-    let roomy : new.graph.room ≡ old.graph.room = λ i. (graph i).room in
-    record {
-      none = (λ i. (graph i).kept) ∙ bare.none;
-      room = omega (arith, roomy, bare.room);
-      edges =
-          let cyclic : old.cyclic ≡ new.cyclic = ap (λ (p : Places). p.cyclic) (sym same) in
-          let edges : old.edges ≡ new.edges = ap (λ (p : Places). p.edges) (sym same) in
-          let held : old.graph.edges ≡ new.graph.edges = ap (λ (g : GraphForm). g.edges) (sym graph) in
-          subst (λ b. Q b new.edges new.graph.edges) cyclic (subst (λ es. Q old.cyclic es new.graph.edges) edges (subst (λ es. Q old.cyclic old.edges es) held bare.edges));
-    }

@@ -11,6 +11,8 @@ problem_of judge = record { points = judge.all.points; kinds = judge.all.lasting
 -- between calls the clauses of the problem are loaded on one bench, and none on the other
 pub record IsLoaded (judge : Inside) : Type 0 where
   pub empty : judge.hinted.loaded ≡ []
+  pub nothing : judge.hinted.assumed ≡ []
+  pub none : judge.all.assumed ≡ []
   pub points : judge.hinted.points ≡ judge.all.points
   pub edges : judge.hinted.edges ≡ judge.all.edges
   pub lasting : judge.hinted.lasting ≡ judge.all.lasting

@@ -10,7 +10,9 @@ pub mod Shared
 pub mod Lost
 pub mod Levels
 pub mod Named
+pub mod Widening
 pub mod Bench
+pub mod LevelLaws
 pub mod Judge
 pub mod PassingLaws
 pub mod NamedLaws

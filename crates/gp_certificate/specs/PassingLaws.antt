@@ -39,7 +39,7 @@ passes_alike edges kinds other n clauses clause enough alike below names passes 
     at (inr (bounds, derived, cycle)) = inr (bounds, All-weaker (IsDerivedBound kinds clauses (negations clause)) (IsDerivedBound other clauses (negations clause)) bound bounds derived, cycle)
 
 -- more clauses refute more from more
-refuted_more : (edges : List Edge) (kinds : List Kind) (start : List Lit) (clauses : List (List Lit)) (longer : List Lit) (more : List (List Lit)) → All (Contains longer) start → All (Contains more) clauses
+pub refuted_more : (edges : List Edge) (kinds : List Kind) (start : List Lit) (clauses : List (List Lit)) (longer : List Lit) (more : List (List Lit)) → All (Contains longer) start → All (Contains more) clauses
     → LeadsToConflict edges kinds clauses start → LeadsToConflict edges kinds more longer
 refuted_more edges kinds start clauses longer more starts among (inl (clause, one, negated)) =
     inl (clause, All-contains (Contains more) clauses clause among one, λ lit is. derived_more start clauses longer more starts among (opposite lit) (negated lit is))

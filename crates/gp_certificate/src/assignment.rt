@@ -47,7 +47,8 @@ impl Assignment {
 
     // Makes room for so many variables.
     pub(crate) fn reserve(&mut self, variables: usize) -> Result<(), AllocError>
-        requires { self.old.trail.items ≡ [] }
+        requires { IsKept self.old }
+        ensures kept { IsKept self.new }
         ensures values { self.new.values.items ≡ self.old.values.items }
         ensures trail { self.new.trail.items ≡ self.old.trail.items }
         ensures cursor { self.new.cursor ≡ self.old.cursor }

@@ -10,6 +10,7 @@ ghost use Rattle.gp_certificate.specs.Levels.{MayGoOn, IsCarried, IsSettled};
 ghost use Rattle.gp_certificate.specs.Named.{NamesOnceWith};
 ghost use Rattle.gp_certificate.specs.Places.{AreFixed, KeepsMore};
 ghost use Rattle.gp_certificate.specs.Step.{LeadsToConflict, Passes};
+ghost use Rattle.gp_certificate.specs.Widening.{KeepsValues, KeepsPlaces, KeepsLoaded, KeepsLists, KeepsLevels, HasRoom};
 
 use crate::assignment::Assignment;
 use crate::clause_list::ClauseList;
@@ -87,11 +88,14 @@ impl Bench {
         self.kinds.truncate(self.lasting);
         self.assignment.resize(self.lasting);
         let count = self.lasting + locals.len();
-        self.loaded.widen(2 * count)?;
-        self.places.reserve(count as u32)?;
-        self.assignment.reserve(count)?;
-        self.assumed.reserve(count, count + 1)?;
-        self.levels.reserve(count + 1)?;
+        make_room(
+            &mut self.assignment,
+            &mut self.places,
+            &mut self.loaded,
+            &mut self.assumed,
+            &mut self.levels,
+            count,
+        )?;
         self.kinds.extend_from_slice(locals)?;
         self.assignment.resize(count);
         Ok(())
@@ -105,7 +109,8 @@ impl Bench {
         ensures ok { OnOk result (self.new ≡ record self.old { loaded = self.old.loaded ++ lits.now ∷ [] }) }
         ensures err { OnErr result (self.new ≡ self.old) }
     {
-        self.loaded.push(lits)
+        self.loaded.push(lits)?;
+        Ok(())
     }
 
     /// Unloads all clauses.
@@ -236,4 +241,32 @@ fn go_on(
         return true;
     }
     places.extend(kinds, &assignment.trail()[from..])
+}
+
+// Makes room for so many variables, where none has a value.
+fn make_room(
+    assignment: &mut Assignment,
+    places: &mut Places,
+    loaded: &mut Loaded,
+    assumed: &mut ClauseList,
+    levels: &mut Vec<Level>,
+    count: usize,
+) -> Result<(), AllocError>
+    requires kept { IsKept assignment.old }
+    requires none { assignment.old.trail.items ≡ [] }
+    requires bare { places.old.graph.kept ≡ [] }
+    requires few { count < 2 ^ 31 }
+    ensures assignment { KeepsValues assignment.old assignment.new }
+    ensures places { KeepsPlaces places.old places.new }
+    ensures loaded { KeepsLoaded loaded.old loaded.new }
+    ensures assumed { KeepsLists assumed.old assumed.new }
+    ensures levels { KeepsLevels levels.old levels.new }
+    ensures room { OnOk result (HasRoom count assignment.new places.new loaded.new assumed.new levels.new) }
+{
+    loaded.widen(2 * count)?;
+    places.reserve(count as u32)?;
+    assignment.reserve(count)?;
+    assumed.reserve(count, count + 1)?;
+    levels.reserve(count + 1)?;
+    Ok(())
 }

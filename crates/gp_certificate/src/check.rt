@@ -58,6 +58,7 @@ pub(crate) fn first_to_fail(
     own: &[Step],
 ) -> Result<Option<u64>, AllocError>
     requires empty { hinted.old.loaded ≡ [] }
+    requires nothing { hinted.old.assumed ≡ [] }
     requires all { all.old ≡ record hinted.old { loaded = base.now } }
     requires base { All (NamesBelow (length hinted.old.kinds)) base.now }
     requires shared { All (NamesBelow (length hinted.old.kinds)) (clauses_of shared.now) }
@@ -84,6 +85,7 @@ fn step_passes(
     step: &Step,
 ) -> Result<bool, AllocError>
     requires empty { hinted.old.loaded ≡ [] }
+    requires nothing { hinted.old.assumed ≡ [] }
     requires all { all.old ≡ record hinted.old { loaded = base.now ++ clauses_of own.now } }
     requires within { All (NamesBelow (length hinted.old.kinds)) (base.now ++ clauses_of shared.now ++ clauses_of own.now) }
     ensures passes { IfOk result (λ passes. IsTrue passes ↔ StepPasses hinted.old.edges hinted.old.kinds (base.now ++ clauses_of shared.now ++ clauses_of own.now) (base.now ++ clauses_of own.now) step.now) }
@@ -113,6 +115,7 @@ fn passes_hinted(
     lits: &[Lit],
 ) -> Result<bool, AllocError>
     requires empty { bench.old.loaded ≡ [] }
+    requires nothing { bench.old.assumed ≡ [] }
     requires within { All (NamesBelow (length bench.old.kinds)) (base.now ++ clauses_of shared.now ++ clauses_of own.now) }
     requires once { NamesOnce lits.now }
     ensures passes { IfOk result (λ passes. IsTrue passes ↔ Passes bench.old.edges bench.old.kinds (named (base.now ++ clauses_of shared.now ++ clauses_of own.now) hints.now) lits.now) }
@@ -138,6 +141,7 @@ fn load_hinted(
     hints: &[u32],
 ) -> Result<(), AllocError>
     requires empty { bench.old.loaded ≡ [] }
+    requires nothing { bench.old.assumed ≡ [] }
     requires within { All (NamesBelow (length bench.old.kinds)) (base.now ++ clauses_of shared.now ++ clauses_of own.now) }
     ensures ok { OnOk result (bench.new ≡ record bench.old { loaded = named (base.now ++ clauses_of shared.now ++ clauses_of own.now) hints.now }) }
     ensures same { bench.new ≡ record bench.old { loaded = bench.new.loaded } }

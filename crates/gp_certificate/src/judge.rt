@@ -102,7 +102,7 @@ impl Judge {
 // A bench with all clauses of a problem loaded.
 fn all_loaded(alloc: Global, problem: &Problem) -> Result<Bench, AllocError>
     requires { IsValidProblem problem.now }
-    ensures { IfOk result (λ bench. bench ≡ record { points = problem.now.points; edges = problem.now.edges; lasting = problem.now.kinds; kinds = problem.now.kinds; loaded = problem.now.clauses }) }
+    ensures { IfOk result (λ bench. bench ≡ record { points = problem.now.points; edges = problem.now.edges; lasting = problem.now.kinds; kinds = problem.now.kinds; loaded = problem.now.clauses; assumed = [] }) }
 {
     let mut bench = Bench::new(alloc, problem, &[])?;
     for clause in problem.clauses.as_slice() {
@@ -123,6 +123,7 @@ fn first_with(
     requires few { length locals.now < 2 ^ 30 }
     requires locals { All (IsValidKind all.old.points) locals.now }
     requires empty { hinted.old.loaded ≡ [] }
+    requires nothing { hinted.old.assumed ≡ [] }
     requires all { all.old ≡ record hinted.old { kinds = all.old.kinds; loaded = base.now } }
     requires base { All (NamesBelow (length all.old.lasting)) base.now }
     requires shared { All (NamesBelow (length all.old.lasting + length locals.now)) (clauses_of shared.now) }

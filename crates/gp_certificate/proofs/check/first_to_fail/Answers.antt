@@ -1,10 +1,22 @@
-use Rattle.std.proofs.Common.{◌++◌, ◌↔◌, IsTrue, length, take, All, sym, ◌∙◌, subst}
+use Rattle.std.proofs.Common.{◌≤◌, ◌++◌, ◌↔◌, IsTrue, List, length, take, All, ap, sym, ◌∙◌, subst}
+use Rattle.gp_clause.specs.declared.lit.Lit.{Lit}
+use Rattle.gp_base.specs.CountLaws.{once_from_rising}
 use Rattle.std.proofs.lemmas.Bool.{false≢true}
-use Rattle.gp_clause.specs.Clause.{NamesBelow}
+use Rattle.gp_clause.specs.Clause.{NamesBelow, occurrences}
 use Rattle.gp_certificate.specs.Certificate.{clauses_of, StepPasses}
 use Rattle.gp_certificate.specs.Bench.{BenchForm}
 use Rattle.gp_certificate.proofs.Owning.{loaded_after, numbered_within, passed_more, passed_all, fails_next, all_more}
 use Rattle.gp_certificate.proofs.check.first_to_fail.Goals as goal
+
+pub step_passes-requires-clause-nothing : goal.step_passes-requires-clause-nothing
+step_passes-requires-clause-nothing c = ap (λ (b : BenchForm). b.assumed) c.loop-place.invariant.0 ∙ c.requires.nothing
+
+pub load-requires-clause-once : goal.load-requires-clause-once
+load-requires-clause-once c = λ variable.
+    subst (λ (lits : List Lit). occurrences variable lits ≤ 1) (sym c.lits.ensures.lits) (once_from_rising (λ (l : Lit). l.variable) variable c.index-own-place.result.clause c.lits.ensures.rising)
+
+pub load-requires-clause-nothing : goal.load-requires-clause-nothing
+load-requires-clause-nothing c = ap (λ (b : BenchForm). b.assumed) (c.in_ok-step_passes.ensures.all ∙ c.loop-place.invariant.1) ∙ c.requires.nothing
 
 pub step_passes-requires-clause-within : goal.step_passes-requires-clause-within
 step_passes-requires-clause-within c =
@@ -34,8 +46,8 @@ loop-place-preserved c =
     let P : BenchForm → Type 0 = λ t. IsTrue c.in_ok-step_passes.field-0 ↔ StepPasses t.edges t.kinds (c.args.base.now ++ shared ++ done) (c.args.base.now ++ done) c.index-own-place.result in
     let told : P c.args.hinted.now = subst P c.loop-place.invariant.0 c.in_ok-step_passes.ensures.passes in (
       c.in_ok-step_passes.ensures.same ∙ c.loop-place.invariant.0,
-      all_more c.args.hinted.now c.step_passes.new.all c.load.new.self c.args.base.now c.args.own.now c.loop-place.place c.index-own-place.result c.in_ok-clone.field-0 c.loop-place-test.true c.index-own-place.is
-          c.in_ok-clone.ensures.cases (c.in_ok-step_passes.ensures.all ∙ c.loop-place.invariant.1) c.in_ok-load.ensures.ok,
+      all_more c.args.hinted.now c.step_passes.new.all c.load.new.self c.args.base.now c.args.own.now c.loop-place.place c.index-own-place.result c.lits.result.now c.loop-place-test.true c.index-own-place.is
+          c.lits.ensures.lits (c.in_ok-step_passes.ensures.all ∙ c.loop-place.invariant.1) c.in_ok-load.ensures.ok,
       passed_more c.args.hinted.now.edges c.args.hinted.now.kinds c.args.base.now shared c.args.own.now c.loop-place.place c.index-own-place.result c.loop-place-test.true c.index-own-place.is
           (told.0 c.if-not-branch.false) c.loop-place.invariant.2,
     )
@@ -56,13 +68,6 @@ returns-then-not-branch-clause-same c = c.in_ok-step_passes.ensures.same ∙ c.l
 
 pub returns-then-not-branch-clause-all : goal.returns-then-not-branch-clause-all
 returns-then-not-branch-clause-all c =
-    loaded_after c.args.hinted.now c.args.all.now c.step_passes.new.all c.args.base.now (clauses_of (take c.loop-place.place c.args.own.now)) c.requires.all (c.in_ok-step_passes.ensures.all ∙ c.loop-place.invariant.1)
-
-pub returns-in_err-clone-clause-same : goal.returns-in_err-clone-clause-same
-returns-in_err-clone-clause-same c = c.in_ok-step_passes.ensures.same ∙ c.loop-place.invariant.0
-
-pub returns-in_err-clone-clause-all : goal.returns-in_err-clone-clause-all
-returns-in_err-clone-clause-all c =
     loaded_after c.args.hinted.now c.args.all.now c.step_passes.new.all c.args.base.now (clauses_of (take c.loop-place.place c.args.own.now)) c.requires.all (c.in_ok-step_passes.ensures.all ∙ c.loop-place.invariant.1)
 
 pub returns-in_err-load-clause-same : goal.returns-in_err-load-clause-same

@@ -8,8 +8,8 @@ use Rattle.gp_certificate.specs.Step.{Passes, named}
 use Rattle.gp_certificate.proofs.Owning.{cleared_same, numbered_count, step_by_hints}
 use Rattle.gp_certificate.proofs.check.step_passes.Goals as goal
 
-pub passes-requires : goal.passes-requires
-passes-requires c =
+pub passes-requires-clause-once : goal.passes-requires-clause-once
+passes-requires-clause-once c =
     let P : List Lit → Type 0 = λ lits. NamesOnce lits in
     subst P (sym c.lits-lits.ensures.lits) (λ variable. once_from_rising (λ (l : Lit). l.variable) variable c.args.step.now.clause c.lits-lits.ensures.rising)
 

@@ -9,6 +9,7 @@ pub mod Staying
 pub mod Sweeping
 pub mod ConeParts
 pub mod LeavingOut
+pub mod Needing
 pub mod Rooms
 pub mod Narrowing
 pub mod Exchanging

@@ -1,6 +1,7 @@
 pub mod Log
 pub mod GrowthLaws
 pub mod Tight
+pub mod Needed
 pub mod Spent
 pub mod Reach
 pub mod Numbering

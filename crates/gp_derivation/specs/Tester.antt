@@ -11,6 +11,7 @@ pub record TesterForm : Type 0 where
   pub lasting : List Kind
   pub kinds : List Kind
 
--- between calls no clause is loaded
+-- between calls no clause is loaded and nothing is assumed
 pub record IsUnloaded (tester : Inside) : Type 0 where
   pub empty : tester.bench.loaded ≡ []
+  pub nothing : tester.bench.assumed ≡ []

@@ -1,10 +1,10 @@
-ghost use Rattle.std.specs.Prelude.{◌≡◌, ◌<◌, ◌^◌, ◌++◌, [], length, slice_get, IfOk, OnOk, OnErr, All, Contains, MatchBool};
-ghost use Rattle.std.specs.List.{remove};
+ghost use Rattle.std.specs.Prelude.{◌≡◌, ◌+◌, ◌<◌, ◌≤◌, ◌^◌, ◌++◌, [], length, slice_get, vec_capacity, IfOk, OnOk, OnErr, All, Contains};
 ghost use Rattle.std.specs.Option.{option_map};
 ghost use Rattle.gp_clause.specs.Clause.{NamesBelow, NamesOnce};
 ghost use Rattle.gp_clause.specs.Problem.{IsValidKind, IsValidProblem};
 ghost use Rattle.gp_derivation.specs.Log.{logged};
 ghost use Rattle.gp_certificate.specs.Step.{Passes, named};
+ghost use Rattle.gp_derivation.specs.Needed.{HasEnough, HasKept};
 ghost use Rattle.gp_derivation.specs.Tight.{IsTight};
 
 use crate::log::LogEntry;
@@ -52,7 +52,8 @@ impl Tester {
     }
 
     /// Some of the literals of a clause that passes with the clauses that hints name: with any one more literal left out
-    /// it would not pass. The hints number the clauses of the problem and then those of the log.
+    /// it would not pass. The hints number the clauses of the problem and then those of the log. It goes by halves
+    /// (QuickXplain, Junker 2004), so that what many literals that go together derive is derived once.
     pub fn tighten(
         &mut self,
         problem: &Problem,
@@ -82,6 +83,7 @@ fn tightened(
     clause: Clause,
 ) -> Result<Clause, AllocError>
     requires empty { bench.old.loaded ≡ [] }
+    requires nothing { bench.old.assumed ≡ [] }
     requires within { All (NamesBelow (length bench.old.kinds)) (named (logged problem.now log.now) hints.now) }
     requires passes { Passes bench.old.edges bench.old.kinds (named (logged problem.now log.now) hints.now) clause }
     ensures some { IfOk result (All (Contains clause)) }
@@ -97,39 +99,48 @@ fn tightened(
     }
 }
 
-// Leaves out one literal after another of a clause, where the rest passes.
+// Some of the literals of a clause that passes: with any one more left out they would not.
 fn left_over(bench: &mut Bench, clause: Clause) -> Result<Vec<Lit>, AllocError>
-    requires { Passes bench.old.edges bench.old.kinds bench.old.loaded clause }
+    requires nothing { bench.old.assumed ≡ [] }
+    requires passes { Passes bench.old.edges bench.old.kinds bench.old.loaded clause }
     ensures once { IfOk result (λ lits. NamesOnce lits.items) }
     ensures some { IfOk result (λ lits. All (Contains clause) lits.items) }
     ensures passes { IfOk result (λ lits. Passes bench.old.edges bench.old.kinds bench.old.loaded lits.items) }
     ensures tight { IfOk result (λ lits. IsTight bench.old.edges bench.old.kinds bench.old.loaded lits.items) }
     ensures same { bench.new ≡ bench.old }
 {
-    let mut lits = clause.into_vec();
-    let mut index = 0;
-    while index < lits.len() {
-        if !leave_out(bench, &mut lits, index)? {
-            index += 1;
-        }
-    }
-    Ok(lits)
+    let lits = clause.into_vec();
+    let mut kept = Vec::with_capacity(*lits.allocator(), lits.len())?;
+    bench.assume(&[]);
+    keep_needed(bench, lits.as_slice(), &mut kept);
+    bench.retract();
+    Ok(kept)
 }
 
-// Leaves out the literal at an index where the others pass. Tells whether they do.
-fn leave_out(bench: &mut Bench, lits: &mut Vec<Lit>, index: usize) -> Result<bool, AllocError>
-    requires index { index < length lits.old.items }
-    requires once { NamesOnce lits.old.items }
-    ensures passes { IfOk result (λ left. MatchBool left (Passes bench.old.edges bench.old.kinds bench.old.loaded (remove lits.old.items index)) (Passes bench.old.edges bench.old.kinds bench.old.loaded (remove lits.old.items index) → ⊥)) }
-    ensures lits { IfOk result (λ left. MatchBool left (lits.new.items ≡ remove lits.old.items index) (lits.new.items ≡ lits.old.items)) }
+// Keeps those of the candidates, in their order, that are needed beside what is assumed: those of the first half that are
+// needed beside the second, and those of the second that are needed beside them.
+fn keep_needed(bench: &mut Bench, candidates: &[Lit], kept: &mut Vec<Lit>)
+    requires enough { HasEnough bench.old candidates.now }
+    requires room { length kept.old.items + length candidates.now ≤ vec_capacity kept.old }
+    ensures kept { HasKept bench.old candidates.now kept.old.items kept.new.items }
+    ensures capacity { vec_capacity kept.new ≡ vec_capacity kept.old }
     ensures same { bench.new ≡ bench.old }
 {
-    let lit = lits.remove(index);
-    if bench.passes(lits.as_slice()) {
-        return Ok(true);
+    if bench.is_refuted() {
+        return;
     }
-    lits.insert(index, lit)?;
-    Ok(false)
+    if candidates.len() == 1 {
+        kept.push_reserved(candidates[0]);
+        return;
+    }
+    let (first, second) = candidates.split_at(candidates.len() / 2);
+    let before = kept.len();
+    bench.assume(second);
+    keep_needed(bench, first, kept);
+    bench.retract();
+    bench.assume(&kept.as_slice()[before..]);
+    keep_needed(bench, second, kept);
+    bench.retract();
 }
 
 // Loads the clauses that hints name, of a problem and then of a log.
@@ -140,13 +151,14 @@ fn load_named(
     hints: &[u32],
 ) -> Result<(), AllocError>
     requires empty { bench.old.loaded ≡ [] }
+    requires nothing { bench.old.assumed ≡ [] }
     requires within { All (NamesBelow (length bench.old.kinds)) (named (logged problem.now log.now) hints.now) }
     ensures ok { OnOk result (bench.new ≡ record bench.old { loaded = named (logged problem.now log.now) hints.now }) }
     ensures same { bench.new ≡ record bench.old { loaded = bench.new.loaded } }
 {
     for hint in hints {
         if let Some(clause) = numbered(problem, log, *hint as usize) {
-            bench.load(clause.clone()?)?;
+            bench.load(clause.lits())?;
         }
     }
     Ok(())

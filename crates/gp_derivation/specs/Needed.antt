@@ -18,7 +18,7 @@ pub record AreNeeded (edges : List Edge) (kinds : List Kind) (clauses : List (Li
   pub passes : Passes edges kinds clauses (assumed ++ kept)
   pub needed : (lit : Lit) → Contains kept lit → Passes edges kinds clauses (left_out lit (assumed ++ kept)) → ⊥
 
--- what a bench assumes passes with some candidates, and there are levels for one candidate each
+-- what a bench assumes passes with some candidates, and there is a level left for each of them
 pub record HasEnough (bench : BenchForm) (candidates : List Lit) : Type 0 where
   pub begun : bench.assumed ≢ []
   pub few : length bench.assumed + length candidates ≤ length bench.kinds + 1

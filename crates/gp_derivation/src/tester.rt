@@ -52,8 +52,8 @@ impl Tester {
     }
 
     /// Some of the literals of a clause that passes with the clauses that hints name: with any one more literal left out
-    /// it would not pass. The hints number the clauses of the problem and then those of the log. It goes by halves
-    /// (QuickXplain, Junker 2004), so that what many literals that go together derive is derived once.
+    /// it would not pass. The hints number the clauses of the problem and then those of the log. One half of the literals
+    /// is narrowed while the other is assumed (QuickXplain, Junker 2004), so that what a half derives is derived once.
     pub fn tighten(
         &mut self,
         problem: &Problem,

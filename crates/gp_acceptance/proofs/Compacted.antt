@@ -20,8 +20,9 @@ use Rattle.gp_window.specs.declared.schedule.EventId.{EventId}
 use Rattle.gp_window.specs.WindowForm.{WindowForm}
 use Rattle.gp_window.specs.Windows.{all_windows}
 use Rattle.gp_checker.specs.Accepted.{AcceptsAnswer, AcceptsBody, AcceptsEntry, AcceptsListed, AcceptsProperty, AcceptsWindow}
-use Rattle.gp_compact.specs.Compact.{CompactKeepsAcceptance, answer_by, are_few, body_by, compacted, compacted_over, compacted_windows, entries_by, entries_in_body, entry_by, property_by, sizes_of, with_entries}
-use Rattle.gp_compact.specs.Moving.{compacted_steps}
+use Rattle.gp_compact.specs.Compact.{CompactKeepsAcceptance, compacted, compacted_over, compacted_windows, sizes_of}
+use Rattle.gp_sharing.specs.Compacted.{answer_by, are_few, body_by, entries_by, entries_in_body, entry_by, property_by, with_entries}
+use Rattle.gp_sharing.specs.Moving.{compacted_steps}
 use Rattle.gp_acceptance.specs.Acceptance.{CompactIsAnswered}
 use Rattle.gp_acceptance.proofs.Acceptance.{answered_accepted}
 use Rattle.gp_analysis.specs.Answered.{Evidence}

@@ -15,16 +15,17 @@ use Rattle.gp_report.specs.declared.record.WindowBodyOf.TheVariants.{TooLarge, A
 use Rattle.gp_report.specs.Entries.{entries_among}
 use Rattle.gp_window.specs.WindowForm.{WindowForm}
 use Rattle.gp_window.specs.Windows.{all_windows}
-use Rattle.gp_compact.specs.declared.moving.Sizes.{Sizes}
+use Rattle.gp_sharing.specs.declared.sizes.Sizes.{Sizes}
 use Rattle.gp_checker.specs.FrontLaws.{front_passes}
 use Rattle.gp_checker.specs.Accepted.{AcceptsBody, AcceptsProperty, AcceptsWindow}
-use Rattle.gp_compact.specs.Compact.{CompactKeepsAcceptance, are_few, body_by, compacted_over, compacted_window, compacted_windows, entries_in_body, over_list, property_by, sizes_of, steps_in, with_entries}
-use Rattle.gp_compact.specs.Moving.{compacted_steps, first_own}
+use Rattle.gp_compact.specs.Compact.{CompactKeepsAcceptance, compacted_over, compacted_window, compacted_windows, sizes_of}
+use Rattle.gp_sharing.specs.Compacted.{are_few, body_by, entries_in_body, over_list, property_by, steps_in, with_entries}
+use Rattle.gp_sharing.specs.Moving.{compacted_steps, first_own}
 use Rattle.gp_constraint.specs.EncodedLaws.{is_encoded, is_valid}
-use Rattle.gp_compact.proofs.Gathered.{begins_itself}
-use Rattle.gp_compact.proofs.Grown.{HasRoom, entries_add, entries_leave_room}
-use Rattle.gp_compact.proofs.Kept.{Fits, entries_begin, gather_entries, properties_kept, properties_pass}
-use Rattle.gp_compact.proofs.Sized.{IsSized, is_less}
+use Rattle.gp_sharing.specs.GrownLaws.{HasRoom, begins_itself, entries_add, entries_begin, entries_leave_room}
+use Rattle.gp_compact.proofs.Kept.{Fits, gather_entries, properties_kept, properties_pass}
+use Rattle.gp_compact.proofs.Sized.{IsSized}
+use Rattle.gp_sharing.specs.FoundLaws.{is_less}
 
 -- the sizes of a window are those of its base and of its shared steps
 sized : ProblemsAreValid → (window encoded : WindowForm) (shared : List Step) → base_due window ≡ Ok encoded → IsSized (base_of window).kinds (base_of window).clauses shared (sizes_of encoded shared)

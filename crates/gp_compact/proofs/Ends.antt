@@ -7,9 +7,10 @@ use Rattle.gp_clause.specs.Lit.{opposite}
 use Rattle.gp_certificate.specs.declared.step.Step.{Step}
 use Rattle.gp_certificate.specs.Certificate.{IsLast}
 use Rattle.gp_derivation.specs.Numbering.{with_hints}
-use Rattle.gp_compact.specs.declared.moving.Sizes.{Sizes}
+use Rattle.gp_sharing.specs.declared.sizes.Sizes.{Sizes}
 use Rattle.gp_checker.specs.Accepted.{RefutesAtLast}
-use Rattle.gp_compact.specs.Moving.{front_of, place_of, places_after, places_of, staying}
+use Rattle.gp_sharing.specs.Moving.{front_of, place_of, places_after, places_of, staying}
+use Rattle.gp_sharing.specs.PlaceLaws.{places_count}
 
 -- two lists have no steps, or last ones with one clause
 pub data EndAlike (steps other : List Step) : Type 0 where
@@ -70,11 +71,6 @@ stays_last [] front last few = refl
 stays_last (place ∷ places) [] last few = absurd (omega (arith, few))
 stays_last (Some place ∷ places) (step ∷ front) last few = stays_last places front last (omega (arith, few))
 stays_last (None ∷ places) (step ∷ front) last few = ap (λ (xs : List Step). step ∷ xs) (stays_last places front last (omega (arith, few)))
-
-pub places_count : (sizes : Sizes) (list : List Step) (before : List (Option ℕ)) (steps : List Step) → length (places_after sizes list before steps) ≡ length before + length steps
-places_count sizes list before [] = omega arith
-places_count sizes list before (step ∷ steps) =
-    omega (arith, places_count sizes list (before ++ place_of sizes list before step ∷ []) steps, length-append before (place_of sizes list before step ∷ []))
 
 pub staying_alike : (sizes : Sizes) (list : List Step) (f : ℕ → ℕ) (steps : List Step) → EndAlike steps (map (with_hints f) (staying (places_of sizes list steps) steps))
 staying_alike sizes list f steps = by (has_last steps)

@@ -15,43 +15,21 @@ use Rattle.gp_certificate.specs.CheckingLaws.{check_append}
 use Rattle.gp_checker.specs.FrontLaws.{first_pass}
 use Rattle.gp_base.specs.ListLaws.{slice_get_back, slice_get_front}
 use Rattle.gp_certificate.specs.Shared.{OwnStepsPass}
-use Rattle.gp_compact.specs.declared.moving.Sizes.{Sizes}
-use Rattle.gp_compact.specs.Moving.{are_movable, first_own, front_of, moved_step, moves, place_at, place_of, rests_on_earlier, step_eq, with_certificate, with_moved, with_step, with_steps}
-use Rattle.gp_compact.proofs.Found.{both, placed_there}
-use Rattle.gp_compact.proofs.Gathering.{ArePlaced, each_passes, moved_checks}
+use Rattle.gp_sharing.specs.declared.sizes.Sizes.{Sizes}
+use Rattle.gp_sharing.specs.Moving.{are_movable, first_own, front_of, moved_step, moves, place_at, place_of, rests_on_earlier, step_eq, with_certificate, with_moved, with_step, with_steps}
+use Rattle.gp_sharing.specs.FoundLaws.{both, placed_there}
+use Rattle.gp_compact.proofs.Gathering.{ArePlaced, moved_checks}
 use Rattle.gp_compact.proofs.Renamed.{HasHint}
-use Rattle.gp_compact.proofs.Sized.{BeginsWith, IsSized, is_less}
+use Rattle.gp_sharing.specs.GrownLaws.{BeginsWith, begins_length, begins_through, moved_begins}
+use Rattle.gp_compact.proofs.Sized.{IsSized}
+use Rattle.gp_sharing.specs.PlaceLaws.{place_before, place_last, place_past}
 
--- a list begins with itself, and beginnings add up
-pub begins_itself : (list : List Step) → BeginsWith list list
-begins_itself list = ([], sym (append-nil list))
-
-pub begins_through : (first second third : List Step) → BeginsWith first second → BeginsWith second third → BeginsWith first third
-begins_through first second third (more, one) (rest, other) =
-    (more ++ rest, other ∙ ap (λ (xs : List Step). xs ++ rest) one ∙ append_assoc first more rest)
-
--- a list that begins with another is no shorter, and has its clauses where the other has them
-pub begins_length : (first second : List Step) → BeginsWith first second → length first ≤ length second
-begins_length first second (more, is) = let size : length second ≡ length first + length more = ap length is ∙ length-append first more in omega arith
-
+-- a list that begins with another has its clauses where the other has them
 pub begins_clauses : (first second : List Step) → BeginsWith first second → (place : ℕ) → place < length first → slice_get (clauses_of second) place ≡ slice_get (clauses_of first) place
 begins_clauses first second (more, is) place within =
     ap (λ (xs : List Step). slice_get (clauses_of xs) place) is
     ∙ ap (λ (cs : List (List Lit)). slice_get cs place) (map-append (λ (step : Step). step.clause) first more)
     ∙ slice_get_front (clauses_of first) (clauses_of more) place (omega (arith, within, length-map first (λ (step : Step). step.clause)))
-
--- a place among places with one more
-pub place_before : (places : List (Option ℕ)) (last : Option ℕ) (k : ℕ) → k < length places → place_at (places ++ last ∷ []) k ≡ place_at places k
-place_before places last k within = ap (λ (o : Option (Option ℕ)). unwrap_or o None) (slice_get_front places (last ∷ []) k within)
-
-pub place_last : (places : List (Option ℕ)) (last : Option ℕ) → place_at (places ++ last ∷ []) (length places) ≡ last
-place_last places last =
-    let at : slice_get (places ++ last ∷ []) (length places + 0) ≡ Some last = slice_get_back places (last ∷ []) 0 in
-    let same : length places + 0 ≡ length places = omega arith in
-    ap (λ (o : Option (Option ℕ)). unwrap_or o None) (subst (λ (n : ℕ). slice_get (places ++ last ∷ []) n ≡ Some last) same at)
-
-pub place_past : (places : List (Option ℕ)) (k : ℕ) → length places ≤ k → place_at places k ≡ None
-place_past places k past = ap (λ (o : Option (Option ℕ)). unwrap_or o None) (slice_get_past places k past)
 
 pub last_clause : (own : List (List Lit)) (clause : List Lit) (k : ℕ) → k ≡ length own → slice_get (own ++ clause ∷ []) k ≡ Some clause
 last_clause own clause k is =
@@ -90,47 +68,13 @@ placed_more sizes list more places own step begins size placed = λ k place at. 
                   ∙ sym (last_clause own step.clause k (omega (arith, same, size))),
             )
 
--- a step that rests on earlier ones has a hint, and its hints are below its number
+-- a step that rests on earlier ones has a hint
 pub has_hint : (number : ℕ) (step : Step) → rests_on_earlier number step ≡ true → HasHint step
 has_hint number step rests = some step.hints (both (not (length step.hints == 0)) (list_all (λ hint. nat_lt hint number) step.hints) rests).0
   where
     some : (hints : List ℕ) → not (length hints == 0) ≡ true → 0 < length hints
     some [] h = absurd (false≢true h)
     some (hint ∷ hints) h = omega arith
-
-pub hints_below : (number : ℕ) (step : Step) → rests_on_earlier number step ≡ true → All (λ hint. hint < number) step.hints
-hints_below number step rests =
-    All-weaker (λ hint. nat_lt hint number ≡ true) (λ hint. hint < number) (λ hint h. is_less hint number h) step.hints
-    (each_passes (λ hint. nat_lt hint number) step.hints (both (not (length step.hints == 0)) (list_all (λ hint. nat_lt hint number) step.hints) rests).1)
-
--- a list with a step at its end or without begins with the list
-pub step_begins : (list : List Step) (step : Step) → BeginsWith list (with_step list step)
-step_begins list step = by (list_any (step_eq step) list)
-  where
-    by : (b : Bool) → BeginsWith list (if b then list else (list ++ step ∷ []))
-    by true = begins_itself list
-    by false = (step ∷ [], refl)
-
-pub moved_begins : (sizes : Sizes) (list : List Step) (places : List (Option ℕ)) (step : Step) → BeginsWith list (with_moved sizes list places step)
-moved_begins sizes list places step = by (moves sizes places step)
-  where
-    by : (b : Bool) → BeginsWith list (if b then with_step list (moved_step sizes places step) else list)
-    by true = step_begins list (moved_step sizes places step)
-    by false = begins_itself list
-
-pub steps_begin : (sizes : Sizes) (list : List Step) (places : List (Option ℕ)) (steps : List Step) → BeginsWith list (with_steps sizes list places steps)
-steps_begin sizes list places [] = begins_itself list
-steps_begin sizes list places (step ∷ steps) =
-    let more = with_moved sizes list places step in
-    begins_through list more (with_steps sizes more (places ++ place_of sizes more places step ∷ []) steps)
-    (moved_begins sizes list places step) (steps_begin sizes more (places ++ place_of sizes more places step ∷ []) steps)
-
-pub certificate_begins : (sizes : Sizes) (list steps : List Step) → BeginsWith list (with_certificate sizes list steps)
-certificate_begins sizes list steps = by (are_movable (first_own sizes) steps)
-  where
-    by : (b : Bool) → BeginsWith list (if b then with_steps sizes list [] (front_of steps) else list)
-    by true = steps_begin sizes list [] (front_of steps)
-    by false = begins_itself list
 
 -- the first steps of a certificate may move where all may
 pub movable_front : (number n : ℕ) (steps : List Step) → are_movable number steps ≡ true → are_movable number (take n steps) ≡ true

@@ -14,18 +14,13 @@ use Rattle.gp_base.specs.ListLaws.{contains_got}
 use Rattle.gp_certificate.specs.CheckingLaws.{steps_within}
 use Rattle.gp_certificate.specs.NamedLaws.{named_all}
 use Rattle.gp_certificate.specs.Step.{Passes, named}
-use Rattle.gp_compact.specs.declared.moving.Sizes.{Sizes}
-use Rattle.gp_compact.specs.Moving.{first_own, moved_step, moves, names_shared, place_at, shared_number}
+use Rattle.gp_sharing.specs.declared.sizes.Sizes.{Sizes}
+use Rattle.gp_sharing.specs.Moving.{first_own, moved_step, moves, names_shared, place_at, shared_number}
 use Rattle.gp_compact.proofs.Alike.{passes_bare}
-use Rattle.gp_compact.proofs.Found.{both}
+use Rattle.gp_sharing.specs.FoundLaws.{both, each_passes, is_less, is_not_less}
 use Rattle.gp_compact.proofs.Renamed.{HasHint, NamesSame, all_still_within, hinted_named, named_same, usable_named}
-use Rattle.gp_compact.proofs.Sized.{BeginsWith, IsSized, front_over, front_same, own_follow, is_less, is_not_less, own_named, shared_named}
-
--- what passes a test does so at each element
-pub each_passes : {X : Type 0} (test : X → Bool) (xs : List X) → list_all test xs ≡ true → All (λ x. test x ≡ true) xs
-each_passes test [] h = All-nil (λ x. test x ≡ true)
-each_passes test (x ∷ xs) h =
-    let parts = both (test x) (list_all test xs) h in All-cons (λ y. test y ≡ true) x xs parts.0 (each_passes test xs parts.1)
+use Rattle.gp_sharing.specs.GrownLaws.{BeginsWith}
+use Rattle.gp_compact.proofs.Sized.{IsSized, front_over, front_same, own_follow, own_named, shared_named}
 
 -- the clauses at the places of own steps are the clauses of those steps
 abbrev pub ArePlaced : List Step → List (Option ℕ) → List (List Lit) → Type 0

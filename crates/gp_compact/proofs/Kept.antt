@@ -22,14 +22,15 @@ use Rattle.gp_report.specs.declared.record.PropertyBodyOf.TheVariants as body
 use Rattle.gp_report.specs.Entries.{entries_among, entries_in}
 use Rattle.gp_window.specs.declared.schedule.EventId.{EventId}
 use Rattle.gp_window.specs.WindowForm.{WindowForm}
-use Rattle.gp_compact.specs.declared.moving.Sizes.{Sizes}
+use Rattle.gp_sharing.specs.declared.sizes.Sizes.{Sizes}
 use Rattle.gp_checker.specs.Accepted.{AcceptsAnswer, AcceptsEntry, AcceptsListed, AcceptsProperty}
-use Rattle.gp_compact.specs.Compact.{answer_by, entries_by, entry_by, own_steps, property_by, with_entries}
-use Rattle.gp_compact.specs.Moving.{are_movable, compacted_steps, first_own, new_number, places_of, raised, staying, with_certificate}
+use Rattle.gp_sharing.specs.Compacted.{answer_by, entries_by, entry_by, own_steps, property_by, with_entries}
+use Rattle.gp_sharing.specs.Moving.{are_movable, compacted_steps, first_own, new_number, places_of, raised, staying, with_certificate}
 use Rattle.gp_compact.proofs.Ends.{EndAlike, hints_alike, refutes_alike, staying_alike}
-use Rattle.gp_compact.proofs.Gathered.{begins_itself, begins_length, begins_through, certificate_begins, gather_certificate}
+use Rattle.gp_sharing.specs.GrownLaws.{BeginsWith, begins_length, begins_through, certificate_begins}
+use Rattle.gp_compact.proofs.Gathered.{gather_certificate}
 use Rattle.gp_compact.proofs.Raised.{raised_steps}
-use Rattle.gp_compact.proofs.Sized.{BeginsWith, IsSized}
+use Rattle.gp_compact.proofs.Sized.{IsSized}
 use Rattle.gp_compact.proofs.Stays.{movable_stays}
 
 -- what holds of two lists together holds of each
@@ -152,14 +153,7 @@ module _ (window : WindowForm) (budget : ℕ) (old : List Step) where
       All-append (PassesSomehow window old) (entries_in told.body) (entries_among records)
       (listed_pass property (due_instances window property number) told.body accepted.0.1) (properties_pass properties records accepted.1)
 
--- a list begins with the shared steps to which the certificates of entries add
-pub entries_begin : (sizes : Sizes) (list : List Step) (entries : List Entry) → BeginsWith list (with_entries sizes list entries)
-entries_begin sizes list [] = begins_itself list
-entries_begin sizes list (entry ∷ entries) =
-    let more = with_certificate sizes list (own_steps entry.answer) in
-    begins_through list more (with_entries sizes more entries) (certificate_begins sizes list (own_steps entry.answer)) (entries_begin sizes more entries)
-
--- and the new shared list checks
+-- the new shared list checks
 pub gather_entries : (window : WindowForm) (old : List Step) (sizes : Sizes) → IsSized (base_of window).kinds (base_of window).clauses old sizes → (list : List Step) → BeginsWith old list → (entries : List Entry)
     → All (PassesSomehow window old) entries → SharedPasses (base_of window) list → SharedPasses (base_of window) (with_entries sizes list entries)
 gather_entries window old sizes is list begins [] pass checks = checks

@@ -1,13 +1,9 @@
 pub mod Acceptance
 pub mod Alike
 pub mod Ends
-pub mod Firstly
-pub mod Found
 pub mod Gathered
 pub mod Gathering
-pub mod Grown
 pub mod Kept
-pub mod NewNumbers
 pub mod Raised
 pub mod Renamed
 pub mod Sized

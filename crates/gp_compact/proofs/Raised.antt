@@ -11,10 +11,12 @@ use Rattle.gp_certificate.specs.declared.step.Step.{Step}
 use Rattle.gp_certificate.specs.Certificate.{clauses_of, StepPasses}
 use Rattle.gp_derivation.specs.Numbering.{with_hints}
 use Rattle.gp_certificate.specs.Shared.{OwnStepsPass}
-use Rattle.gp_compact.specs.declared.moving.Sizes.{Sizes}
-use Rattle.gp_compact.specs.Moving.{first_own, raised}
+use Rattle.gp_sharing.specs.declared.sizes.Sizes.{Sizes}
+use Rattle.gp_sharing.specs.Moving.{first_own, raised}
 use Rattle.gp_compact.proofs.Renamed.{NamesSame, passes_renamed, renamed_passes}
-use Rattle.gp_compact.proofs.Sized.{BeginsWith, IsSized, front_over, front_same, is_less, is_not_less, own_follow, own_named}
+use Rattle.gp_sharing.specs.GrownLaws.{BeginsWith}
+use Rattle.gp_compact.proofs.Sized.{IsSized, front_over, front_same, own_follow, own_named}
+use Rattle.gp_sharing.specs.FoundLaws.{is_less, is_not_less}
 use Rattle.gp_compact.proofs.Stayed.{all_unmapped}
 
 -- what becomes of a hint: it stays below the own steps, or is raised, or does not fit and stays

@@ -1,7 +1,6 @@
 -- What hints name among base clauses, shared steps and own steps.
 use Rattle.std.proofs.Common.{◌≡◌, ap, sym, ◌∙◌, ℕ, ◌+◌, ◌-◌, ◌<◌, ◌≤◌, true, false, nat_lt, List, ◌++◌, length, All, arith}
 use Rattle.std.specs.List.{slice_get}
-use Rattle.std.proofs.lemmas.Bool.Decides.{nat_tests}
 use Rattle.std.proofs.lemmas.List.{append_assoc, length-append, length-map, map-append}
 use Rattle.gp_clause.specs.declared.kind.Kind.{Kind}
 use Rattle.gp_clause.specs.declared.lit.Lit.{Lit}
@@ -9,8 +8,9 @@ use Rattle.gp_clause.specs.Clause.{NamesBelow}
 use Rattle.gp_certificate.specs.declared.step.Step.{Step}
 use Rattle.gp_certificate.specs.Certificate.{clauses_of}
 use Rattle.gp_base.specs.ListLaws.{slice_get_back, slice_get_front}
-use Rattle.gp_compact.specs.declared.moving.Sizes.{Sizes}
-use Rattle.gp_compact.specs.Moving.{first_own}
+use Rattle.gp_sharing.specs.declared.sizes.Sizes.{Sizes}
+use Rattle.gp_sharing.specs.GrownLaws.{BeginsWith}
+use Rattle.gp_sharing.specs.Moving.{first_own}
 
 -- these are the sizes of a base and of the shared steps over it, and the base clauses have base variables
 pub record IsSized (kinds : List Kind) (base : List (List Lit)) (old : List Step) (sizes : Sizes) : Type 0 where
@@ -18,16 +18,6 @@ pub record IsSized (kinds : List Kind) (base : List (List Lit)) (old : List Step
   pub variables : sizes.variables ≡ length kinds
   pub shared : sizes.shared ≡ length old
   pub below : All (NamesBelow (length kinds)) base
-
--- a list begins with another
-abbrev pub BeginsWith : List Step → List Step → Type 0
-BeginsWith old list = (more : List Step) × (list ≡ old ++ more)
-
-pub is_less : (a b : ℕ) → nat_lt a b ≡ true → a < b
-is_less a b h = grind (arith, nat_tests)
-
-pub is_not_less : (a b : ℕ) → nat_lt a b ≡ false → b ≤ a
-is_not_less a b h = grind (arith, nat_tests)
 
 module _ (kinds : List Kind) (base : List (List Lit)) (old : List Step) (sizes : Sizes) (is : IsSized kinds base old sizes) where
   -- the own clauses follow the base clauses and the shared ones

@@ -12,11 +12,13 @@ use Rattle.gp_clause.specs.declared.lit.Lit.{Lit}
 use Rattle.gp_certificate.specs.declared.step.Step.{Step}
 use Rattle.gp_certificate.specs.Certificate.{StepChecks, StepsCheck, clauses_of}
 use Rattle.gp_base.specs.ListLaws.{slice_get_front}
-use Rattle.gp_compact.specs.declared.moving.Sizes.{Sizes}
-use Rattle.gp_compact.specs.Moving.{first_own, front_of, new_number, own_number, place_of, places_after, places_of}
+use Rattle.gp_sharing.specs.declared.sizes.Sizes.{Sizes}
+use Rattle.gp_sharing.specs.Moving.{first_own, front_of, new_number, own_number, place_of, places_after, places_of}
 use Rattle.gp_compact.proofs.Gathered.{last_clause}
 use Rattle.gp_compact.proofs.Renamed.{NamesSame, still_within}
-use Rattle.gp_compact.proofs.Sized.{BeginsWith, IsSized, front_over, front_same, is_less, is_not_less, own_follow, own_named, shared_named}
+use Rattle.gp_sharing.specs.GrownLaws.{BeginsWith}
+use Rattle.gp_compact.proofs.Sized.{IsSized, front_over, front_same, own_follow, own_named, shared_named}
+use Rattle.gp_sharing.specs.FoundLaws.{is_less, is_not_less}
 
 -- what holds of each element of a list that was made holds of what it was made of
 pub all_unmapped : (P : ℕ → Type 0) (f : ℕ → ℕ) (hints : List ℕ) → All P (map f hints) → All (λ hint. P (f hint)) hints

@@ -18,14 +18,16 @@ use Rattle.gp_base.specs.ListLaws.{slice_get_front}
 use Rattle.gp_derivation.specs.Numbering.{with_hints}
 use Rattle.gp_certificate.specs.Shared.{OwnStepsPass}
 use Rattle.gp_certificate.specs.Step.{Passes, named}
-use Rattle.gp_compact.specs.declared.moving.Sizes.{Sizes}
-use Rattle.gp_compact.specs.Moving.{are_movable, first_own, moved_step, moves, new_number, own_number, place_at, place_of, places_of, rests_on_earlier, shared_number, staying}
+use Rattle.gp_sharing.specs.declared.sizes.Sizes.{Sizes}
+use Rattle.gp_sharing.specs.Moving.{are_movable, first_own, moved_step, moves, new_number, own_number, place_at, place_of, places_of, rests_on_earlier, shared_number, staying}
 use Rattle.gp_compact.proofs.Alike.{passes_local}
-use Rattle.gp_compact.proofs.Found.{both, placed_there}
-use Rattle.gp_compact.proofs.Gathered.{begins_itself, has_hint, hints_below, none_placed, placed_more}
+use Rattle.gp_sharing.specs.FoundLaws.{both, placed_there}
+use Rattle.gp_sharing.specs.GrownLaws.{BeginsWith, begins_itself}
+use Rattle.gp_compact.proofs.Gathered.{has_hint, none_placed, placed_more}
+use Rattle.gp_sharing.specs.PlaceLaws.{hints_below}
 use Rattle.gp_compact.proofs.Gathering.{ArePlaced, map_length, moved_same, named_below}
 use Rattle.gp_compact.proofs.Renamed.{HasHint, NamesSame, hinted_named, named_same, passes_renamed, renamed_passes, usable_named}
-use Rattle.gp_compact.proofs.Sized.{BeginsWith, IsSized, own_follow}
+use Rattle.gp_compact.proofs.Sized.{IsSized, own_follow}
 use Rattle.gp_compact.proofs.Stayed.{ArePlaces, AreRenumbered, all_unmapped, certificate_places, checks_at, first_renumbered, moved_renumbered, stayed_renumbered}
 
 -- two facts about each of some hints are one

@@ -1,3 +1,1 @@
 pub mod Compact
-pub mod Keys
-pub mod Moving

@@ -1,13 +1,14 @@
 ghost use Rattle.std.specs.Prelude.{◌≡◌, ◌+◌, if◌then◌else◌, true, IfOk, None, Some, drop, length, min};
 ghost use Rattle.gp_window.specs.Windows.{all_windows};
-ghost use Rattle.gp_compact.specs.Compact.{CompactKeepsAcceptance, IsCompacted, are_few, compacted_by, compacted_next, compacted_windows, compacted_window, entries_in_body, own_steps, sizes_of, steps_in};
+ghost use Rattle.gp_compact.specs.Compact.{CompactKeepsAcceptance, IsCompacted, compacted_next, compacted_window, compacted_windows, sizes_of};
+ghost use Rattle.gp_sharing.specs.Compacted.{are_few, compacted_by, entries_in_body, own_steps, steps_in};
 
-use crate::moving::Sizes;
 use crate::rewriting::rewrite_body;
 use crate::sharing::share;
 use gp_base::Row;
 use gp_constraint::{BaseFault, Encoded, base, problems_are_valid};
 use gp_report::{Answer, Entry, Report, WindowBody, WindowRecord};
+use gp_sharing::Sizes;
 use gp_window::{Recording, Window, Windows};
 use std::alloc::{AllocError, Global};
 
@@ -94,17 +95,12 @@ fn sizes_of(encoded: &Encoded, told: &WindowRecord) -> Option<Sizes>
     ensures { result ≡ (if are_few (sizes_of encoded.now told.now.shared) told.now.body then Some (sizes_of encoded.now told.now.shared) else None) }
 {
     let problem = encoded.problem();
-    let clauses = problem.clauses.len();
-    let shared = told.shared.len();
-    let first = (clauses as u64).saturating_add(shared as u64);
+    let shared = told.shared.as_slice();
+    let first = (problem.clauses.len() as u64).saturating_add(shared.len() as u64);
     if count_steps(first, &told.body) >= MOST_STEPS {
         return None;
     }
-    Some(Sizes {
-        clauses: clauses as u32,
-        variables: problem.kinds.len() as u32,
-        shared: shared as u32,
-    })
+    Some(Sizes::of(problem, shared))
 }
 
 // A number and the steps of a window's certificates together, or the greatest number if they do not fit.
@@ -154,7 +150,7 @@ fn compact_by(alloc: Global, sizes: Sizes, told: WindowRecord) -> Result<WindowR
     let body = rewrite_body(alloc, sizes, &list, body)?;
     Ok(WindowRecord {
         number,
-        shared: Row::from_vec(list.into_vec()),
+        shared: list.into_row(),
         body,
         records,
     })

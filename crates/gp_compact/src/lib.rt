@@ -1,15 +1,9 @@
 // The compact form of a report: in each window the steps of certificates that rest on the constraints alone stand once, and
-// are cited by number.
-//
-// Steps are moved certificate by certificate, the first equal one standing for each; all hints are renumbered. A compact
-// report is accepted exactly where the report is of which it was made.
+// are cited by number. A compact report is accepted exactly where the report is of which it was made.
 #![tactic(auto)]
 
 mod compacting;
-mod moving;
-mod renumbering;
 mod rewriting;
-mod shared_list;
 mod sharing;
 
 pub use compacting::{compact, compact_keeps_acceptance};

@@ -1,14 +1,12 @@
 ghost use Rattle.std.specs.Prelude.{◌≡◌, IfOk, length, map};
-ghost use Rattle.gp_compact.specs.Compact.{answer_by, body_by, entries_by, entries_in_body, entry_by, own_steps, property_by, steps_in};
-ghost use Rattle.gp_compact.specs.Moving.{RoomFor, compacted_steps};
+ghost use Rattle.gp_sharing.specs.Compacted.{answer_by, body_by, entries_by, entries_in_body, entry_by, own_steps, property_by, steps_in};
+ghost use Rattle.gp_sharing.specs.Moving.{RoomFor, compacted_steps};
 ghost use Rattle.gp_report.specs.Entries.{entries_among, entries_in};
 
-use crate::moving::Sizes;
-use crate::renumbering::compact_steps;
-use crate::shared_list::SharedList;
 use gp_base::Row;
 use gp_certificate::Certificate;
 use gp_report::{Answer, Entry, PropertyBody, PropertyRecord, WindowBody};
+use gp_sharing::{SharedList, Sizes, compact_steps};
 use std::alloc::{AllocError, Global};
 
 // What is told of a window, with certificates over its whole new shared list.

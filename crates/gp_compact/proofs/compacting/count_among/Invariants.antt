@@ -1,5 +1,5 @@
 use Rattle.std.proofs.Common.{◌≡◌, ◌+◌, min, take}
-use Rattle.gp_compact.specs.Compact.{steps_in}
+use Rattle.gp_sharing.specs.Compacted.{steps_in}
 use Rattle.gp_compact.proofs.compacting.count_among.Given as goal
 
 abbrev pub invariant-loop-entry : goal.invariant-loop-entry

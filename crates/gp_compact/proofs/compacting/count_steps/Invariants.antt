@@ -1,6 +1,6 @@
 use Rattle.std.proofs.Common.{◌≡◌, ◌+◌, min, take}
 use Rattle.gp_report.specs.Entries.{entries_among}
-use Rattle.gp_compact.specs.Compact.{steps_in}
+use Rattle.gp_sharing.specs.Compacted.{steps_in}
 use Rattle.gp_compact.proofs.compacting.count_steps.Given as goal
 
 abbrev pub invariant-loop-property : goal.invariant-loop-property

@@ -1,7 +1,7 @@
 use Rattle.std.proofs.Common.{◌≡◌, map}
 use Rattle.std.specs.Vec.Iter.{into_iter_items}
-use Rattle.gp_compact.specs.Compact.{entry_by, steps_in}
-use Rattle.gp_compact.specs.Moving.{RoomFor, compacted_steps}
+use Rattle.gp_sharing.specs.Compacted.{entry_by, steps_in}
+use Rattle.gp_sharing.specs.Moving.{RoomFor, compacted_steps}
 use Rattle.gp_compact.proofs.rewriting.rewrite_entries.Given as goal
 
 abbrev pub invariant-loop-entry : goal.invariant-loop-entry

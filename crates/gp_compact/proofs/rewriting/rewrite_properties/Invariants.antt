@@ -1,8 +1,8 @@
 use Rattle.std.proofs.Common.{◌≡◌, map}
 use Rattle.std.specs.Vec.Iter.{into_iter_items}
 use Rattle.gp_report.specs.Entries.{entries_among}
-use Rattle.gp_compact.specs.Compact.{property_by, steps_in}
-use Rattle.gp_compact.specs.Moving.{RoomFor, compacted_steps}
+use Rattle.gp_sharing.specs.Compacted.{property_by, steps_in}
+use Rattle.gp_sharing.specs.Moving.{RoomFor, compacted_steps}
 use Rattle.gp_compact.proofs.rewriting.rewrite_properties.Given as goal
 
 abbrev pub invariant-loop-property : goal.invariant-loop-property

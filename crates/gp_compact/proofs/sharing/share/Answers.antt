@@ -1,7 +1,7 @@
 use Rattle.std.proofs.Common.{◌≡◌, ◌∙◌, ap, List}
 use Rattle.gp_report.specs.Records.{Entry}
 use Rattle.gp_report.specs.Entries.{entries_among, entries_in}
-use Rattle.gp_compact.specs.Compact.{with_entries}
+use Rattle.gp_sharing.specs.Compacted.{with_entries}
 use Rattle.gp_compact.proofs.Walks.{property_left, property_more}
 use Rattle.gp_compact.proofs.sharing.share.Goals as goal
 

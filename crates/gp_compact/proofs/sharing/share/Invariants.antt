@@ -1,6 +1,6 @@
 use Rattle.std.proofs.Common.{◌≡◌, ◌+◌, ◌^◌, ◌<◌, drop, length}
 use Rattle.gp_report.specs.Entries.{entries_among}
-use Rattle.gp_compact.specs.Compact.{steps_in, with_entries}
+use Rattle.gp_sharing.specs.Compacted.{steps_in, with_entries}
 use Rattle.gp_compact.proofs.sharing.share.Given as goal
 
 abbrev pub invariant-loop-property : goal.invariant-loop-property

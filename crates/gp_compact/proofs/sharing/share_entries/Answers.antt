@@ -1,4 +1,4 @@
-use Rattle.gp_compact.specs.Compact.{with_entries}
+use Rattle.gp_sharing.specs.Compacted.{with_entries}
 use Rattle.gp_compact.proofs.Walks.{entry_left, entry_more}
 use Rattle.gp_compact.proofs.sharing.share_entries.Goals as goal
 

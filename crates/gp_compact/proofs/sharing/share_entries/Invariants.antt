@@ -1,5 +1,5 @@
 use Rattle.std.proofs.Common.{◌≡◌, ◌+◌, ◌^◌, ◌<◌, drop, length}
-use Rattle.gp_compact.specs.Compact.{steps_in, with_entries}
+use Rattle.gp_sharing.specs.Compacted.{steps_in, with_entries}
 use Rattle.gp_compact.proofs.sharing.share_entries.Given as goal
 
 abbrev pub invariant-loop-entry : goal.invariant-loop-entry

@@ -1,6 +1,0 @@
-use Rattle.std.proofs.Common.{◌≡◌, ◌+◌, drop}
-use Rattle.gp_compact.specs.Moving.{are_movable}
-use Rattle.gp_compact.proofs.moving.are_movable.Given as goal
-
-abbrev pub invariant-loop-own : goal.invariant-loop-own
-invariant-loop-own l = are_movable (l.first + l.own) (drop l.own l.steps) ≡ are_movable l.first l.steps

@@ -1,6 +1,0 @@
-use Rattle.std.proofs.Common.{◌≡◌, map, take}
-use Rattle.gp_compact.specs.Moving.{raised}
-use Rattle.gp_compact.proofs.renumbering.raise_step.Given as goal
-
-abbrev pub invariant-loop-hint : goal.invariant-loop-hint
-invariant-loop-hint l = l.made.items ≡ map (raised l.sizes l.gained) (take l.hint-index l.hint-items)

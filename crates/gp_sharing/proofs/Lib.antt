@@ -1,0 +1,3 @@
+pub mod Firstly
+pub mod NewNumbers
+pub mod Walks

@@ -9,6 +9,5 @@ pub mod Renamed
 pub mod Sized
 pub mod Stayed
 pub mod Stays
-pub mod Told
 pub mod Walks
 pub mod Windows

@@ -4,3 +4,4 @@ mod Agreement
 mod Digits
 mod Few
 mod Enough
+mod Compact

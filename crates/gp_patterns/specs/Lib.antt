@@ -4,3 +4,4 @@ pub mod Question
 pub mod EncodableLaws
 pub mod Agreement
 pub mod Enough
+pub mod CompactAnswer

@@ -1,5 +1,6 @@
 ghost use Rattle.std.specs.Prelude.{◌≡◌, ◌*◌, ◌≤◌, IfOk, length};
 ghost use Rattle.gp_patterns.specs.Answered.{IsAnswered};
+ghost use Rattle.gp_patterns.specs.CompactAnswer.{IsCompactAnswer};
 ghost use Rattle.gp_patterns.specs.Tickets.{asked_total, too_much};
 
 use crate::patterns::Patterns;
@@ -35,6 +36,30 @@ pub fn analyse<R: Threads + Wait + Sync, G: Gate + Sync>(
     let question = Patterns::of(properties);
     let windows = gp_analysis::analyse(rt, alloc, recording, &question, workers, budget, gate)?;
     Ok(Report::new(1, budget, windows))
+}
+
+/// As `analyse`, in the compact form: the report has format 2, and each window is compacted when it is answered, so that no more
+/// than one of its certificates is in memory before.
+pub fn analyse_compact<R: Threads + Wait + Sync, G: Gate + Sync>(
+    rt: &R,
+    alloc: Global,
+    recording: &Recording,
+    properties: &[Property],
+    workers: u32,
+    budget: u64,
+    gate: &G,
+) -> Result<Report, AllocError>
+    requires few { length properties.now ≤ 64 }
+    requires workers { (1 ≤ workers) × (workers ≤ 16) }
+    requires budget { 1 ≤ budget }
+    requires most { budget ≤ 1000000 }
+    requires limit { asked_total recording.now properties.now * budget ≤ 1000000 }
+    ensures { IfOk result (IsCompactAnswer recording.now properties.now workers budget) }
+{
+    let question = Patterns::of(properties);
+    let windows =
+        gp_analysis::analyse_compact(rt, alloc, recording, &question, workers, budget, gate)?;
+    Ok(Report::new(2, budget, windows))
 }
 
 /// How many instances are asked in all windows of a recording, where that times the budget of each is over 1,000,000, and

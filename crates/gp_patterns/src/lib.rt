@@ -8,7 +8,7 @@ mod encoding;
 mod laws;
 mod patterns;
 
-pub use analysing::{analyse, too_much};
+pub use analysing::{analyse, analyse_compact, too_much};
 pub use encoding::encode_window;
 pub use laws::{enough_decides, patterns_answered, reports_agree};
 pub use patterns::Patterns;

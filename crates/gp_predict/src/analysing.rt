@@ -11,9 +11,8 @@ use crate::listing::{Listing, listing_at};
 use crate::refusal::Refusal;
 use crate::stop::Stop;
 use gp_acceptance::compact_is_answered;
-use gp_compact::compact;
 use gp_outside::{Folder, Gate};
-use gp_patterns::{analyse, too_much};
+use gp_patterns::{analyse, analyse_compact, too_much};
 use gp_report::Report;
 use gp_words::Command;
 use std::alloc::AllocError;
@@ -98,17 +97,9 @@ fn analysis_report<R: AllocGlobal + Threads + Wait + Sync, G: Gate + Sync>(
     compact_is_answered();
     let recording = &listing.recording;
     let properties = listing.properties.as_slice();
-    let report = analyse(
-        rt,
-        rt.alloc(),
-        recording,
-        properties,
-        asked.workers,
-        asked.budget,
-        gate,
-    )?;
+    let (workers, budget) = (asked.workers, asked.budget);
     if asked.format == COMPACT {
-        return compact(rt.alloc(), recording, report);
+        return analyse_compact(rt, rt.alloc(), recording, properties, workers, budget, gate);
     }
-    Ok(report)
+    analyse(rt, rt.alloc(), recording, properties, workers, budget, gate)
 }

@@ -84,6 +84,9 @@ certificate_adds sizes list steps = by (are_movable (first_own sizes) steps)
     by true = omega (arith, steps_add sizes list [] (front_of steps), length-take (length steps - 1) steps)
     by false = omega arith
 
+pub certificate_grows : (sizes : Sizes) (list steps : List Step) → length list ≤ length (with_certificate sizes list steps)
+certificate_grows sizes list steps = begins_length list (with_certificate sizes list steps) (certificate_begins sizes list steps)
+
 -- a certificate that is not movable adds nothing
 pub nothing_added : (sizes : Sizes) (list steps : List Step) → are_movable (first_own sizes) steps ≡ false → with_certificate sizes list steps ≡ list
 nothing_added sizes list steps fixed = rw fixed refl
@@ -124,7 +127,7 @@ abbrev pub HasRoom : {Shown : Type 0} → Sizes → List Step → ℕ → EntryO
 HasRoom sizes list most entry = are_movable (first_own sizes) (own_steps entry.answer) ≡ false → length list + length (own_steps entry.answer) ≤ most
 
 pub entries_leave_room : {Shown : Type 0} (sizes : Sizes) (list : List Step) (entries : List (EntryOf Shown)) → All (HasRoom sizes (with_entries sizes list entries) (length list + steps_in entries)) entries
-entries_leave_room sizes list [] = All-nil (HasRoom sizes list (length list + steps_in []))
+entries_leave_room {Shown} sizes list [] = All-nil (HasRoom sizes list (length list + steps_in {Shown = Shown} []))
 entries_leave_room sizes list (entry ∷ entries) =
     let more = with_certificate sizes list (own_steps entry.answer) in
     let all = with_entries sizes more entries in

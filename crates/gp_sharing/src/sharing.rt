@@ -9,12 +9,7 @@ use std::alloc::{AllocError, Global};
 
 impl SharedList {
     /// Shares those steps of a certificate that move: each is put at the end, unless an equal one stands in the list.
-    pub fn share(
-        &mut self,
-        alloc: Global,
-        sizes: Sizes,
-        steps: &[Step],
-    ) -> Result<(), AllocError>
+    pub fn share(&mut self, alloc: Global, sizes: Sizes, steps: &[Step]) -> Result<(), AllocError>
         requires { sizes.clauses + length self.old + length steps.now < 2 ^ 31 }
         ensures { OnOk result (self.new ≡ with_certificate sizes self.old steps.now) }
     {

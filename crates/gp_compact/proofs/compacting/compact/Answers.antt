@@ -3,7 +3,7 @@ use Rattle.gp_report.specs.Records.{WindowRecord}
 use Rattle.gp_report.specs.Report.{IsReport}
 use Rattle.gp_window.specs.Windows.{all_windows}
 use Rattle.gp_compact.specs.Compact.{compacted_windows}
-use Rattle.gp_compact.proofs.Told.{report_told}
+use Rattle.gp_compact.specs.ToldLaws.{report_told}
 use Rattle.gp_compact.proofs.compacting.compact.Goals as goal
 
 pub new-requires : goal.new-requires

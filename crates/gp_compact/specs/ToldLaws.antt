@@ -1,4 +1,4 @@
--- A text can tell what a report becomes.
+-- Laws: a text can tell what a report becomes.
 use Rattle.std.proofs.Common.{◌≡◌, refl, ap, sym, ◌∙◌, inr, ℕ, List, [], ◌∷◌, Result, Ok, Err, length, map, drop, All}
 use Rattle.std.proofs.lemmas.List.{length-map}
 use Rattle.std.proofs.lemmas.List.Elements.{All-cons, All-head, All-nil, All-tail}

@@ -13,7 +13,7 @@ use Rattle.gp_window.specs.RecordingForm.{RecordingForm}
 use Rattle.gp_window.specs.WindowForm.{WindowForm}
 use Rattle.gp_window.specs.Windows.{all_windows}
 use Rattle.gp_sharing.specs.Compacted.{compacted_by, sizes_in}
-use Rattle.gp_compact.specs.Compact.{compacted, compacted_over, compacted_window, compacted_windows}
+use Rattle.gp_compact.specs.Compact.{compacted_over, compacted_window, compacted_windows}
 use Rattle.gp_compact.specs.ToldLaws.{report_told}
 use Rattle.gp_analysis.specs.Recorded.{CompactEach, RecordEach, compacted_where}
 use Rattle.gp_analysis.specs.RecordedLaws.{all_answered, is_report}
@@ -65,7 +65,7 @@ module _ (properties : List PropertyForm) (count budget : ℕ) where
         same_budget = refl;
         windows = windows_there properties count budget (all_windows recording) forms.told (all_answered (patterns properties) count budget recording forms.told forms.recorded);
       };
-      made = ap (λ (windows : List WindowRecord). record { format = 2; budget = budget; windows = windows }) forms.made;
+      made = λ i. record { format = 2; budget = budget; windows = forms.made i };
     };
   }
     where

@@ -1,17 +1,11 @@
 -- Levels of assumptions: one more, and one fewer.
-use Rattle.std.proofs.Common.{◌≡◌, ◌≢◌, ℕ, ◌+◌, ◌-◌, ◌<◌, ◌≤◌, zero, suc, Bool, true, false, not, Option, None, Some, List, [], ◌∷◌, ◌++◌, length, take, drop, map, get_or, All, Any, Contains, ◌⊎◌, inl, inr, ◌↔◌, refl, ap, sym, ◌∙◌, subst, arith, ◌==◌, cond, eq-eqb}
+use Rattle.std.proofs.Common.{◌≡◌, ◌≢◌, ℕ, ◌+◌, ◌-◌, ◌<◌, ◌≤◌, Bool, true, false, Option, None, Some, List, [], ◌∷◌, ◌++◌, length, take, drop, get_or, All, Any, Contains, ◌⊎◌, inl, inr, ◌↔◌, refl, ap, sym, ◌∙◌, subst, arith, ◌==◌, eq-eqb}
 use Rattle.std.specs.Prelude.{MatchBool, IsTrue}
-use Rattle.std.specs.List.{filter_map, list_any}
-use Rattle.std.proofs.lemmas.Bool.{cases_eq, cases_lt, false≢true, eqb-true}
-use Rattle.std.proofs.lemmas.Bool.Decides.{nat_tests}
-use Rattle.std.proofs.lemmas.List.{append-nil, append_assoc, map-append, length-map, length-append, length_push, length-take, take_at, take-append-drop, take_rest, drop_at, get_or_push, get_or-map, get_or_default, same_from_push, take_all}
+use Rattle.std.proofs.lemmas.Bool.{false≢true}
+use Rattle.std.proofs.lemmas.List.{append-nil, map-append, length-map, length_push, take_at, take-append-drop, take_rest, drop_at, get_or_push, same_from_push, take_all}
 use Rattle.std.proofs.lemmas.List.Elements.{All-nil, All-append, All-weaker, All-contains, All-contains_itself, Contains-append_left, Contains-append_right, filter_map-append}
 use Rattle.std.proofs.lemmas.List.Concat.{flat_map-append}
-use Rattle.std.proofs.lemmas.List.Folds.{Any-from_list_any}
-use Rattle.std.proofs.lemmas.List.Sums.{sum_by-append}
-use Rattle.std.proofs.lemmas.Map.Keys.{IsDistinct-from_apart}
-use Rattle.std.proofs.lemmas.Map.Steps.{length-le_from_distinct_below}
-use Rattle.gp_base.specs.CountLaws.{count_two, twice_from_places}
+use Rattle.gp_base.specs.CountLaws.{count_two}
 use Rattle.gp_base.specs.ListLaws.{all_from_contains, contains_map, contains_from_map}
 use Rattle.gp_clause.specs.declared.edge.Edge.{Edge}
 use Rattle.gp_clause.specs.declared.kind.Kind.{Kind}
@@ -86,11 +80,14 @@ clash all clauses lit once (given l is) has =
 
     named : (x : Lit) {y : Lit} → x ≡ y → (x.variable == y.variable) ≡ true
     named x is = ap (λ (z : Lit). x.variable == z.variable) (sym is) ∙ eq-eqb x.variable x.variable refl
-clash all clauses lit once (forced clause l one within others) has =
-    (clause, one, λ other is. elim (lits_cases other l) [
-      | inl same ↦ subst (λ x. Derived (negations all) clauses (opposite x)) (sym same) (given (opposite l) has)
-      | inr apart ↦ others other is apart
-    ])
+clash all clauses lit once (forced clause l one within others) has = (
+  clause,
+  one,
+  λ other is. elim (lits_cases other l) [
+    | inl same ↦ subst (λ x. Derived (negations all) clauses (opposite x)) (sym same) (given (opposite l) has)
+    | inr apart ↦ others other is apart
+  ],
+)
 
 -- what is on the trail after literals were made false is derived from the longer start
 pub taken_derived : (clauses : List (List Lit)) (start lits : List Lit) (old new : Assignment) → IsClosing (negations start) clauses old → All (λ lit. Contains old.trail.items lit ⊎ Contains (negations lits) lit) new.trail.items

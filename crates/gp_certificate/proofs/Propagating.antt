@@ -1,21 +1,20 @@
 -- Propagation: literals that fall one after another, and the clauses that are looked at.
-use Rattle.std.proofs.Common.{◌≡◌, ◌≢◌, ℕ, ◌+◌, ◌-◌, ◌<◌, ◌≤◌, zero, suc, Bool, true, false, not, Option, None, Some, List, [], ◌∷◌, ◌++◌, length, take, get_or, set, map, All, Any, Contains, ◌⊎◌, inl, inr, refl, ap, sym, ◌∙◌, subst, arith}
+use Rattle.std.proofs.Common.{◌≡◌, ℕ, ◌+◌, ◌<◌, ◌≤◌, Bool, true, false, not, Option, None, Some, List, [], ◌∷◌, ◌++◌, length, take, get_or, All, Any, Contains, ◌⊎◌, inl, inr, refl, ap, sym, ◌∙◌, subst, arith}
 use Rattle.std.specs.List.{slice_get}
 use Rattle.std.specs.Prelude.{MatchBool}
-use Rattle.std.proofs.lemmas.Bool.{cases_eq, cases_lt, false≢true}
-use Rattle.std.proofs.lemmas.List.{append_assoc, append-nil, take_more, take_all, take-append-le, take-map, get_or_default, length-append, length-take}
-use Rattle.std.proofs.lemmas.List.Elements.{All-nil, All-weaker, All-take, All-push, All-append, All-contains, All-contains_itself, Contains-append_left, Contains-push_cases, Contains-push}
+use Rattle.std.proofs.lemmas.Bool.{cases_lt}
+use Rattle.std.proofs.lemmas.List.{append_assoc, append-nil, take_more, take_all, take-append-le, take-map, get_or_default, length-append}
+use Rattle.std.proofs.lemmas.List.Elements.{All-nil, All-weaker, All-take, All-push, All-contains, All-contains_itself, Contains-append_left, Contains-push_cases, Contains-push}
 use Rattle.std.proofs.lemmas.List.Sums.{count_by-le-length}
 use Rattle.std.proofs.lemmas.Option.{slice_get_within, get_or_from_slice_get}
 use Rattle.gp_clause.specs.declared.lit.Lit.{Lit}
 use Rattle.gp_clause.specs.Clause.{NamesOnce}
 use Rattle.gp_clause.specs.Closure.{Conflicts, IsTrueIn, IsFalseIn}
 use Rattle.gp_clause.specs.Lit.{opposite, negations}
-use Rattle.gp_clause.specs.LitLaws.{lits_same}
-use Rattle.gp_base.specs.ListLaws.{got_all, all_from_got, first_or_rest, nothing_in, contains_from_take, contains_map}
+use Rattle.gp_base.specs.ListLaws.{got_all, all_from_got, first_or_rest, nothing_in, contains_from_take}
 use Rattle.gp_certificate.specs.declared.assignment.Assignment.{Assignment}
 use Rattle.gp_certificate.specs.Assignment.{value_of, HasTwo, IsOpen, IsKept, IsClosing}
-use Rattle.gp_certificate.specs.Counting.{fell, standing, IsDone, AreDone, AreExact, IsExact, HasBegun, IsThrough, Extends, StaysClosing, FindsConflict, GoesOn, LooksAt}
+use Rattle.gp_certificate.specs.Counting.{fell, standing, IsDone, AreDone, AreExact, IsExact, HasBegun, Extends, StaysClosing, FindsConflict, GoesOn, LooksAt}
 use Rattle.gp_certificate.specs.Loaded.{LoadedForm}
 use Rattle.gp_certificate.specs.Rows.{occurs, clause_at, left_at, HasShort}
 use Rattle.gp_certificate.proofs.Standing.{conflicts}
@@ -65,7 +64,7 @@ clause_got : (clauses : List (List Lit)) (number : ℕ) (clause : List Lit) → 
 clause_got clauses number clause got = get_or_from_slice_get clauses number clause [] got
 
 only : (number other : ℕ) → Contains (number ∷ []) other → number ≡ other
-only number other has = elim (first_or_rest number [] other has) [ | inl same ↦ same | inr more ↦ absurd (nothing_in other more) ]
+only number other has = elim (first_or_rest number [] other has) [ inl same ↦ same | inr more ↦ absurd (nothing_in other more) ]
 
 -- a number of no clause, a clause with enough left, and one that was looked at
 pub looks_past : (loaded : LoadedForm) (old new : Assignment) (number : ℕ) → length loaded.clauses ≤ number → LooksAt loaded old new (number ∷ [])

@@ -1,10 +1,10 @@
 -- Rows of literals, and how often a number stands in one.
-use Rattle.std.proofs.Common.{◌≡◌, ℕ, ◌+◌, ◌*◌, ◌-◌, ◌<◌, ◌≤◌, zero, suc, Bool, true, false, ◌==◌, cond, Option, None, Some, List, [], ◌∷◌, ◌++◌, length, map, take, drop, replicate, get_or, set, All, Contains, count_by, Vec, Global, ◌⊎◌, inl, inr, refl, ap, sym, ◌∙◌, subst, arith, eq-eqb}
+use Rattle.std.proofs.Common.{◌≡◌, ℕ, ◌+◌, ◌*◌, ◌-◌, ◌<◌, ◌≤◌, zero, suc, Bool, true, false, ◌==◌, cond, Option, None, Some, List, [], ◌∷◌, ◌++◌, length, map, take, drop, replicate, get_or, set, All, Contains, Vec, Global, ◌⊎◌, inl, inr, refl, ap, sym, ◌∙◌, subst, arith, eq-eqb}
 use Rattle.std.specs.List.{slice_get}
 use Rattle.std.specs.Option.{option_to_list}
 use Rattle.std.proofs.lemmas.Bool.{cases_Bool, cases_eq, cases_lt, false≢true}
 use Rattle.std.proofs.lemmas.Bool.Decides.{nat_tests}
-use Rattle.std.proofs.lemmas.List.{append-nil, append_assoc, map-append, length-append, length-map, length-replicate, get_or_append_left, get_or-append_right, get_or_past, get_or-set_same, get_or-set_other, length-set, take_more, take_all, drop_more, drop_all, replicate-append-replicate, same_from_push, length_push, get_or_default, length-take, map-set, get_or-map, get_or-take, take-take}
+use Rattle.std.proofs.lemmas.List.{append-nil, append_assoc, map-append, length-map, get_or_append_left, get_or-append_right, get_or_past, get_or-set_same, get_or-set_other, length-set, take_more, take_all, drop_all, replicate-append-replicate, same_from_push, length_push, length-take, map-set, get_or-map, get_or-take, take-take}
 use Rattle.std.proofs.lemmas.List.Sums.{sum_by-append, sum_by_more, sum_by-take-le, sum_by-drop_more}
 use Rattle.std.proofs.lemmas.List.Elements.{Contains-get_or, Contains-push_cases}
 use Rattle.std.proofs.lemmas.Option.{none-some, same_Some, slice_get_within, get_or_from_slice_get}
@@ -12,7 +12,6 @@ use Rattle.gp_clause.specs.declared.lit.Lit.{Lit}
 use Rattle.gp_clause.specs.Lit.{lit_eq}
 use Rattle.gp_clause.specs.LitLaws.{lit_eq_decides, lits_same}
 use Rattle.gp_base.specs.CountLaws.{count_one, count_passes}
-use Rattle.gp_base.specs.ListLaws.{nothing_in}
 use Rattle.gp_base.specs.SumLaws.{count_cons}
 use Rattle.gp_certificate.specs.Rows.{occurs, count_of, clause_at, left_at, numbers_of, code_of, row_of, AreListed}
 use Rattle.gp_certificate.specs.Loaded.{LoadedForm}
@@ -245,7 +244,7 @@ pub lowering_some : (old now row : List ℕ) (j d : ℕ) → ((number : ℕ) →
 lowering_some old now row j d most within lowering =
     let n = get_or row j d in
     let some : 1 ≤ left_at now n = omega (arith, most n, lowering.less n, count_more n row j d within, count_self n, count_first n row (j + 1)) in
-    (elim (cases_lt n (length now)) [ | inl inside ↦ inside | inr past ↦ absurd (omega (arith, some, get_or_past now n 0 past)) ], some)
+    (elim (cases_lt n (length now)) [ inl inside ↦ inside | inr past ↦ absurd (omega (arith, some, get_or_past now n 0 past)) ], some)
 
 pub lowering_more : (old now row : List ℕ) (j d new : ℕ) → ((number : ℕ) → count_of number row ≤ left_at old number) → j < length row → IsLowering old now row j
     → new + 1 ≡ left_at now (get_or row j d) → IsLowering old (set now (get_or row j d) new) row (j + 1)

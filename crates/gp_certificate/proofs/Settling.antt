@@ -1,17 +1,16 @@
 -- An assignment without a value.
-use Rattle.std.proofs.Common.{Vec, Global, ◌≡◌, ℕ, ◌+◌, ◌<◌, ◌≤◌, Bool, Option, None, Some, List, [], ◌++◌, length, take, get_or, set, replicate, vec_capacity, All, Contains, ◌⊎◌, inl, inr, refl, ap, sym, ◌∙◌, subst, arith, true}
-use Rattle.std.proofs.lemmas.Bool.{cases_eq, cases_lt}
-use Rattle.std.proofs.lemmas.List.{length-set, length-map, length-take, get_or-take, get_or-map, get_or-set_same, get_or-set_other, get_or_past, get_or_default}
+use Rattle.std.proofs.Common.{Vec, Global, ◌≡◌, ℕ, ◌<◌, ◌≤◌, Bool, Option, None, Some, List, [], ◌++◌, length, take, get_or, replicate, vec_capacity, All, Contains, ◌⊎◌, inl, inr, refl, ap, sym, ◌∙◌, subst, arith, true}
+use Rattle.std.proofs.lemmas.Bool.{cases_lt}
+use Rattle.std.proofs.lemmas.List.{get_or_past, get_or_default}
 use Rattle.std.proofs.lemmas.List.Elements.{All-nil, All-append, All-take, All-replicate}
 use Rattle.std.specs.Option.{is_none}
 use Rattle.gp_clause.specs.declared.lit.Lit.{Lit}
-use Rattle.gp_clause.specs.Clause.{NamesOnce, occurrences}
+use Rattle.gp_clause.specs.Clause.{NamesOnce}
 use Rattle.gp_clause.specs.Closure.{IsTrueIn}
-use Rattle.gp_clause.specs.Lit.{opposite, negations}
-use Rattle.gp_base.specs.CountLaws.{count_all, twice_from_places}
+use Rattle.gp_base.specs.CountLaws.{count_all}
 use Rattle.gp_certificate.specs.declared.assignment.Assignment.{Assignment}
 use Rattle.gp_certificate.specs.Assignment.{value_of, unassigned, IsKept}
-use Rattle.gp_certificate.proofs.Standing.{some_clash, true_within}
+use Rattle.gp_certificate.proofs.Standing.{some_clash}
 
 -- where no variable has a value, all are unassigned
 all_unassigned : (values : List (Option Bool)) → ((variable : ℕ) (sign : Bool) → value_of values variable ≡ Some sign → ⊥) → unassigned values ≡ length values

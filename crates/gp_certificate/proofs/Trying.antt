@@ -1,8 +1,6 @@
 -- Where what is derived was made true, a negative cycle with its bounds is all that refutes.
-use Rattle.std.proofs.Common.{◌≡◌, ℕ, Bool, Option, None, Some, List, ◌++◌, All, Contains, ◌↔◌, inl, inr, refl, ap, sym, ◌∙◌, subst, arith}
-use Rattle.std.specs.Prelude.{MatchBool}
+use Rattle.std.proofs.Common.{◌≡◌, Option, None, Some, List, ◌++◌, All, Contains, ◌↔◌, inl, inr, refl, ap, sym, ◌∙◌}
 use Rattle.std.specs.List.{slice_get}
-use Rattle.gp_difference.specs.Graph.{GraphForm}
 use Rattle.std.proofs.lemmas.List.Elements.{All-contains, All-weaker}
 use Rattle.std.proofs.lemmas.Option.{none-some}
 use Rattle.gp_clause.specs.declared.edge.Edge.{Edge}
@@ -13,7 +11,6 @@ use Rattle.gp_clause.specs.Closure.Derived.{given}
 use Rattle.gp_clause.specs.Kind.{bound_of, bound_at, bound_in}
 use Rattle.gp_clause.specs.Walk.{HasNegativeCycle}
 use Rattle.gp_certificate.specs.declared.assignment.Assignment.{Assignment}
-use Rattle.gp_certificate.specs.declared.places.Places.{Places}
 use Rattle.gp_certificate.specs.Assignment.{value_of, IsOpen, IsKept, IsClosing}
 use Rattle.gp_certificate.specs.Places.{bounds_at}
 use Rattle.gp_certificate.specs.Step.{IsDerivedBound, LeadsToConflict}

@@ -1,6 +1,6 @@
 -- How many literals of a clause may still be true, counted down as the negations of literals become true, and up again as these
 -- are taken back.
-use Rattle.std.specs.Prelude.{ℕ, ◌≡◌, ◌⊎◌, ◌+◌, ◌≤◌, Bool, not, List, ◌++◌, Option, Some, length, take, count_by, slice_get, All, Any, Contains}
+use Rattle.std.specs.Prelude.{ℕ, ◌≡◌, ◌⊎◌, ◌≤◌, Bool, not, List, ◌++◌, Option, Some, length, take, count_by, slice_get, All, Any, Contains}
 use Rattle.std.specs.List.{list_any}
 use Rattle.gp_clause.specs.declared.lit.Lit.{Lit}
 use Rattle.gp_clause.specs.Closure.{Conflicts, IsTrueIn}

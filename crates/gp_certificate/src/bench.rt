@@ -59,7 +59,12 @@ impl Bench {
         kinds.extend_from_slice(locals)?;
         let count = kinds.len();
         let assignment = Assignment::new(alloc, count)?;
-        let places = Places::new(alloc, problem.points, problem.edges.as_slice(), count as u32)?;
+        let places = Places::new(
+            alloc,
+            problem.points,
+            problem.edges.as_slice(),
+            count as u32,
+        )?;
         let mut loaded = Loaded::new(alloc);
         loaded.widen(2 * count)?;
         let mut assumed = ClauseList::new(alloc);
@@ -224,8 +229,8 @@ fn go_on(
     ensures places { places.new ≡ record places.old { graph = places.new.graph } }
     ensures graph { KeepsMore places.old.graph places.new.graph }
     ensures gives { (start : List Lit) → NamesOnce (start ++ lits.now)
-      → MatchBool lost (LeadsToConflict places.old.edges kinds.now loaded.old.clauses (negations start)) (IsCarried kinds.now loaded.old.clauses (negations start) assignment.old places.old.graph)
-      → MatchBool result (LeadsToConflict places.old.edges kinds.now loaded.old.clauses (negations (start ++ lits.now))) (IsSettled places.old.edges kinds.now loaded.old.clauses (negations (start ++ lits.now)) assignment.new places.new.graph) }
+        → MatchBool lost (LeadsToConflict places.old.edges kinds.now loaded.old.clauses (negations start)) (IsCarried kinds.now loaded.old.clauses (negations start) assignment.old places.old.graph)
+        → MatchBool result (LeadsToConflict places.old.edges kinds.now loaded.old.clauses (negations (start ++ lits.now))) (IsSettled places.old.edges kinds.now loaded.old.clauses (negations (start ++ lits.now)) assignment.new places.new.graph) }
 {
     if lost {
         return true;

@@ -1,4 +1,4 @@
-use Rattle.std.proofs.Common.{rules, ◌≡◌, ◌-◌, ◌<◌, ◌++◌, Bool, false, true, List, length, take, drop, inl, ap, sym, ◌∙◌, subst}
+use Rattle.std.proofs.Common.{◌<◌, ◌++◌, length, inl, sym, ◌∙◌, subst}
 use Rattle.std.specs.Prelude.{MatchBool}
 use Rattle.std.proofs.lemmas.List.Elements.{All-drop}
 use Rattle.gp_clause.specs.declared.lit.Lit.{Lit}
@@ -10,7 +10,7 @@ use Rattle.gp_certificate.specs.Levels.{IsCarried}
 use Rattle.gp_certificate.specs.Places.{bounds_at, KeepsAll}
 use Rattle.gp_certificate.specs.Step.{LeadsToConflict}
 use Rattle.gp_certificate.proofs.Propagating.{extends_more}
-use Rattle.gp_certificate.proofs.Levelling.{lost_more, cyclic_leads, taken_closing, taken_clash, extend_gives, begun_taken, trail_below, tail_is}
+use Rattle.gp_certificate.proofs.Levelling.{lost_more, taken_closing, taken_clash, extend_gives, begun_taken, trail_below, tail_is}
 use Rattle.gp_certificate.proofs.bench.go_on.Goals as goal
 
 pub returns-then-lost-clause-gives : goal.returns-then-lost-clause-gives
@@ -60,7 +60,7 @@ returns-clause-gives c = λ start once was.
     let carried : IsCarried kinds clauses (negations start) old c.args.places.now.graph =
     subst (λ b. MatchBool b (LeadsToConflict edges kinds clauses (negations start)) (IsCarried kinds clauses (negations start) old c.args.places.now.graph)) c.if-lost.false was in
     let closing = c.settle.ensures.on.closing (negations (start ++ c.args.lits.now))
-        (taken_closing clauses start c.args.lits.now old c.take.new.self carried.closing c.take.ensures.extends c.take.ensures.among c.if-take.ensures.gives) in
+    (taken_closing clauses start c.args.lits.now old c.take.new.self carried.closing c.take.ensures.extends c.take.ensures.among c.if-take.ensures.gives) in
     let tail = tail_is c.trail-from.result.now c.trail.result.now old.trail.items c.settle.new.self.trail.items c.trail-from.ensures c.trail.ensures in
     extend_gives edges kinds clauses (negations (start ++ c.args.lits.now)) old c.settle.new.self c.args.places.now.graph c.extend.new.self.graph c.extend.result carried.bounds
     (extends_more old c.take.new.self c.settle.new.self c.take.ensures.extends c.settle.ensures.on.extends) closing c.if-settle.ensures.gives

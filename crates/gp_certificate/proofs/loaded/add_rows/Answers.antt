@@ -1,4 +1,4 @@
-use Rattle.std.proofs.Common.{rules, List, Vec, Global, ℕ, sym, ap, ◌∙◌}
+use Rattle.std.proofs.Common.{rules, List, Vec, Global, ℕ, ap, ◌∙◌}
 use Rattle.gp_certificate.specs.Rows.{row_of}
 use Rattle.gp_certificate.proofs.Rowing.{row_added}
 use Rattle.gp_certificate.proofs.loaded.add_rows.Goals as goal

@@ -1,6 +1,5 @@
-use Rattle.std.proofs.Common.{rules, ◌≡◌, ◌++◌, List, take, replicate, ap, sym, ◌∙◌, subst}
-use Rattle.gp_clause.specs.declared.lit.Lit.{Lit}
-use Rattle.gp_certificate.specs.Rows.{occurs, row_of}
+use Rattle.std.proofs.Common.{rules, ◌≡◌, ◌∙◌}
+use Rattle.gp_certificate.specs.Rows.{row_of}
 use Rattle.gp_certificate.proofs.Rowing.{listing_more}
 use Rattle.gp_certificate.proofs.loaded.list.Goals as goal
 

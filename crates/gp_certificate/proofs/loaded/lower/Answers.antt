@@ -1,4 +1,4 @@
-use Rattle.std.proofs.Common.{rules, ◌≡◌, ◌≤◌, length, arith, vec_len}
+use Rattle.std.proofs.Common.{rules, ◌≡◌, length, arith, vec_len}
 use Rattle.std.proofs.lemmas.List.{get_or_default}
 use Rattle.gp_certificate.proofs.Rowing.{lowering_some, lowering_more, lowering_all}
 use Rattle.gp_certificate.proofs.loaded.lower.Goals as goal

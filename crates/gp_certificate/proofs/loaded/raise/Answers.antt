@@ -1,4 +1,4 @@
-use Rattle.std.proofs.Common.{rules, ◌≡◌, ◌<◌, ◌+◌, length, arith, vec_len, get_or}
+use Rattle.std.proofs.Common.{◌<◌, length, arith, get_or}
 use Rattle.std.proofs.lemmas.List.{get_or_default}
 use Rattle.gp_certificate.proofs.Rowing.{raising_few, raising_more, raising_all}
 use Rattle.gp_certificate.proofs.loaded.raise.Goals as goal

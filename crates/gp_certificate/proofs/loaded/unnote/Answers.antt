@@ -1,4 +1,4 @@
-use Rattle.std.proofs.Common.{rules, ◌≡◌, ◌<◌, ◌≤◌, None, length, sym, arith}
+use Rattle.std.proofs.Common.{rules, ◌<◌, length, sym}
 use Rattle.gp_certificate.proofs.Rowing.{row_popped}
 use Rattle.gp_certificate.proofs.loaded.unnote.Goals as goal
 

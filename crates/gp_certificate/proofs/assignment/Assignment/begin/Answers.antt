@@ -1,5 +1,5 @@
 use Rattle.std.proofs.Common.{rules, ◌≡◌}
-use Rattle.gp_certificate.proofs.Propagating.{begin_gives, begun_before}
+use Rattle.gp_certificate.proofs.Propagating.{begin_gives}
 use Rattle.gp_certificate.proofs.assignment.Assignment.begin.Goals as goal
 
 pub returns-clause-gives : goal.returns-clause-gives

@@ -1,4 +1,4 @@
-use Rattle.std.proofs.Common.{rules, ◌≡◌, ◌≤◌, ◌-◌, take, length, ap, ◌∙◌, sym, arith, List}
+use Rattle.std.proofs.Common.{rules, ◌≤◌, ◌-◌, take, length, ap, ◌∙◌, sym, List}
 use Rattle.std.proofs.lemmas.List.{take-take, take_all}
 use Rattle.gp_clause.specs.declared.lit.Lit.{Lit}
 use Rattle.gp_certificate.proofs.assignment.Assignment.cut_to.Goals as goal

@@ -1,4 +1,4 @@
-use Rattle.std.proofs.Common.{rules, ◌≡◌, ap, ◌∙◌}
+use Rattle.std.proofs.Common.{ap, ◌∙◌}
 use Rattle.gp_clause.specs.Lit.{opposite}
 use Rattle.gp_certificate.proofs.Propagating.{fall_most, fall_exact, fall_on, fall_gives, read_at}
 use Rattle.gp_certificate.proofs.assignment.Assignment.fall.Goals as goal

@@ -1,6 +1,5 @@
-use Rattle.std.proofs.Common.{rules, ◌<◌, ◌≤◌, length, arith}
-use Rattle.gp_certificate.proofs.Propagating.{look_gives, looked_within, looks_past, looks_enough}
-use Rattle.gp_certificate.specs.Rows.{left_at}
+use Rattle.std.proofs.Common.{rules, ◌<◌, length}
+use Rattle.gp_certificate.proofs.Propagating.{look_gives, looked_within}
 use Rattle.gp_certificate.proofs.assignment.Assignment.look_at.Goals as goal
 
 pub returns-clause-closing : goal.returns-clause-closing

@@ -1,4 +1,4 @@
-use Rattle.std.proofs.Common.{◌≡◌, ◌≤◌, ◌-◌}
+use Rattle.std.proofs.Common.{◌≡◌, ◌≤◌}
 use Rattle.gp_certificate.specs.Assignment.{IsKept}
 use Rattle.gp_certificate.specs.Counting.{IsExact}
 use Rattle.gp_certificate.proofs.assignment.Assignment.raise_to.Given as goal

@@ -1,4 +1,4 @@
-use Rattle.std.proofs.Common.{rules, ◌≡◌, ◌+◌, ◌<◌, ◌-◌, length, ap, ◌∙◌, arith}
+use Rattle.std.proofs.Common.{◌<◌, ◌-◌, length, ap, ◌∙◌, arith}
 use Rattle.gp_clause.specs.Lit.{opposite}
 use Rattle.gp_certificate.proofs.Propagating.{rise_fits, rise_exact, read_at}
 use Rattle.gp_certificate.proofs.assignment.Assignment.rise.Goals as goal

@@ -1,8 +1,5 @@
-use Rattle.std.proofs.Common.{rules, ◌≡◌, ◌≤◌, ℕ, take, length, List, All, ap, sym, ◌∙◌, subst, arith, true, false}
+use Rattle.std.proofs.Common.{rules, ◌≡◌, ◌≤◌, take, length, ap, sym, ◌∙◌, subst, arith}
 use Rattle.std.proofs.lemmas.List.{take_all}
-use Rattle.std.specs.Prelude.{MatchBool}
-use Rattle.gp_clause.specs.declared.lit.Lit.{Lit}
-use Rattle.gp_clause.specs.Clause.{NamesBelow}
 use Rattle.gp_certificate.specs.Counting.{AreDone}
 use Rattle.gp_certificate.specs.Loaded.{LoadedForm}
 use Rattle.gp_certificate.proofs.Propagating.{goes_begun, goes_more, found_more, first_on}

@@ -1,6 +1,4 @@
-use Rattle.std.proofs.Common.{rules, ◌∙◌, ap, sym}
-use Rattle.std.proofs.lemmas.List.{get_or_default}
-use Rattle.gp_certificate.proofs.Propagating.{taking_none, taking_more, taking_among, taking_all, no_lit}
+use Rattle.gp_certificate.proofs.Propagating.{taking_none, taking_more, taking_among, taking_all}
 use Rattle.gp_certificate.proofs.assignment.Assignment.take.Goals as goal
 
 pub loop-lit-init : goal.loop-lit-init

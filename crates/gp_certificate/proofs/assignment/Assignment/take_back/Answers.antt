@@ -1,4 +1,4 @@
-use Rattle.std.proofs.Common.{rules, ◌≡◌, ◌++◌, ◌∷◌, [], ap, ◌∙◌}
+use Rattle.std.proofs.Common.{rules, ◌++◌, ap, ◌∙◌}
 use Rattle.std.specs.Option.{option_to_list}
 use Rattle.gp_certificate.proofs.Standing.{kept_less}
 use Rattle.gp_certificate.proofs.assignment.Assignment.take_back.Goals as goal

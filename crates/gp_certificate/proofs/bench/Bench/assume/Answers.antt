@@ -1,8 +1,6 @@
-use Rattle.std.proofs.Common.{rules, ◌≡◌, ◌+◌, ◌≤◌, ◌<◌, ◌++◌, ◌∷◌, [], List, length, All, refl, ap, sym, ◌∙◌, subst, arith, vec_len}
+use Rattle.std.proofs.Common.{rules, ◌≡◌, ◌++◌, List, length, All, refl, ap, sym, ◌∙◌, subst, arith, vec_len}
 use Rattle.std.specs.Prelude.{MatchBool}
 use Rattle.std.proofs.lemmas.List.{length-append}
-use Rattle.gp_clause.specs.declared.edge.Edge.{Edge}
-use Rattle.gp_clause.specs.declared.kind.Kind.{Kind}
 use Rattle.gp_clause.specs.declared.lit.Lit.{Lit}
 use Rattle.gp_clause.specs.Clause.{NamesBelow, NamesOnce}
 use Rattle.gp_clause.specs.Lit.{negations}
@@ -61,13 +59,13 @@ invariant_of-self c =
     let edges : n.places.edges ≡ b.places.edges = ap (λ (p : Places). p.edges) e.places in
     let all : joined c.push_reserved.new.self.lists ≡ joined b.assumed.lists ++ lits = ap joined c.push_reserved.ensures.lists ∙ joined_push b.assumed.lists lits in
     let was : MatchBool c.is_lost.result (LeadsToConflict b.places.edges c.deref.result.now b.loaded.clauses (negations (joined b.assumed.lists)))
-        (IsCarried c.deref.result.now b.loaded.clauses (negations (joined b.assumed.lists)) b.assignment b.places.graph) =
+    (IsCarried c.deref.result.now b.loaded.clauses (negations (joined b.assumed.lists)) b.assignment b.places.graph) =
     subst (λ ks. MatchBool c.is_lost.result (LeadsToConflict b.places.edges ks b.loaded.clauses (negations (joined b.assumed.lists))) (IsCarried ks b.loaded.clauses (negations (joined b.assumed.lists)) b.assignment b.places.graph)) (sym c.deref.ensures.value)
     (subst (λ t. MatchBool t (LeadsToConflict b.places.edges b.kinds.items b.loaded.clauses (negations (joined b.assumed.lists))) (IsCarried b.kinds.items b.loaded.clauses (negations (joined b.assumed.lists)) b.assignment b.places.graph))
     (sym (c.is_lost.ensures ∙ ap is_lost c.deref-2.ensures.value))
     (carried_at b.places.edges b.kinds.items b.loaded.clauses (stack_of b) b.assignment b.places.graph refl refl c.self.invariant.kept c.self.invariant.stack)) in
     let tells : MatchBool c.go_on-refutes.result (LeadsToConflict b.places.edges b.kinds.items b.loaded.clauses (negations (joined b.assumed.lists ++ lits)))
-        (IsSettled b.places.edges b.kinds.items b.loaded.clauses (negations (joined b.assumed.lists ++ lits)) n.assignment n.places.graph) =
+    (IsSettled b.places.edges b.kinds.items b.loaded.clauses (negations (joined b.assumed.lists ++ lits)) n.assignment n.places.graph) =
     subst (λ ks. MatchBool c.go_on-refutes.result (LeadsToConflict b.places.edges ks b.loaded.clauses (negations (joined b.assumed.lists ++ lits))) (IsSettled b.places.edges ks b.loaded.clauses (negations (joined b.assumed.lists ++ lits)) n.assignment n.places.graph))
     c.deref.ensures.value (e.gives (joined b.assumed.lists) once was) in
     let level : Level = record { trail = length c.trail-trail.result.now; cursor = c.cursor-cursor.result; bounds = c.mark-bounds.result; refutes = c.go_on-refutes.result } in

@@ -1,4 +1,4 @@
-use Rattle.std.proofs.Common.{◌≡◌, ◌↔◌, IsTrue, refl, ap, sym, ◌∙◌, subst}
+use Rattle.std.proofs.Common.{◌↔◌, IsTrue, refl, ap, sym, ◌∙◌, subst}
 use Rattle.gp_certificate.specs.Bench.{BenchForm, stack_of}
 use Rattle.gp_certificate.specs.ClauseList.{joined}
 use Rattle.gp_certificate.specs.Lost.{is_lost}

@@ -1,4 +1,4 @@
-use Rattle.std.proofs.Common.{rules, ◌≡◌, ℕ, ◌+◌, ◌-◌, ◌≤◌, ◌<◌, ◌++◌, ◌∷◌, [], List, length, take, All, refl, ap, sym, ◌∙◌, subst, arith}
+use Rattle.std.proofs.Common.{rules, ◌≡◌, ◌+◌, ◌-◌, ◌≤◌, ◌++◌, [], List, length, take, All, refl, ap, sym, ◌∙◌, subst, arith}
 use Rattle.std.specs.Option.{option_to_list}
 use Rattle.std.proofs.lemmas.List.{length-append, length-take, length_push, nil_from_length}
 use Rattle.gp_clause.specs.declared.lit.Lit.{Lit}
@@ -30,7 +30,7 @@ pub raise_to-requires-clause-before : goal.raise_to-requires-clause-before
 raise_to-requires-clause-before c =
     let b = c.self.inside in
     let top = stack_top b.places.edges b.kinds.items b.loaded.clauses (stack_of b) c.pop.new.self.items c.in-Some.level c.self.invariant.stack
-        (c.pop.ensures.items ∙ ap (λ o. c.pop.new.self.items ++ option_to_list o) c.in-Some.is) in
+    (c.pop.ensures.items ∙ ap (λ o. c.pop.new.self.items ++ option_to_list o) c.in-Some.is) in
     omega (arith, top.3.cursor_mark, top.3.onward)
 
 pub cut_to-requires : goal.cut_to-requires
@@ -40,7 +40,7 @@ pub undo_to-requires : goal.undo_to-requires
 undo_to-requires c =
     let b = c.self.inside in
     let top = stack_top b.places.edges b.kinds.items b.loaded.clauses (stack_of b) c.pop.new.self.items c.in-Some.level c.self.invariant.stack
-        (c.pop.ensures.items ∙ ap (λ o. c.pop.new.self.items ++ option_to_list o) c.in-Some.is) in
+    (c.pop.ensures.items ∙ ap (λ o. c.pop.new.self.items ++ option_to_list o) c.in-Some.is) in
     omega (arith, top.3.bound_mark, ap (λ (bs : List Bound). length bs) top.3.kept.1, length-append top.0.kept top.3.kept.0)
 
 pub invariant_of-self-2 : goal.invariant_of-self-2

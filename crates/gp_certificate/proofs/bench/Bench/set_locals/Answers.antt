@@ -1,8 +1,6 @@
-use Rattle.std.proofs.Common.{rules, Bool, Option, ◌≡◌, ◌≤◌, ◌+◌, ◌++◌, List, length, take, All, ap, sym, ◌∙◌, arith, vec_capacity}
+use Rattle.std.proofs.Common.{rules, Bool, Option, ◌≡◌, ◌+◌, List, length, ap, sym, ◌∙◌, arith}
 use Rattle.std.proofs.lemmas.List.{length-append, length-take}
-use Rattle.std.proofs.lemmas.List.Elements.{All-append, All-take}
 use Rattle.gp_clause.specs.declared.kind.Kind.{Kind}
-use Rattle.gp_clause.specs.Problem.{IsValidKind}
 use Rattle.gp_difference.specs.declared.bound.Bound.{Bound}
 use Rattle.gp_certificate.specs.Bench.{BenchForm, stack_of}
 use Rattle.gp_certificate.proofs.Levelling.{stack_none}

@@ -1,6 +1,5 @@
-use Rattle.std.proofs.Common.{rules, ◌≡◌, ◌≤◌, ◌+◌, ◌++◌, ◌∷◌, [], length, List, ℕ, ap, ◌∙◌, arith, vec_len, vec_capacity}
-use Rattle.gp_clause.specs.declared.lit.Lit.{Lit}
-use Rattle.gp_certificate.specs.ClauseList.{ListForm, pieces, joined, ends_from}
+use Rattle.std.proofs.Common.{rules, ◌≡◌, ◌≤◌, ◌+◌, ◌++◌, ◌∷◌, [], length, ap, ◌∙◌, arith, vec_len, vec_capacity}
+use Rattle.gp_certificate.specs.ClauseList.{ListForm, pieces, joined}
 use Rattle.gp_certificate.proofs.Splitting.{many, used, pushed_view, split_of, view_of}
 use Rattle.gp_certificate.proofs.clause_list.ClauseList.push_reserved.Goals as goal
 

@@ -1,5 +1,4 @@
-use Rattle.std.proofs.Common.{rules, ◌≡◌, length, List, ℕ, ap, sym, ◌∙◌, arith, vec_len}
-use Rattle.gp_clause.specs.declared.lit.Lit.{Lit}
+use Rattle.std.proofs.Common.{rules, ◌≡◌, length, List, ℕ, ap, arith, vec_len}
 use Rattle.gp_certificate.specs.ClauseList.{pieces}
 use Rattle.gp_certificate.proofs.Splitting.{many}
 use Rattle.gp_certificate.proofs.clause_list.ClauseList.reserve.Goals as goal

@@ -1,4 +1,4 @@
-use Rattle.std.proofs.Common.{◌≡◌, ap, ◌∙◌, arith, ◌+◌}
+use Rattle.std.proofs.Common.{ap, ◌∙◌, arith}
 use Rattle.gp_certificate.specs.Loaded.{LoadedForm}
 use Rattle.gp_certificate.specs.Rows.{occurs, clause_at, left_at, row_of}
 use Rattle.gp_certificate.proofs.Rowing.{count_row}

@@ -1,6 +1,4 @@
-use Rattle.std.proofs.Common.{rules, ℕ, ◌≡◌, ◌+◌, ◌-◌, ◌<◌, ◌^◌, [], ◌++◌, List, length, take, replicate, ap, sym, ◌∙◌, arith, subst}
-use Rattle.std.proofs.lemmas.List.{length-take}
-use Rattle.gp_clause.specs.declared.lit.Lit.{Lit}
+use Rattle.std.proofs.Common.{rules, ℕ, ◌≡◌, ◌+◌, ◌-◌, ◌<◌, ◌^◌, [], ◌++◌, length, take, replicate, ap, sym, ◌∙◌, arith, subst}
 use Rattle.gp_certificate.specs.Loaded.{LoadedForm}
 use Rattle.gp_certificate.specs.Rows.{occurs, clause_at, numbers_of, AreListed, HasShort}
 use Rattle.gp_certificate.proofs.Rowing.{listed_last, short_take, each_take}

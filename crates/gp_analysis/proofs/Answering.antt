@@ -16,13 +16,13 @@ use Rattle.gp_window.specs.WindowForm.{WindowForm}
 use Rattle.gp_workers.specs.declared.work.WorkAnswer.{WorkAnswer}
 use Rattle.gp_workers.specs.Work.{AnswerEach, CanBeAsked}
 use Rattle.gp_analysis.specs.declared.listing.Asked.{Asked}
-use Rattle.gp_analysis.specs.Answered.{AnswersSubjects}
+use Rattle.gp_analysis.specs.Answered.{AnswersSubjects, known_of}
 use Rattle.gp_analysis.specs.Listed.{listed_from, listed_of, queries_each, queries_from, queries_of, query_for}
 use Rattle.gp_analysis.specs.Question.{ListsAsks, QuestionForm}
 use Rattle.gp_analysis.specs.Recorded.{CanBeAnswered}
 use Rattle.gp_analysis.specs.Recording.{CanRecord, RecordsListed}
 use Rattle.gp_analysis.specs.Tickets.{asked_of, subjects_tickets, tickets_in, tickets_listed, tickets_of}
-use Rattle.gp_analysis.proofs.Evidence.{CanAnswer, can_record, known_of, listed_answered}
+use Rattle.gp_analysis.proofs.Evidence.{CanAnswer, can_record, listed_answered, plain}
 
 abbrev head_or : {A : Type 0} → A → List A → A
 head_or d [] = d
@@ -132,26 +132,26 @@ module _ {Subject Shown : Type 0} (question : QuestionForm Subject Shown) (lists
 
     -- the first of what is listed is that of the next subject, and can be recorded
     pub first_can : (workers : List WorkerRecord) (subject : Subject) (rest left : List Subject) (asked : Option (List (Asked Shown))) (others listed : List (Option (List (Asked Shown)))) (answers : List WorkAnswer) (own : List (PropertyRecordOf Shown))
-        → left ≡ subject ∷ rest → listed ≡ asked ∷ others → IsAnswering workers left listed answers own → CanRecord question lists window subject asked answers
+        → left ≡ subject ∷ rest → listed ≡ asked ∷ others → IsAnswering workers left listed answers own → CanRecord question lists workers window subject asked answers
     first_can workers subject rest left asked others listed answers own is listed_is h =
         let at : IsAnswering workers (subject ∷ rest) (asked ∷ others) answers own =
         subst (λ xs. IsAnswering workers xs (asked ∷ others) answers own) is (subst (λ fs. IsAnswering workers left fs answers own) listed_is h) in
         let same : asked ≡ listed_of question window subject (question.asks window subject at.number) = ap (head_or asked) at.listed_is in
-        subst (λ o. CanRecord question lists window subject o answers) (sym same)
+        subst (λ o. CanRecord question lists workers window subject o answers) (sym same)
         (can_record question lists window can budget workers subject at.ticket (question.asks window subject at.number) (queries_from question window (at.number + 1) rest) answers
         (at.asks.0 window at.number) at.answers_are)
 
     -- and then it is answered too
     pub one_more : (workers : List WorkerRecord) (subject : Subject) (rest left : List Subject) (asked : Option (List (Asked Shown))) (others listed : List (Option (List (Asked Shown)))) (answers after : List WorkAnswer) (own all : List (PropertyRecordOf Shown)) (one : PropertyRecordOf Shown)
         → left ≡ subject ∷ rest → listed ≡ asked ∷ others → IsAnswering workers left listed answers own → one.name ≡ question.name subject
-        → RecordsListed question window subject asked answers one.body after → all ≡ own ++ one ∷ [] → IsAnswering workers rest others after all
+        → RecordsListed question workers plain window subject asked answers one.body after → all ≡ own ++ one ∷ [] → IsAnswering workers rest others after all
     one_more workers subject rest left asked others listed answers after own all one is listed_is h name records all_is =
         let at : IsAnswering workers (subject ∷ rest) (asked ∷ others) answers own =
         subst (λ xs. IsAnswering workers xs (asked ∷ others) answers own) is (subst (λ fs. IsAnswering workers left fs answers own) listed_is h) in
         let same : asked ≡ listed_of question window subject (question.asks window subject at.number) = ap (head_or asked) at.listed_is in
         let answered =
         listed_answered question lists window can budget workers subject at.ticket (question.asks window subject at.number) (queries_from question window (at.number + 1) rest) answers one.body after
-        (at.asks.0 window at.number) at.answers_are (subst (λ o. RecordsListed question window subject o answers one.body after) same records) in
+        (at.asks.0 window at.number) at.answers_are (subst (λ o. RecordsListed question workers plain window subject o answers one.body after) same records) in
         record {
           number = at.number + 1;
           ticket = at.ticket + tickets_listed question window subject (question.asks window subject at.number);

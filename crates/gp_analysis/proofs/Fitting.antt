@@ -35,13 +35,13 @@ use Rattle.gp_workers.specs.Work.{IsWork}
 use Rattle.gp_clause.specs.declared.problem.Problem.{Problem}
 use Rattle.gp_analysis.specs.declared.question.LeftOut.{LeftOut}
 use Rattle.gp_analysis.specs.declared.question.LeftOut.TheVariants as out
-use Rattle.gp_analysis.specs.Answered.{AnswersBody, AnswersEach, AnswersListed, AnswersSubjects, AreWorkers, IsAnswerTo, RecordsLeftOut}
+use Rattle.gp_analysis.specs.Answered.{AnswersBody, AnswersEach, AnswersListed, AnswersSubjects, AreWorkers, IsAnswerTo, RecordsLeftOut, known_of}
 use Rattle.gp_analysis.specs.Listed.{queries_from}
 use Rattle.gp_analysis.specs.Question.{IsRefuted, ListsAsks, QuestionForm}
 use Rattle.gp_analysis.specs.Recorded.{RecordsWindow, shared_where}
 use Rattle.gp_analysis.specs.Tickets.{subjects_tickets, tickets_listed, tickets_of}
 use Rattle.gp_analysis.proofs.Answering.{queries_count}
-use Rattle.gp_analysis.proofs.Evidence.{CanAnswer, known_of}
+use Rattle.gp_analysis.proofs.Evidence.{CanAnswer}
 
 small_steps : (edges : List Edge) (kinds : List Kind) (numbered unnamed : List (List Lit) → List (List Lit)) (earlier : List (List Lit)) (steps : List Step) → length kinds < 2 ^ 31 - 1
     → StepsPass edges kinds numbered unnamed earlier steps → All IsPrintableStep steps

@@ -3,7 +3,11 @@ mod Asking
 mod Recordings
 mod Evidence
 mod Answering
+mod Untold
+mod SubjectsTold
+mod FirstWalk
 mod Fitting
+mod Compacted
 mod Windows
 mod Parted
 mod Counted

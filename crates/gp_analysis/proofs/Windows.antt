@@ -7,8 +7,10 @@ use Rattle.gp_window.specs.RecordingForm.{RecordingForm}
 use Rattle.gp_window.specs.WindowForm.{WindowForm, numbers_from, window_of}
 use Rattle.gp_analysis.specs.declared.runs.Run.{Run}
 use Rattle.gp_analysis.specs.Question.{QuestionForm}
-use Rattle.gp_analysis.specs.Recorded.{CanBeAnalysed, CanBeAnswered, RecordEach, RecordsWindow}
+use Rattle.gp_analysis.specs.Recorded.{CanBeAnalysed, CanBeAnswered}
+use Rattle.gp_analysis.specs.declared.task.Telling.{Telling}
 use Rattle.gp_analysis.specs.Runs.{IsRun, run_windows}
+use Rattle.gp_analysis.specs.Telling.{RecordEachAs, RecordsAs}
 use Rattle.gp_analysis.specs.Tickets.{asked_in, asked_total}
 
 one_of_sum : (f : ℕ → ℕ) (first count k : ℕ) → first ≤ k → k < first + count → f k ≤ sum_by f (numbers_from first count)
@@ -34,10 +36,11 @@ module _ {Subject Shown : Type 0} (question : QuestionForm Subject Shown) (count
   within_from r first (suc number) least last can =
       (one_within r first least (omega (arith, last)) can, within_from r (first + 1) number (omega arith) (omega (arith, last)) can)
 
+module _ {Subject Shown : Type 0} (question : QuestionForm Subject Shown) (telling : Telling) (count budget : ℕ) where
   -- the windows of a run are recorded but for those that are left, none of which asks too much
   pub record AreRecorded (all left : List WindowForm) (records : List (WindowRecordOf Shown)) : Type 0 where
     pub within : AllByRecursion (CanBeAnswered question budget) left
-    pub completes : (more : List (WindowRecordOf Shown)) → RecordEach question count budget left more → RecordEach question count budget all (records ++ more)
+    pub completes : (more : List (WindowRecordOf Shown)) → RecordEachAs question telling count budget left more → RecordEachAs question telling count budget all (records ++ more)
 
   -- at first none is
   pub none_recorded : (r : RecordingForm) (run : Run) (left : List WindowForm) (records : List (WindowRecordOf Shown)) → CanBeAnalysed question r count budget → IsRun r.manifest.epochs run → left ≡ run_windows r run → records ≡ []
@@ -45,7 +48,7 @@ module _ {Subject Shown : Type 0} (question : QuestionForm Subject Shown) (count
   none_recorded r run left records can is all none =
       subst (λ (ws : List WindowForm). AreRecorded (run_windows r run) ws records) (sym all)
       (subst (AreRecorded (run_windows r run) (run_windows r run)) (sym none)
-      (record { within = within_from r run.first run.count is.first is.last can; completes = λ more each. each }))
+      (record { within = within_from question count budget r run.first run.count is.first is.last can; completes = λ more each. each }))
 
   -- the next one can be answered
   pub next_within : (all before left : List WindowForm) (window : WindowForm) (records : List (WindowRecordOf Shown)) → before ≡ window ∷ left → AreRecorded all before records → CanBeAnswered question budget window
@@ -54,15 +57,15 @@ module _ {Subject Shown : Type 0} (question : QuestionForm Subject Shown) (count
 
   -- then it is
   pub one_recorded : (all before left : List WindowForm) (window : WindowForm) (records more : List (WindowRecordOf Shown)) (own : WindowRecordOf Shown) → before ≡ window ∷ left → AreRecorded all before records
-      → RecordsWindow question count budget window own → more ≡ records ++ own ∷ [] → AreRecorded all left more
+      → RecordsAs question telling count budget window own → more ≡ records ++ own ∷ [] → AreRecorded all left more
   one_recorded all before left window records more own first are is pushed =
       let now : AreRecorded all (window ∷ left) records = subst (λ (ws : List WindowForm). AreRecorded all ws records) first are in
       record {
         within = now.within.1;
-        completes = λ others each. subst (λ (ws : List (WindowRecordOf Shown)). RecordEach question count budget all (ws ++ others)) (sym pushed) (rw append_assoc (now.completes (own ∷ others) (is, each)));
+        completes = λ others each. subst (λ (ws : List (WindowRecordOf Shown)). RecordEachAs question telling count budget all (ws ++ others)) (sym pushed) (rw append_assoc (now.completes (own ∷ others) (is, each)));
       }
 
   -- until all are
-  pub all_recorded : (all left : List WindowForm) (records : List (WindowRecordOf Shown)) → left ≡ [] → AreRecorded all left records → RecordEach question count budget all records
+  pub all_recorded : (all left : List WindowForm) (records : List (WindowRecordOf Shown)) → left ≡ [] → AreRecorded all left records → RecordEachAs question telling count budget all records
   all_recorded all left records none are =
-      subst (RecordEach question count budget all) (append-nil records) (are.completes [] (subst (λ (ws : List WindowForm). RecordEach question count budget ws []) (sym none) tt))
+      subst (RecordEachAs question telling count budget all) (append-nil records) (are.completes [] (subst (λ (ws : List WindowForm). RecordEachAs question telling count budget ws []) (sym none) tt))

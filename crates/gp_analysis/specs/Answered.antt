@@ -35,6 +35,10 @@ pub record Evidence : Type 0 where
   pub shared : List Step
   pub workers : List WorkerRecord
 
+-- what is known of a window, whose certificates share the steps of the question
+abbrev pub known_of : {Subject Shown : Type 0} → QuestionForm Subject Shown → WindowForm → ℕ → List WorkerRecord → Evidence
+known_of question window budget workers = record { budget = budget; shared = question.shared window; workers = workers }
+
 -- what so many workers did in a window: what each took follows from the constraints, its turns cover its log, each
 -- ticket stands in exactly one turn of exactly one of them, and two or more share what they learn
 pub record AreWorkers (problem : Problem) (count tickets : ℕ) (workers : List WorkerRecord) : Type 0 where

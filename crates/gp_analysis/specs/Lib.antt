@@ -4,7 +4,9 @@ pub mod Answered
 pub mod Runs
 pub mod Listed
 pub mod Recording
+pub mod Certificates
 pub mod Recorded
+pub mod Telling
 pub mod RecordedLaws
 pub mod Drawn
 pub mod Task

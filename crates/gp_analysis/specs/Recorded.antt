@@ -4,6 +4,8 @@ use Rattle.std.specs.List.{AllZip}
 use Rattle.gp_certificate.specs.declared.step.Step.{Step}
 use Rattle.gp_report.specs.declared.record.WindowRecordOf.{WindowRecordOf}
 use Rattle.gp_report.specs.Report.{IsWindowRecord}
+use Rattle.gp_sharing.specs.declared.sizes.Sizes.{Sizes}
+use Rattle.gp_sharing.specs.Compacted.{compacted_by, sizes_in}
 use Rattle.gp_window.specs.RecordingForm.{RecordingForm}
 use Rattle.gp_window.specs.WindowForm.{WindowForm}
 use Rattle.gp_analysis.specs.declared.question.LeftOut.{LeftOut}
@@ -15,6 +17,11 @@ use Rattle.gp_analysis.specs.Tickets.{asked_total, window_asked}
 abbrev pub shared_where : Option LeftOut → List Step → List Step
 shared_where None shared = shared
 shared_where (Some why) shared = []
+
+-- a record with these sizes in the compact form: that of a window that is left out stays as it is
+abbrev pub compacted_where : {Shown : Type 0} → Option LeftOut → Sizes → WindowRecordOf Shown → WindowRecordOf Shown
+compacted_where None sizes told = compacted_by sizes told
+compacted_where (Some why) sizes told = told
 
 module _ {Subject Shown : Type 0} (question : QuestionForm Subject Shown) where
   -- what can be asked of so many workers: some, a budget, and not too much work in all windows
@@ -38,3 +45,14 @@ module _ {Subject Shown : Type 0} (question : QuestionForm Subject Shown) where
   -- records are of windows, one by one and in order
   abbrev pub RecordEach : ℕ → ℕ → List WindowForm → List (WindowRecordOf Shown) → Type 0
   RecordEach count budget windows records = AllZip (RecordsWindow count budget) windows records
+
+  -- a record is the compact form of one that answers its window
+  pub record IsCompactRecord (count budget : ℕ) (window : WindowForm) (own : WindowRecordOf Shown) : Type 0 where
+    pub told : WindowRecordOf Shown
+    pub records : RecordsWindow count budget window told
+    pub made : own ≡ compacted_where (question.left_out window) (sizes_in (question.problem window) told.shared) told
+    pub fits : IsWindowRecord 2 own
+
+  -- records are compact forms, one by one and in the order of the windows
+  abbrev pub CompactEach : ℕ → ℕ → List WindowForm → List (WindowRecordOf Shown) → Type 0
+  CompactEach count budget windows records = AllZip (IsCompactRecord count budget) windows records

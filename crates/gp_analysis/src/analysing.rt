@@ -1,13 +1,14 @@
 ghost use Rattle.std.specs.Prelude.{◌≡◌, ◌*◌, ◌≤◌, IfOk};
-ghost use Rattle.gp_analysis.specs.Recorded.{CanBeAnalysed, RecordEach};
+ghost use Rattle.gp_analysis.specs.Recorded.{CanBeAnalysed, CompactEach, RecordEach};
 ghost use Rattle.gp_analysis.specs.Runs.{IsRun, run_windows};
+ghost use Rattle.gp_analysis.specs.Telling.{RecordEachAs};
 ghost use Rattle.gp_analysis.specs.Tickets.{asked_total};
 ghost use Rattle.gp_window.specs.Windows.{all_windows};
 
 use crate::question::Question;
 use crate::runs::Run;
 use crate::side_by_side::recorded_side_by_side;
-use crate::task::{Instructions, Order};
+use crate::task::{Instructions, Order, Telling};
 use crate::window::window_record;
 use gp_base::Row;
 use gp_outside::Gate;
@@ -45,6 +46,38 @@ where
         workers,
         budget,
         gate,
+        telling: Telling::Whole,
+    };
+    let records = recorded_windows(rt, alloc, recording, &task)?;
+    Ok(Row::from_vec(records))
+}
+
+/// As `analyse`, with each window told in the compact form: the steps of its certificates that rest on its constraints alone stand
+/// once, in its shared steps. A window gets this form when it is answered, and of the certificates of its refutations one at a
+/// time is in memory whole.
+pub fn analyse_compact<R: Threads + Wait + Sync, G: Gate + Sync, Q: Question + Sync>(
+    rt: &R,
+    alloc: Global,
+    recording: &Recording,
+    question: &Q,
+    workers: u32,
+    budget: u64,
+    gate: &G,
+) -> Result<Row<WindowRecordOf<Q::Shown>>, AllocError>
+where
+    Q::Encoded: Send,
+    Q::Shown: Send,
+    requires workers { (1 ≤ workers) × (workers ≤ 16) }
+    requires budget { 1 ≤ budget }
+    requires limit { asked_total (Q.form question.now) recording.now * budget ≤ 1000000 }
+    ensures { IfOk result (CompactEach (Q.form question.now) workers budget (all_windows recording.now)) }
+{
+    let task = Instructions {
+        question,
+        workers,
+        budget,
+        gate,
+        telling: Telling::Compact,
     };
     let records = recorded_windows(rt, alloc, recording, &task)?;
     Ok(Row::from_vec(records))
@@ -62,7 +95,7 @@ where
     Q::Shown: Send,
     requires { CanBeAnalysed (Q.form task.now.question.now) recording.now task.now.workers task.now.budget }
     ensures { IfOk result (λ records.
-        RecordEach (Q.form task.now.question.now) task.now.workers task.now.budget (all_windows recording.now) records.items) }
+        RecordEachAs (Q.form task.now.question.now) task.now.telling task.now.workers task.now.budget (all_windows recording.now) records.items) }
 {
     let epochs = recording.manifest().epochs();
     if epochs < MANY_WINDOWS * task.workers {
@@ -86,7 +119,7 @@ fn recorded_run<R: Threads + Wait + Sync, G: Gate + Sync, Q: Question>(
     requires can { CanBeAnalysed (Q.form task.now.question.now) recording.now task.now.workers task.now.budget }
     requires run { IsRun recording.now.manifest.epochs run }
     ensures { IfOk result (λ records.
-        RecordEach (Q.form task.now.question.now) task.now.workers task.now.budget (run_windows recording.now run) records.items) }
+        RecordEachAs (Q.form task.now.question.now) task.now.telling task.now.workers task.now.budget (run_windows recording.now run) records.items) }
 {
     let mut records = Vec::new(alloc);
     let mut windows = Windows::from(alloc, recording, run.first, run.count)?;

@@ -4,8 +4,9 @@ ghost use Rattle.gp_window.specs.WindowForm.{window_of};
 ghost use Rattle.gp_tickets.specs.Drawn.{numbers_of};
 ghost use Rattle.gp_tickets.specs.Tickets.{IsSingle, IsUnused, hand_of};
 ghost use Rattle.gp_analysis.specs.Drawn.{RecordsDrawn, RecordsOwn};
-ghost use Rattle.gp_analysis.specs.Recorded.{CanBeAnalysed, RecordsWindow};
+ghost use Rattle.gp_analysis.specs.Recorded.{CanBeAnalysed};
 ghost use Rattle.gp_analysis.specs.Task.{IsOrder};
+ghost use Rattle.gp_analysis.specs.Telling.{RecordsAs};
 
 use crate::question::Question;
 use crate::task::{Instructions, Order};
@@ -31,7 +32,7 @@ pub(crate) fn record_drawn<R: Threads + Wait + Sync, G: Gate + Sync, Q: Question
     requires can { CanBeAnalysed (Q.form task.now.question.now) recording.now task.now.workers task.now.budget }
     requires count { tickets.now.count ≡ recording.now.manifest.epochs }
     requires drawer { IsUnused tickets.now drawer }
-    ensures { IfOk result (RecordsDrawn (Q.form task.now.question.now) tickets.now recording.now task.now.workers task.now.budget 1) }
+    ensures { IfOk result (RecordsDrawn (Q.form task.now.question.now) task.now.telling tickets.now recording.now task.now.workers task.now.budget 1) }
 {
     let made = recorded_as_drawn(rt, alloc, recording, task, tickets, &mut drawer)?;
     Ok(Drawn { made, drawer })
@@ -51,7 +52,7 @@ fn recorded_as_drawn<R: Threads + Wait + Sync, G: Gate + Sync, Q: Question>(
     requires drawer { IsUnused tickets.now drawer.old }
     ensures drawer { IfOk result (λ made. IsSingle tickets.now 1 drawer.new) }
     ensures numbers { IfOk result (λ made. numbers_of made.items ≡ (hand_of drawer.new).drawn) }
-    ensures records { IfOk result (λ made. All (RecordsOwn (Q.form task.now.question.now) recording.now task.now.workers task.now.budget) made.items) }
+    ensures records { IfOk result (λ made. All (RecordsOwn (Q.form task.now.question.now) task.now.telling recording.now task.now.workers task.now.budget) made.items) }
 {
     let mut made = Vec::new(alloc);
     let mut ahead = WindowsAhead::new(alloc, recording)?;
@@ -90,7 +91,7 @@ fn recorded_next<'a, R: Threads + Wait + Sync, G: Gate + Sync, Q: Question>(
     requires k { (1 ≤ k) × (k ≤ recording.now.manifest.epochs) }
     requires order { IsOrder task.now.workers order }
     ensures ahead { IfOk result (λ made. AreAhead recording.now ahead.new) }
-    ensures records { IfOk result (λ made. RecordsWindow (Q.form task.now.question.now) task.now.workers task.now.budget (window_of recording.now k) made.0) }
+    ensures records { IfOk result (λ made. RecordsAs (Q.form task.now.question.now) task.now.telling task.now.workers task.now.budget (window_of recording.now k) made.0) }
     ensures order { IfOk result (λ made. IsOrder task.now.workers made.1) }
 {
     let window = ahead.window(alloc, recording, k)?;
@@ -105,8 +106,8 @@ pub(crate) fn gather<G, Q: Question>(
     mut parts: Vec<Result<Drawn<WindowRecordOf<Q::Shown>>, AllocError>>,
 ) -> Result<Drawn<WindowRecordOf<Q::Shown>>, AllocError>
     requires some { 1 ≤ length parts.items }
-    requires drawn { All (λ part. IfOk part (RecordsDrawn (Q.form task.now.question.now) tickets.now recording.now task.now.workers task.now.budget 1)) parts.items }
-    ensures { IfOk result (RecordsDrawn (Q.form task.now.question.now) tickets.now recording.now task.now.workers task.now.budget (length parts.items)) }
+    requires drawn { All (λ part. IfOk part (RecordsDrawn (Q.form task.now.question.now) task.now.telling tickets.now recording.now task.now.workers task.now.budget 1)) parts.items }
+    ensures { IfOk result (RecordsDrawn (Q.form task.now.question.now) task.now.telling tickets.now recording.now task.now.workers task.now.budget (length parts.items)) }
 {
     let Some(first) = parts.pop() else {
         unreachable!()

@@ -1,36 +1,39 @@
-ghost use Rattle.std.specs.Prelude.{◌≡◌, IfOk, length};
+ghost use Rattle.std.specs.Prelude.{◌≡◌, IfOk};
+ghost use Rattle.gp_analysis.specs.Certificates.{HasGrown, steps_by};
 ghost use Rattle.gp_analysis.specs.Recording.{CanRecord, CanRecordAsk, CanRecordEach, IsSound, RecordsAnswer, RecordsAsk, RecordsEach, RecordsListed, left_after};
+ghost use Rattle.gp_analysis.specs.Telling.{IsSourceOf};
 
+use crate::certifying::{Certifying, answer_told, told};
 use crate::left::Left;
 use crate::listing::Asked;
 use crate::question::Question;
 use gp_base::Row;
 use gp_instance::Instance;
-use gp_raise::raise;
 use gp_report::{AnswerOf, EntryOf, PropertyBodyOf, PropertyRecordOf};
 use gp_workers::WorkAnswer;
 use std::alloc::{AllocError, Global};
 
-// What is recorded of a subject by the first of the answers, which are those to its asks. So many steps are shared.
+// What is recorded of a subject by the first of the answers, which are those to its asks.
 pub(crate) fn subject_record<Q: Question>(
     alloc: Global,
     question: &Q,
     encoded: &Q::Encoded,
     subject: &Q::Subject,
     listed: Option<Row<Asked<Q::Shown>>>,
-    gained: usize,
+    certifying: &Certifying<'_>,
     answers: &mut Left<WorkAnswer>,
 ) -> Result<PropertyRecordOf<Q::Shown>, AllocError>
-    requires gained { gained ≡ length ((Q.form question.now).shared (Q.window_in encoded.now)) }
-    requires can { CanRecord (Q.form question.now) (Q.lists question.now) (Q.window_in encoded.now) subject.now listed answers.old }
+    requires source { IsSourceOf (Q.form question.now) (Q.window_in encoded.now) certifying.now.source }
+    requires grown { HasGrown certifying.now.moved }
+    requires can { CanRecord (Q.form question.now) (Q.lists question.now) certifying.now.source.records.now (Q.window_in encoded.now) subject.now listed answers.old }
     ensures name { IfOk result (λ own. own.name ≡ (Q.form question.now).name subject.now) }
-    ensures body { IfOk result (λ own. RecordsListed (Q.form question.now) (Q.window_in encoded.now) subject.now listed answers.old own.body answers.new) }
+    ensures body { IfOk result (λ own. RecordsListed (Q.form question.now) certifying.now.source.records.now (steps_by certifying.now.moved) (Q.window_in encoded.now) subject.now listed answers.old own.body answers.new) }
 {
     let name = question.name(subject);
     let body = match listed {
         None => PropertyBodyOf::TooMany,
         Some(asked) => PropertyBodyOf::Entries(entries_of(
-            alloc, question, encoded, subject, asked, gained, answers,
+            alloc, question, encoded, subject, asked, certifying, answers,
         )?),
     };
     Ok(PropertyRecordOf { name, body })
@@ -43,44 +46,48 @@ fn entries_of<Q: Question>(
     encoded: &Q::Encoded,
     subject: &Q::Subject,
     asked: Row<Asked<Q::Shown>>,
-    gained: usize,
+    certifying: &Certifying<'_>,
     answers: &mut Left<WorkAnswer>,
 ) -> Result<Row<EntryOf<Q::Shown>>, AllocError>
-    requires gained { gained ≡ length ((Q.form question.now).shared (Q.window_in encoded.now)) }
-    requires can { CanRecordEach (Q.form question.now) (Q.lists question.now) (Q.window_in encoded.now) subject.now asked answers.old }
-    ensures { IfOk result (λ entries. RecordsEach (Q.form question.now) (Q.window_in encoded.now) subject.now asked answers.old entries answers.new) }
+    requires source { IsSourceOf (Q.form question.now) (Q.window_in encoded.now) certifying.now.source }
+    requires grown { HasGrown certifying.now.moved }
+    requires can { CanRecordEach (Q.form question.now) (Q.lists question.now) certifying.now.source.records.now (Q.window_in encoded.now) subject.now asked answers.old }
+    ensures { IfOk result (λ entries. RecordsEach (Q.form question.now) certifying.now.source.records.now (steps_by certifying.now.moved) (Q.window_in encoded.now) subject.now asked answers.old entries answers.new) }
 {
     let mut entries = Row::new(alloc);
     let mut left = Left::of(asked);
     while let Some(asked) = left.next() {
-        entries.push(entry_of(alloc, question, encoded, subject, asked, gained, answers)?)?;
+        entries.push(entry_of(
+            alloc, question, encoded, subject, asked, certifying, answers,
+        )?)?;
     }
     Ok(entries)
 }
 
-// The answer that an ask has already is recorded as it is; else the first of the answers is.
+// The answer that an ask has already is recorded; else the first of the answers is.
 fn entry_of<Q: Question>(
     alloc: Global,
     question: &Q,
     encoded: &Q::Encoded,
     subject: &Q::Subject,
     asked: Asked<Q::Shown>,
-    gained: usize,
+    certifying: &Certifying<'_>,
     answers: &mut Left<WorkAnswer>,
 ) -> Result<EntryOf<Q::Shown>, AllocError>
-    requires gained { gained ≡ length ((Q.form question.now).shared (Q.window_in encoded.now)) }
+    requires source { IsSourceOf (Q.form question.now) (Q.window_in encoded.now) certifying.now.source }
+    requires grown { HasGrown certifying.now.moved }
     requires ask { Q.lists question.now (Q.window_in encoded.now) subject.now asked.ask.events }
-    requires can { CanRecordAsk (Q.form question.now) (Q.lists question.now) (Q.window_in encoded.now) subject.now asked.ask.events asked.given answers.old }
+    requires can { CanRecordAsk (Q.form question.now) (Q.lists question.now) certifying.now.source.records.now (Q.window_in encoded.now) subject.now asked.ask.events asked.given answers.old }
     ensures events { IfOk result (λ entry. entry.events ≡ asked.ask.events) }
-    ensures records { IfOk result (λ entry. RecordsAsk (Q.form question.now) (Q.window_in encoded.now) subject.now asked.ask.events asked.given answers.old entry.answer) }
+    ensures records { IfOk result (λ entry. RecordsAsk (Q.form question.now) certifying.now.source.records.now (steps_by certifying.now.moved) (Q.window_in encoded.now) subject.now asked.ask.events asked.given answers.old entry.answer) }
     ensures left { IfOk result (λ _. answers.new ≡ left_after asked.given answers.old) }
 {
     let Asked { ask, given } = asked;
     let answer = match given {
-        Some(given) => given,
+        Some(given) => answer_told(alloc, &certifying.moved, given)?,
         None => {
             let answer = answers.take_first();
-            answer_of(alloc, question, encoded, subject, &ask, gained, answer)?
+            answer_of(alloc, question, encoded, subject, &ask, certifying, answer)?
         }
     };
     Ok(EntryOf {
@@ -89,28 +96,29 @@ fn entry_of<Q: Question>(
     })
 }
 
-// A valuation is recorded as what it shows, a certificate over the steps that are shared, and a spent budget as it is.
+// A valuation is recorded as what it shows, a refutation as its certificate, and a spent budget as it is.
 fn answer_of<Q: Question>(
     alloc: Global,
     question: &Q,
     encoded: &Q::Encoded,
     subject: &Q::Subject,
     ask: &Instance,
-    gained: usize,
+    certifying: &Certifying<'_>,
     answer: WorkAnswer,
 ) -> Result<AnswerOf<Q::Shown>, AllocError>
-    requires gained { gained ≡ length ((Q.form question.now).shared (Q.window_in encoded.now)) }
+    requires source { IsSourceOf (Q.form question.now) (Q.window_in encoded.now) certifying.now.source }
+    requires grown { HasGrown certifying.now.moved }
     requires ask { Q.lists question.now (Q.window_in encoded.now) subject.now ask.now.events }
-    requires answer { IsSound ((Q.form question.now).problem (Q.window_in encoded.now)) ((Q.form question.now).query (Q.window_in encoded.now) subject.now ask.now.events) answer }
-    ensures { IfOk result (RecordsAnswer (Q.form question.now) (Q.window_in encoded.now) subject.now ask.now.events answer) }
+    requires answer { IsSound ((Q.form question.now).problem (Q.window_in encoded.now)) ((Q.form question.now).query (Q.window_in encoded.now) subject.now ask.now.events) certifying.now.source.records.now answer }
+    ensures { IfOk result (RecordsAnswer (Q.form question.now) certifying.now.source.records.now (steps_by certifying.now.moved) (Q.window_in encoded.now) subject.now ask.now.events answer) }
 {
     match answer {
         WorkAnswer::Model(valuation) => Ok(AnswerOf::Found(question.shown(
             alloc, encoded, subject, ask, &valuation,
         )?)),
-        WorkAnswer::Refuted(certificate) => {
-            let clauses = question.problem(encoded).clauses.len();
-            let told = raise(alloc, clauses, gained, certificate)?;
+        WorkAnswer::Refuted { worker, last } => {
+            let certificate = certifying.source.certificate(alloc, worker, &last)?;
+            let told = told(alloc, &certifying.moved, certificate)?;
             Ok(AnswerOf::Impossible(told))
         }
         WorkAnswer::Spent { worker, from, to } => Ok(AnswerOf::Undecided { worker, from, to }),

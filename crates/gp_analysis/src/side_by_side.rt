@@ -2,7 +2,8 @@ ghost use Rattle.std.specs.Prelude.{◌≡◌, ◌≤◌, All, IfOk, length};
 ghost use Rattle.gp_tickets.specs.Tickets.{IsUnused};
 ghost use Rattle.gp_window.specs.Windows.{all_windows};
 ghost use Rattle.gp_analysis.specs.Drawn.{RecordsDrawn};
-ghost use Rattle.gp_analysis.specs.Recorded.{CanBeAnalysed, RecordEach};
+ghost use Rattle.gp_analysis.specs.Recorded.{CanBeAnalysed};
+ghost use Rattle.gp_analysis.specs.Telling.{RecordEachAs};
 
 use crate::drawn::{gather, record_drawn};
 use crate::question::Question;
@@ -29,7 +30,7 @@ where
     requires can { CanBeAnalysed (Q.form task.now.question.now) recording.now task.now.workers task.now.budget }
     requires enough { task.now.workers ≤ recording.now.manifest.epochs }
     ensures { IfOk result (λ records.
-        RecordEach (Q.form task.now.question.now) task.now.workers task.now.budget (all_windows recording.now) records.items) }
+        RecordEachAs (Q.form task.now.question.now) task.now.telling task.now.workers task.now.budget (all_windows recording.now) records.items) }
 {
     let epochs = recording.manifest().epochs();
     let (tickets, drawers) = Tickets::new(alloc, u64::from(epochs), task.workers)?;
@@ -54,14 +55,14 @@ where
     requires count { tickets.now.count ≡ recording.now.manifest.epochs }
     requires drawers { All (IsUnused tickets.now) drawers.items }
     ensures len { IfOk result (λ parts. length parts.items ≡ length drawers.items) }
-    ensures drawn { IfOk result (λ parts. All (λ part. IfOk part (RecordsDrawn (Q.form task.now.question.now) tickets.now recording.now task.now.workers task.now.budget 1)) parts.items) }
+    ensures drawn { IfOk result (λ parts. All (λ part. IfOk part (RecordsDrawn (Q.form task.now.question.now) task.now.telling tickets.now recording.now task.now.workers task.now.budget 1)) parts.items) }
 {
     thread::map_vec(
         rt,
         drawers,
         &|drawer: Drawer| -> Result<Drawn<WindowRecordOf<Q::Shown>>, AllocError>
             requires { CanBeAnalysed (Q.form task.now.question.now) recording.now task.now.workers task.now.budget × (tickets.now.count ≡ recording.now.manifest.epochs) × IsUnused tickets.now drawer }
-            ensures { IfOk result (RecordsDrawn (Q.form task.entry.now.question.now) tickets.entry.now recording.entry.now task.entry.now.workers task.entry.now.budget 1) }
+            ensures { IfOk result (RecordsDrawn (Q.form task.entry.now.question.now) task.entry.now.telling tickets.entry.now recording.entry.now task.entry.now.workers task.entry.now.budget 1) }
         { record_drawn(rt, alloc, recording, task, tickets, drawer) },
     )
 }

@@ -4,13 +4,13 @@ ghost use Rattle.gp_clause.specs.Problem.{IsValidProblem, IsValidQuery};
 ghost use Rattle.gp_workers.specs.Prefixes.{AreSharing};
 ghost use Rattle.gp_workers.specs.Work.{CanBeAsked, IsWork};
 ghost use Rattle.gp_analysis.specs.Answered.{RecordsLeftOut};
-ghost use Rattle.gp_analysis.specs.Recorded.{CanBeAnswered, RecordsWindow};
+ghost use Rattle.gp_analysis.specs.Recorded.{CanBeAnswered};
 ghost use Rattle.gp_analysis.specs.Task.{IsOrder};
+ghost use Rattle.gp_analysis.specs.Telling.{RecordsAs};
 
-use crate::entries::subject_record;
-use crate::left::Left;
 use crate::listing::{Listing, listing_of};
 use crate::question::{EncodeFault, LeftOut, Question};
+use crate::subjects::{Told, told_subjects};
 use crate::task::{Instructions, Order};
 use gp_base::Row;
 use gp_certificate::{refuted_means, shares_nothing};
@@ -35,7 +35,7 @@ pub(crate) fn window_record<R: Threads + Wait + Sync, G: Gate + Sync, Q: Questio
     requires workers { (1 ≤ task.now.workers) × (task.now.workers ≤ 16) }
     requires can { CanBeAnswered (Q.form task.now.question.now) task.now.budget window }
     requires order { IsOrder task.now.workers order }
-    ensures records { IfOk result (λ made. RecordsWindow (Q.form task.now.question.now) task.now.workers task.now.budget window made.0) }
+    ensures records { IfOk result (λ made. RecordsAs (Q.form task.now.question.now) task.now.telling task.now.workers task.now.budget window made.0) }
     ensures order { IfOk result (λ made. IsOrder task.now.workers made.1) }
 {
     let number = window.number();
@@ -81,7 +81,7 @@ fn answered_record<R: Threads + Wait + Sync, G: Gate + Sync, Q: Question>(
     requires workers { (1 ≤ task.now.workers) × (task.now.workers ≤ 16) }
     requires can { CanBeAnswered (Q.form task.now.question.now) task.now.budget (Q.window_in encoded.now) }
     requires order { IsOrder task.now.workers order }
-    ensures records { IfOk result (λ made. RecordsWindow (Q.form task.now.question.now) task.now.workers task.now.budget (Q.window_in encoded.now) made.0) }
+    ensures records { IfOk result (λ made. RecordsAs (Q.form task.now.question.now) task.now.telling task.now.workers task.now.budget (Q.window_in encoded.now) made.0) }
     ensures order { IfOk result (λ made. IsOrder task.now.workers made.1) }
 {
     refuted_means();
@@ -98,29 +98,12 @@ fn answered_record<R: Threads + Wait + Sync, G: Gate + Sync, Q: Question>(
         records,
         ..
     } = done;
-    let shared = question.shared(alloc, encoded)?;
-    let gained = shared.len();
-    let mut listed = Left::of(listed);
-    let mut answers = Left::of(answers);
-    let mut own = Row::new(alloc);
-    let mut left = question.subjects();
-    while let Some((subject, more)) = left.split_first() {
-        let asked = listed.take_first();
-        own.push(subject_record(
-            alloc,
-            question,
-            encoded,
-            subject,
-            asked,
-            gained,
-            &mut answers,
-        )?)?;
-        left = more;
-    }
+    let told = told_subjects(alloc, encoded, task, listed, answers, records.as_slice())?;
+    let Told { shared, body } = told;
     let own = WindowRecordOf {
         number,
         shared,
-        body: WindowBodyOf::Answers(own),
+        body: WindowBodyOf::Answers(body),
         records,
     };
     Ok((own, next))

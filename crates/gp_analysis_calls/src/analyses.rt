@@ -1,5 +1,5 @@
 ghost use Rattle.std.specs.Prelude.{◌≡◌, ◌*◌, ◌≤◌, IfOk};
-ghost use Rattle.gp_analysis.specs.Recorded.{RecordEach};
+ghost use Rattle.gp_analysis.specs.Recorded.{CompactEach, RecordEach};
 ghost use Rattle.gp_analysis.specs.Tickets.{asked_total, too_much};
 ghost use Rattle.gp_window.specs.Windows.{all_windows};
 
@@ -31,6 +31,27 @@ where
     ensures { IfOk result (RecordEach (Q.form question.now) workers budget (all_windows recording.now)) }
 {
     gp_analysis::analyse(rt, alloc, recording, question, workers, budget, gate)
+}
+
+/// As `gp_analysis::analyse_compact`.
+pub fn analyse_compact<R: Threads + Wait + Sync, G: Gate + Sync, Q: Question + Sync>(
+    rt: &R,
+    alloc: Global,
+    recording: &Recording,
+    question: &Q,
+    workers: u32,
+    budget: u64,
+    gate: &G,
+) -> Result<Row<WindowRecordOf<Q::Shown>>, AllocError>
+where
+    Q::Encoded: Send,
+    Q::Shown: Send,
+    requires workers { (1 ≤ workers) × (workers ≤ 16) }
+    requires budget { 1 ≤ budget }
+    requires limit { asked_total (Q.form question.now) recording.now * budget ≤ 1000000 }
+    ensures { IfOk result (CompactEach (Q.form question.now) workers budget (all_windows recording.now)) }
+{
+    gp_analysis::analyse_compact(rt, alloc, recording, question, workers, budget, gate)
 }
 
 /// As `gp_analysis::too_much`.

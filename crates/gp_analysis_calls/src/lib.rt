@@ -4,4 +4,4 @@
 
 mod analyses;
 
-pub use analyses::{analyse, too_much};
+pub use analyses::{analyse, analyse_compact, too_much};

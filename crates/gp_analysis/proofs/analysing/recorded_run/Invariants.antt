@@ -8,4 +8,4 @@ decreases-loop-windows g l = length l.windows
 
 abbrev pub invariant-loop-windows : goal.invariant-loop-windows
 invariant-loop-windows g l =
-    AreRecorded (g.Q.Question.form l.task.question.now) l.task.workers l.task.budget (run_windows l.recording l.fn.run) l.windows l.records.items
+    AreRecorded (g.Q.Question.form l.task.question.now) l.task.telling l.task.workers l.task.budget (run_windows l.recording l.fn.run) l.windows l.records.items

@@ -17,7 +17,7 @@ loop-number-preserved g c =
     let single = c.loop-number.invariant.single in
     let hands : hand_of c.draw.new.drawer ≡ drew (hand_of old) number = (c.in-Some.ensures.first single.told).1 in
     let next =
-    next_drawn (g.Q.Question.form task.question.now) c.args.recording.now task.workers task.budget number (hand_of old).drawn (hand_of c.draw.new.drawer).drawn c.loop-number.made.items c.push.new.self.items c.window_number-k.result
+    next_drawn (g.Q.Question.form task.question.now) task.telling c.args.recording.now task.workers task.budget number (hand_of old).drawn (hand_of c.draw.new.drawer).drawn c.loop-number.made.items c.push.new.self.items c.window_number-k.result
     c.in_ok-value.value c.window_number-k.ensures c.in_ok-value.ensures.records c.loop-number.invariant.numbers c.loop-number.invariant.records
     (ap (λ (h : Hand). h.drawn) hands) c.in_ok-push.ensures.items in
     record {

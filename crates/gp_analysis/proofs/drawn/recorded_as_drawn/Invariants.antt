@@ -15,5 +15,5 @@ invariant-loop-number g l = record {
   order : IsOrder l.task.workers l.order;
   single : IsSingle l.tickets 0 l.drawer;
   numbers : numbers_of l.made.items ≡ (hand_of l.drawer).drawn;
-  records : All (RecordsOwn (g.Q.Question.form l.task.question.now) l.recording l.task.workers l.task.budget) l.made.items;
+  records : All (RecordsOwn (g.Q.Question.form l.task.question.now) l.task.telling l.recording l.task.workers l.task.budget) l.made.items;
 }

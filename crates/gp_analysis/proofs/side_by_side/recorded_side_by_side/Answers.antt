@@ -12,6 +12,6 @@ returns g c =
     let tickets = c.in_ok-tickets.tickets in
     let all = c.in_ok-parts.ensures.len ∙ c.in_ok-tickets.ensures.len ∙ sym c.in_ok-tickets.ensures.crew in
     let counted : tickets.count ≡ recording.manifest.epochs = c.in_ok-tickets.ensures.count ∙ c.from.ensures ∙ c.epochs-epochs.ensures.value ∙ ap (λ manifest. manifest.epochs) c.manifest.ensures.value in
-    let whole : RecordsDrawn question tickets recording task.workers task.budget tickets.crew c.in_ok-gather.field-0 =
-    subst (λ (n : ℕ). RecordsDrawn question tickets recording task.workers task.budget n c.in_ok-gather.field-0) all c.in_ok-gather.ensures in
-    recorded_in_order question recording task.workers task.budget tickets c.in_ok-gather.field-0 _ whole counted (c.in_ok-records.ensures tickets whole.own whole.stands_for)
+    let whole : RecordsDrawn question task.telling tickets recording task.workers task.budget tickets.crew c.in_ok-gather.field-0 =
+    subst (λ (n : ℕ). RecordsDrawn question task.telling tickets recording task.workers task.budget n c.in_ok-gather.field-0) all c.in_ok-gather.ensures in
+    recorded_in_order question task.telling recording task.workers task.budget tickets c.in_ok-gather.field-0 _ whole counted (c.in_ok-records.ensures tickets whole.own whole.stands_for)

@@ -1,7 +1,8 @@
 -- What is encoded is the window.
 use Rattle.std.proofs.Common.{sym, subst, IfOk}
 use Rattle.gp_window.specs.WindowForm.{WindowForm}
-use Rattle.gp_analysis.specs.Recorded.{CanBeAnswered, RecordsWindow}
+use Rattle.gp_analysis.specs.Recorded.{CanBeAnswered}
+use Rattle.gp_analysis.specs.Telling.{RecordsAs}
 use Rattle.gp_analysis.proofs.window.window_record.Goals as goal
 
 pub answered_record-requires-clause-can : goal.answered_record-requires-clause-can
@@ -12,4 +13,4 @@ answered_record-requires-clause-can g c _ _ =
 pub returns-in-Ok-clause-records : goal.returns-in-Ok-clause-records
 returns-in-Ok-clause-records g c =
     let task = c.args.task.now in
-    subst (λ (w : WindowForm). IfOk c.answered_record.result (λ made. RecordsWindow (g.Q.Question.form task.question.now) task.workers task.budget w made.0)) c.in-Ok.ensures.window c.answered_record.ensures.records
+    subst (λ (w : WindowForm). IfOk c.answered_record.result (λ made. RecordsAs (g.Q.Question.form task.question.now) task.telling task.workers task.budget w made.0)) c.in-Ok.ensures.window c.answered_record.ensures.records

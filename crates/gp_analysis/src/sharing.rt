@@ -47,7 +47,7 @@ pub(crate) fn moved_over<S>(
     Ok(found(sharing))
 }
 
-// No certificate is shared yet.
+// No certificate is shared yet. 2^31 steps that are shared from the start, or more, would not fit into memory.
 fn begin(alloc: Global, problem: &Problem, shared: Row<Step>) -> Result<Sharing, AllocError>
     requires clauses { length problem.now.clauses < 2 ^ 32 }
     requires variables { length problem.now.kinds < 2 ^ 32 }

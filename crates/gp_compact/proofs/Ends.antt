@@ -9,7 +9,7 @@ use Rattle.gp_certificate.specs.Certificate.{IsLast}
 use Rattle.gp_derivation.specs.Numbering.{with_hints}
 use Rattle.gp_sharing.specs.declared.sizes.Sizes.{Sizes}
 use Rattle.gp_checker.specs.Accepted.{RefutesAtLast}
-use Rattle.gp_sharing.specs.Moving.{front_of, place_of, places_after, places_of, staying}
+use Rattle.gp_sharing.specs.Moving.{front_of, places_of, staying}
 use Rattle.gp_sharing.specs.PlaceLaws.{places_count}
 
 -- two lists have no steps, or last ones with one clause

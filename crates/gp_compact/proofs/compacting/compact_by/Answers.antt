@@ -1,4 +1,4 @@
-use Rattle.std.proofs.Common.{◌≡◌, ◌+◌, ◌^◌, ◌<◌, List, subst, sym, arith}
+use Rattle.std.proofs.Common.{◌+◌, ◌^◌, ◌<◌, List, subst, sym}
 use Rattle.gp_certificate.specs.declared.step.Step.{Step}
 use Rattle.gp_sharing.specs.Compacted.{entries_in_body, steps_in}
 use Rattle.gp_sharing.specs.FoundLaws.{is_less}

@@ -6,7 +6,7 @@ use Rattle.gp_analysis.specs.Recorded.{CompactEach}
 use Rattle.gp_analysis.specs.Tickets as ticket
 use Rattle.gp_patterns.specs.CompactAnswer.{IsCompactAnswer}
 use Rattle.gp_patterns.specs.Question.{patterns}
-use Rattle.gp_patterns.proofs.Compact.{AreCompact, are_compact}
+use Rattle.gp_patterns.proofs.Compact.{are_compact}
 use Rattle.gp_patterns.proofs.Same.{total_same}
 use Rattle.gp_patterns.proofs.analysing.analyse_compact.Goals as goal
 

@@ -57,8 +57,9 @@ pub fn analyse_compact<R: Threads + Wait + Sync, G: Gate + Sync>(
     ensures { IfOk result (IsCompactAnswer recording.now properties.now workers budget) }
 {
     let question = Patterns::of(properties);
-    let windows =
-        gp_analysis::analyse_compact(rt, alloc, recording, &question, workers, budget, gate)?;
+    let windows = gp_analysis::analyse_compact(
+        rt, alloc, recording, &question, workers, budget, gate,
+    )?;
     Ok(Report::new(2, budget, windows))
 }
 

@@ -29,7 +29,7 @@ valid_query problem = record {
 }
 
 -- the problem of a window and the next has no more clauses than both
-few_clauses : ExtensionsMean → (window next : WindowForm) → IsSized window next → length (link_problem_of window next).clauses ≤ 500000
+pub few_clauses : ExtensionsMean → (window next : WindowForm) → IsSized window next → length (link_problem_of window next).clauses ≤ 500000
 few_clauses extend window next sized =
     let more : List (List SymbolicLit) = link_clauses window next in
     let size : length (link_problem_of window next).clauses ≡ length (clauses_of window) + length more =

@@ -1,21 +1,26 @@
 -- What one worker says that is asked alone.
-use Rattle.std.proofs.Common.{ℕ, zero, suc, ◌≡◌, ◌∙◌, ap, sym, refl, subst, inl, inr, List, [], ◌∷◌, ◌++◌, map, length, slice_get, flat_map, append-nil, arith, All, Contains}
+use Rattle.std.proofs.Common.{ℕ, zero, suc, ◌≡◌, ◌∙◌, ap, sym, refl, subst, inl, inr, List, [], ◌∷◌, ◌++◌, ◌-◌, Option, Some, None, map, length, slice_get, flat_map, append-nil, arith, All, Contains}
 use Rattle.std.specs.Prelude.{IsPermutation, IsSomeAnd}
 use Rattle.std.proofs.lemmas.List.{length_push}
 use Rattle.std.proofs.lemmas.List.Elements.{All-head}
 use Rattle.std.proofs.lemmas.List.Sorted.{All-permutation, length_permutation}
 use Rattle.gp_base.specs.ListLaws.{first_or_rest, nothing_in}
+use Rattle.gp_certificate.specs.declared.step.Step.{Step}
+use Rattle.gp_certificate.specs.Certificate.{Refutes}
 use Rattle.gp_clause.specs.declared.problem.Problem.{Problem}
+use Rattle.gp_clause.specs.declared.problem.Query.{Query}
 use Rattle.gp_constraint.specs.Extended.{nothing_asked}
 use Rattle.gp_derivation.specs.declared.record.Turn.{Turn}
 use Rattle.gp_derivation.specs.declared.record.WorkerRecord.{WorkerRecord}
+use Rattle.gp_derivation.specs.Cones.{RefutesByCone, cone_of}
+use Rattle.gp_derivation.specs.Numbering.{CanBeNumbered}
 use Rattle.gp_derivation.specs.Spent.{HasTurnSpentOn}
 use Rattle.gp_workers.specs.declared.work.WindowWork.{WindowWork}
 use Rattle.gp_workers.specs.declared.work.WorkAnswer.{WorkAnswer}
 use Rattle.gp_workers.specs.Mail.{taken_entries}
 use Rattle.gp_workers.specs.Record.{EachOnce, IsWorkerRecord, tickets_of, TurnsCover}
 use Rattle.gp_workers.specs.Sharing.{WorksAlone}
-use Rattle.gp_workers.specs.Work.{AnswerEach, IsSpentBy, IsWork}
+use Rattle.gp_workers.specs.Work.{AnswerEach, CanBeCertified, IsRefutedBy, IsSpentBy, IsWork, certificate_by, log_in}
 use Rattle.gp_linked.specs.declared.asking.Asked.{Asked}
 use Rattle.gp_linked.specs.Asked.{IsAsked}
 use Rattle.gp_linked.specs.Spent.{IsSpentAlone}
@@ -88,3 +93,20 @@ spent_alone problem budget own worker from to spent worked once alone =
       alone = alone;
       spent = has.3;
     }
+
+-- the certificate of what refutes a query can be made
+pub certified : (problem : Problem) (query : Query) (workers : List WorkerRecord) (worker : ℕ) (last : Step) → IsRefutedBy problem query workers worker last → CanBeCertified (length problem.clauses) workers worker last
+certified problem query workers worker last is = record { counts = is.counts; own = by (slice_get workers (worker - 1)) is.own }
+  where
+    by : (own : Option WorkerRecord) → IsSomeAnd own (λ one. RefutesByCone problem query one.log last) → IsSomeAnd own (λ one. CanBeNumbered (length problem.clauses) one.log last)
+    by None refutes = absurd refutes
+    by (Some one) refutes = refutes.numbered
+
+-- and refutes it
+pub certificate_refutes : (problem : Problem) (query : Query) (workers : List WorkerRecord) (worker : ℕ) (last : Step) → IsRefutedBy problem query workers worker last
+    → Refutes problem query (certificate_by (length problem.clauses) workers worker last)
+certificate_refutes problem query workers worker last is = by (slice_get workers (worker - 1)) is.own
+  where
+    by : (own : Option WorkerRecord) → IsSomeAnd own (λ one. RefutesByCone problem query one.log last) → Refutes problem query (cone_of (length problem.clauses) (log_in own) last)
+    by None refutes = absurd refutes
+    by (Some one) refutes = refutes.refutes

@@ -1,5 +1,8 @@
-ghost use Rattle.std.specs.Prelude.{◌≡◌, ◌≤◌, IfOk};
+ghost use Rattle.std.specs.Prelude.{◌≡◌, ◌≤◌, [], ◌∷◌, IfOk, length};
+ghost use Rattle.gp_certificate.specs.Certificate.{Refutes};
+ghost use Rattle.gp_constraint.specs.Extended.{nothing_asked};
 ghost use Rattle.gp_link.specs.LinkProblem.{link_problem_of};
+ghost use Rattle.gp_workers.specs.Work.{IsRefutedBy};
 ghost use Rattle.gp_linked.specs.Answered.{AnswersLink, IsAnswer, TellsFault};
 ghost use Rattle.gp_linked.specs.Due.{IsSized};
 
@@ -7,14 +10,16 @@ use crate::answer::LinkAnswer;
 use crate::asking::{Asked, ask};
 use crate::laws::links_are_answered;
 use crate::problem::problem_of;
-use gp_certificate::refuted_means;
+use gp_certificate::{Certificate, Step, refuted_means};
+use gp_clause::Problem;
 use gp_constraint::{ExtendedProblem, extensions_mean, problems_are_valid};
 use gp_derivation::WorkerRecord;
 use gp_link::{LinkFault, links_are_valid};
 use gp_window::Window;
 use gp_witness::executed_events;
-use gp_workers::WorkAnswer;
+use gp_workers::{WorkAnswer, certificate_by};
 use std::alloc::{AllocError, Global};
+use std::slice;
 
 /// Whether a window is linked to the next, by one search with this budget.
 pub fn link_window(
@@ -62,16 +67,37 @@ fn answer_to(
     let window = extended.window();
     window.comes_from_recording();
     next.comes_from_recording();
-    let asked = ask(alloc, extended.problem(), budget)?;
+    let problem = extended.problem();
+    let asked = ask(alloc, problem, budget)?;
     let Asked { answer, own } = asked;
     match answer {
         WorkAnswer::Model(valuation) => {
             let schedule = executed_events(alloc, window, &valuation)?;
             Ok(LinkAnswer::Linked(schedule))
         }
-        WorkAnswer::Refuted(certificate) => Ok(LinkAnswer::Unlinkable(certificate)),
+        WorkAnswer::Refuted { worker, last } => {
+            let certificate = certificate_of(alloc, problem, &own, worker, &last)?;
+            Ok(LinkAnswer::Unlinkable(certificate))
+        }
         WorkAnswer::Spent { from, to, .. } => Ok(undecided(own, from, to)),
     }
+}
+
+// The certificate of a refutation by the one worker of a problem.
+fn certificate_of(
+    alloc: Global,
+    problem: &Problem,
+    own: &WorkerRecord,
+    worker: u32,
+    last: &Step,
+) -> Result<Certificate, AllocError>
+    requires few { length problem.now.clauses ≤ 500000 }
+    requires refuted { IsRefutedBy problem.now nothing_asked (own.now ∷ []) worker last.now }
+    ensures { IfOk result (Refutes problem.now nothing_asked) }
+{
+    let clauses = problem.clauses.len() as u32;
+    let certificate = certificate_by(alloc, clauses, slice::from_ref(own), worker, last)?;
+    Ok(certificate)
 }
 
 // The log of a worker whose one turn spent the budget on these entries.

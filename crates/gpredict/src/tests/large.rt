@@ -110,6 +110,39 @@ fn a_compact_report_is_accepted_and_stays_so(rt: HostRuntime) -> Result<(), Fail
     Ok(())
 }
 
+/// Whether an analysis in format 2 prints what task compact makes of one in format 1: of 3 windows by one worker, and of 10
+/// by two, who share out the windows, so that each has the answers of one worker.
+fn is_compact_from_the_start<R: AllocGlobal + Threads + Wait + Sync>(
+    rt: &R,
+    events: &str,
+    workers: &str,
+) -> Result<bool, Fail> {
+    let mut folder = MemoryFolder::new(Vec::new(rt.alloc()), Vec::new(rt.alloc()));
+    let _told = text_of(
+        rt,
+        &["--task=make", "--seed=7", "--threads=4", events, "d"],
+        &mut folder,
+        &FreeGate,
+    )?;
+    let plain = large_report(rt, &mut folder, "--workers=1", &FreeGate)?;
+    folder.write("d/report", plain.as_slice())?;
+    let later = text_of(rt, &["--task=compact", "d"], &mut folder, &FreeGate)?;
+    let at_once = text_of(
+        rt,
+        &["--task=analyse", workers, "--report=2", "d"],
+        &mut folder,
+        &FreeGate,
+    )?;
+    Ok(plain != later && at_once == later)
+}
+
+#[test]
+fn an_analysis_is_compact_from_the_start(rt: HostRuntime) -> Result<(), Fail> {
+    assert!(rt; is_compact_from_the_start(&rt, "--events=600", "--workers=1")?);
+    assert!(rt; is_compact_from_the_start(&rt, "--events=2000", "--workers=2")?);
+    Ok(())
+}
+
 fn is_answer(line: &[u8]) -> bool {
     line.starts_with(b"found ")
         || line.starts_with(b"impossible ")

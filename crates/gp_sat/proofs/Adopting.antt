@@ -9,7 +9,7 @@ use Rattle.gp_base.specs.ListLaws.{here, there}
 use Rattle.gp_clause.specs.declared.lit.Lit.{Lit}
 use Rattle.gp_sat.specs.declared.assigned.Assigned.{Assigned}
 use Rattle.gp_sat.specs.Stored.{Stored}
-use Rattle.gp_sat.specs.declared.watches.Slot.{Slot}
+use Rattle.gp_sat.specs.Slot.{Slot}
 use Rattle.gp_sat.specs.State.{SolverForm, assigned, clause_at, IsAttached, with_literal}
 use Rattle.gp_sat.specs.Sound.{IsSound}
 use Rattle.gp_sat.specs.Standing.{IsFalse, EachOther}

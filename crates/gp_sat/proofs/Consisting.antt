@@ -200,18 +200,16 @@ pub record IsTakenBack (s : SolverForm) (end : ℕ) (values : List (Option Assig
   pub gone : (place : ℕ) (d : Lit) → end ≤ place → place < length s.trail → get_or values (get_or s.trail place d).variable None ≡ None
   pub kept : (v : ℕ) → ((place : ℕ) (d : Lit) → end ≤ place → place < length s.trail → (get_or s.trail place d).variable ≢ v) → get_or values v None ≡ get_or s.values v None
 
--- the same by the slices that were lent, one of which was written
-pub taken_back : (s : SolverForm) (end : ℕ) (lent new values : List (Option Assigned)) (trail : List Lit) → lent ≡ s.values → trail ≡ s.trail → values ≡ new → length new ≡ length lent
-    → ((place : ℕ) (d : Lit) → end ≤ place → place < length trail → get_or new (get_or trail place d).variable None ≡ None)
-    → ((v : ℕ) → ((place : ℕ) (d : Lit) → end ≤ place → place < length trail → (get_or trail place d).variable ≢ v) → get_or new v None ≡ get_or lent v None)
+-- the same by the trail that was lent
+pub taken_back : (s : SolverForm) (end : ℕ) (values : List (Option Assigned)) (trail : List Lit) → trail ≡ s.trail → length values ≡ length s.values
+    → ((place : ℕ) (d : Lit) → end ≤ place → place < length trail → get_or values (get_or trail place d).variable None ≡ None)
+    → ((v : ℕ) → ((place : ℕ) (d : Lit) → end ≤ place → place < length trail → (get_or trail place d).variable ≢ v) → get_or values v None ≡ get_or s.values v None)
     → IsTakenBack s end values
-taken_back s end lent new values trail lent_is trail_is values_is size gone kept =
-    subst (λ (vs : List (Option Assigned)). IsTakenBack s end vs) (sym values_is) (record {
-      size = size ∙ ap (λ (vs : List (Option Assigned)). length vs) lent_is;
-      gone = subst (λ (ts : List Lit). (place : ℕ) (d : Lit) → end ≤ place → place < length ts → get_or new (get_or ts place d).variable None ≡ None) trail_is gone;
-      kept = subst (λ (ts : List Lit). (v : ℕ) → ((place : ℕ) (d : Lit) → end ≤ place → place < length ts → (get_or ts place d).variable ≢ v) → get_or new v None ≡ get_or s.values v None) trail_is
-          (subst (λ (vs : List (Option Assigned)). (v : ℕ) → ((place : ℕ) (d : Lit) → end ≤ place → place < length trail → (get_or trail place d).variable ≢ v) → get_or new v None ≡ get_or vs v None) lent_is kept);
-    })
+taken_back s end values trail trail_is size gone kept = record {
+  size = size;
+  gone = subst (λ (ts : List Lit). (place : ℕ) (d : Lit) → end ≤ place → place < length ts → get_or values (get_or ts place d).variable None ≡ None) trail_is gone;
+  kept = subst (λ (ts : List Lit). (v : ℕ) → ((place : ℕ) (d : Lit) → end ≤ place → place < length ts → (get_or ts place d).variable ≢ v) → get_or values v None ≡ get_or s.values v None) trail_is kept;
+}
 
 -- what it leaves of one variable
 taken_one : (s : SolverForm) (end : ℕ) (values : List (Option Assigned)) → IsSound s → IsTakenBack s end values → (v : ℕ)
@@ -435,12 +433,10 @@ trail_named s sound place d below =
     let there : (a : Assigned) × (assigned s (get_or s.trail place d).variable ≡ Some a) × (a.place ≡ place) = sound.ordered.off_trail place d below in
     within_values s.values (get_or s.trail place d).variable there.0 there.1
 
--- the variables of a lent trail are within the lent values
-pub lent_named : (s : SolverForm) (lent : List (Option Assigned)) (trail : List Lit) → lent ≡ s.values → trail ≡ s.trail → IsSound s
-    → (place : ℕ) (d : Lit) → place < length trail → (get_or trail place d).variable < length lent
-lent_named s lent trail lent_is trail_is sound =
-    subst (λ (ts : List Lit). (place : ℕ) (d : Lit) → place < length ts → (get_or ts place d).variable < length lent) (sym trail_is)
-    (subst (λ (vs : List (Option Assigned)). (place : ℕ) (d : Lit) → place < length s.trail → (get_or s.trail place d).variable < length vs) (sym lent_is) (trail_named s sound))
+-- and so are those of a trail that was lent
+pub lent_named : (s : SolverForm) (trail : List Lit) → trail ≡ s.trail → IsSound s → (place : ℕ) (d : Lit) → place < length trail → (get_or trail place d).variable < length s.values
+lent_named s trail trail_is sound =
+    subst (λ (ts : List Lit). (place : ℕ) (d : Lit) → place < length ts → (get_or ts place d).variable < length s.values) (sym trail_is) (trail_named s sound)
 
 -- a solver after a backjump, by its parts
 pub cut_parts : (s : SolverForm) (level end : ℕ) (values : List (Option Assigned)) (trail : List Lit) (starts less : List ℕ) (place next : Option ℕ) (trail_room starts_room more_trail more_starts : ℕ) → level ≤ s.level → IsEndOf (assigned s) (length s.trail) level end

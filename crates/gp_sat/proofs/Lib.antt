@@ -14,6 +14,8 @@ pub mod Leading
 pub mod Passing
 pub mod Starting
 pub mod Linking
+pub mod Packing
+pub mod Truths
 pub mod Watched
 pub mod Relinking
 pub mod Stepping

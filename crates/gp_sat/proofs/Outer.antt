@@ -7,7 +7,7 @@ use Rattle.gp_base.specs.ListLaws.{nothing_in}
 use Rattle.gp_clause.specs.declared.lit.Lit.{Lit}
 use Rattle.gp_sat.specs.declared.assigned.Assigned.{Assigned}
 use Rattle.gp_sat.specs.Stored.{Stored}
-use Rattle.gp_sat.specs.declared.watches.Slot.{Slot}
+use Rattle.gp_sat.specs.Slot.{Slot}
 use Rattle.gp_sat.specs.State.{SolverForm, assigned, clause_at, IsAttached, no_clause, kept_to, with_clause, without_clause, with_literal, cleared, blank, grown}
 use Rattle.gp_sat.specs.Sound.{IsSound, true_lit}
 use Rattle.gp_sat.specs.Changes.{Backjumps, IsUpTo, IsAbove}

@@ -6,7 +6,7 @@ use Rattle.std.proofs.lemmas.List.{length-set, get_or-set_same, get_or-set_other
 use Rattle.gp_base.specs.ListLaws.{first_or_rest, here, nothing_in, there}
 use Rattle.gp_clause.specs.declared.lit.Lit.{Lit}
 use Rattle.gp_sat.specs.Stored.{Stored}
-use Rattle.gp_sat.specs.declared.watches.Slot.{Slot}
+use Rattle.gp_sat.specs.Slot.{Slot}
 use Rattle.gp_sat.specs.State.{SolverForm, assigned, clause_at, IsAttached}
 use Rattle.gp_sat.specs.Links.{IsChain, put, AreLinked}
 use Rattle.gp_sat.specs.WatchesForm.{WatchesForm}

@@ -6,7 +6,7 @@ use Rattle.std.proofs.lemmas.List.{get_or-set_same, get_or-set_other, length-set
 use Rattle.gp_base.specs.ListLaws.{first_or_rest, here}
 use Rattle.gp_clause.specs.declared.lit.Lit.{Lit}
 use Rattle.gp_sat.specs.declared.assigned.Assigned.{Assigned}
-use Rattle.gp_sat.specs.declared.watches.Slot.{Slot}
+use Rattle.gp_sat.specs.Slot.{Slot}
 use Rattle.gp_sat.specs.State.{SolverForm, assigned, clause_at, IsAttached, with_literal}
 use Rattle.gp_sat.specs.Standing.{IsFalse, IsFalseBefore, EachOther, Each}
 use Rattle.gp_sat.specs.Sound.{IsSound, true_lit}

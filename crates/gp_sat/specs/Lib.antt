@@ -1,5 +1,6 @@
 pub mod Stored
 pub mod State
+pub mod Truths
 pub mod Standing
 pub mod Ranges
 pub mod Sound
@@ -13,6 +14,7 @@ pub mod Marking
 pub mod Queueing
 pub mod Walking
 pub mod Links
+pub mod Slot
 pub mod Watching
 pub mod WatchesForm
 pub mod Linked

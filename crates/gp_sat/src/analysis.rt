@@ -9,7 +9,7 @@ ghost use Rattle.gp_sat.specs.Queueing.{AreClear, AreListed, AreQueued, IsMarked
 ghost use Rattle.gp_sat.specs.Marking.{IsMarked, HasMarked, IsLower, IsLowestOf, IsLowest, Stops, FollowsReason, Marks};
 ghost use Rattle.gp_sat.specs.Walking.{IsWalked, IsSearched, IsWalkedDown};
 
-use crate::kernel::{Kernel, value_of};
+use crate::kernel::Kernel;
 use crate::marking::Marking;
 use gp_base::Row;
 use gp_clause::{Clause, Lit};
@@ -187,7 +187,7 @@ impl Kernel {
         ensures queued { OnOk result ((bound : ℕ) → IsMarkedOrBefore self.now bound marking.old.marks.items lit
             → AreQueued self.now bound marking.old.marks.items (heap_items marking.old.places) → AreQueued self.now bound marking.new.marks.items (heap_items marking.new.places)) }
     {
-        match value_of(self.values.as_slice(), lit.variable) {
+        match self.values.get(lit.variable) {
             Some(a) => marking.add(lit.variable, a.place),
             None => Ok(()),
         }
@@ -200,7 +200,7 @@ impl Kernel {
         ensures { MatchOption result (Stops self.now stop marks.now place) (FollowsReason self.now stop marks.now place) }
     {
         let lit = self.trail[place];
-        let a = value_of(self.values.as_slice(), lit.variable)?;
+        let a = self.values.get(lit.variable)?;
         match stop {
             Stop::Decisions => a.reason,
             Stop::FirstPoint => {
@@ -226,7 +226,7 @@ impl Kernel {
     fn lower(&self, lit: Lit, lowest: usize) -> usize
         ensures { IsLower self.now lit lowest result }
     {
-        match value_of(self.values.as_slice(), lit.variable) {
+        match self.values.get(lit.variable) {
             Some(a) => {
                 let place = a.place as usize;
                 if a.level == self.level && place < lowest {
@@ -256,7 +256,7 @@ impl Kernel {
     {
         let mut level = 0;
         for lit in lits {
-            if let Some(a) = value_of(self.values.as_slice(), lit.variable) {
+            if let Some(a) = self.values.get(lit.variable) {
                 if level < a.level && a.level < self.level {
                     level = a.level;
                 }

@@ -11,6 +11,7 @@ ghost use Rattle.gp_sat.specs.Deciding.{IsPlaced, IsPassed, IsNextFree, IsFull};
 
 use crate::assigned::Assigned;
 use crate::store::Store;
+use crate::values::Values;
 use gp_clause::{Clause, Lit};
 use gp_queue::LinkQueue;
 use std::alloc::{AllocError, Global};
@@ -20,7 +21,7 @@ use std::marker::Model;
 /// on in the order of `attach`.
 #[derive(Debug, Drop)]
 pub(crate) struct Kernel {
-    pub(crate) values: Vec<Option<Assigned>>,
+    pub(crate) values: Values,
     pub(crate) trail: Vec<Lit>,
     pub(crate) clauses: Store,
     pub(crate) level: u32,
@@ -41,10 +42,10 @@ impl Model for Kernel {
 
     ghost Value = { SolverForm };
 
-    ghost view = { λ s. record { values = s.values.items; trail = s.trail.items; clauses = s.clauses; level = s.level; order = s.queue; used = s.used } };
+    ghost view = { λ s. record { values = s.values; trail = s.trail.items; clauses = s.clauses; level = s.level; order = s.queue; used = s.used } };
 
     ghost invariant = { λ s. IsConsistent
-        (record { values = s.values.items; trail = s.trail.items; clauses = s.clauses; level = s.level; order = s.queue; used = s.used })
+        (record { values = s.values; trail = s.trail.items; clauses = s.clauses; level = s.level; order = s.queue; used = s.used })
         s.starts.items s.place (vec_capacity s.trail) (vec_capacity s.starts) };
 }
 
@@ -53,12 +54,11 @@ impl Kernel {
         ensures { IfOk result (λ solver. solver ≡ blank variables) }
     {
         let count = variables as usize;
-        let mut values = Vec::with_capacity(alloc, count)?;
+        let values = Values::new(alloc, count)?;
         let trail = Vec::with_capacity(alloc, count)?;
         let starts = Vec::with_capacity(alloc, count)?;
         let queue = LinkQueue::new(alloc, variables)?;
         let place = queue.first();
-        add_free(&mut values, count);
         Ok(Kernel {
             values,
             trail,
@@ -78,15 +78,21 @@ impl Kernel {
         ensures err { OnErr result (self.new ≡ self.old) }
     {
         let count = variables as usize;
-        let added = count - self.values.len();
+        let size = self.values.len();
         self.trail.reserve(count - self.trail.len())?;
         self.starts.reserve(count - self.starts.len())?;
-        self.values.reserve(added)?;
-        self.queue.grow(variables)?;
-        add_free(&mut self.values, added);
-        self.used = variables;
-        self.place = self.queue.first();
-        Ok(())
+        self.values.grow(count - size)?;
+        match self.queue.grow(variables) {
+            Ok(()) => {
+                self.used = variables;
+                self.place = self.queue.first();
+                Ok(())
+            }
+            Err(fault) => {
+                self.values.truncate(size);
+                Err(fault)
+            }
+        }
     }
 
     /// The variables in use are then the numbers below `count`.
@@ -156,7 +162,7 @@ impl Kernel {
     pub fn clear(&mut self)
         ensures { self.new ≡ cleared self.old }
     {
-        take_back(self.values.as_mut_slice(), self.trail.as_slice(), 0);
+        take_back(&mut self.values, self.trail.as_slice(), 0);
         self.trail.clear();
         self.starts.clear();
         self.level = 0;
@@ -194,7 +200,7 @@ impl Kernel {
         ensures sound { IsSound self.new }
     {
         let end = self.end_of(level);
-        take_back(self.values.as_mut_slice(), self.trail.as_slice(), end);
+        take_back(&mut self.values, self.trail.as_slice(), end);
         self.trail.truncate(end);
         self.starts.truncate(level as usize);
         self.level = level;
@@ -221,7 +227,7 @@ impl Kernel {
         requires { variable < length self.now.values }
         ensures { result ≡ option_map (λ a. a.positive) (assigned self.now variable) }
     {
-        self.values[variable as usize].map(|a| a.positive)
+        self.values.truth(variable)
     }
 
     /// The level at which the variable was assigned, None exactly where it is unassigned.
@@ -229,7 +235,7 @@ impl Kernel {
         requires { variable < length self.now.values }
         ensures { result ≡ option_map (λ a. a.level) (assigned self.now variable) }
     {
-        self.values[variable as usize].map(|a| a.level)
+        self.values.get(variable).map(|a| a.level)
     }
 
     /// The first unassigned variable in the order of decisions, of those in use. None exactly where all of these are
@@ -238,19 +244,14 @@ impl Kernel {
         ensures same { self.new ≡ self.old }
         ensures free { MatchOption result (IsFull self.new) (IsNextFree self.new) }
     {
-        let place = next_open(&self.queue, self.values.as_slice(), self.used, self.place);
+        let place = next_open(&self.queue, &self.values, self.used, self.place);
         self.place = place;
         place
     }
 }
 
 // The next place from one on at which a variable in use is unassigned, or the end.
-fn next_open(
-    queue: &LinkQueue,
-    values: &[Option<Assigned>],
-    used: u32,
-    from: Option<u32>,
-) -> Option<u32>
+fn next_open(queue: &LinkQueue, values: &Values, used: u32, from: Option<u32>) -> Option<u32>
     requires placed { IsPlaced (λ v. slice_index_or values.now v None) used queue.now from }
     requires order { length queue.now ≡ length values.now }
     ensures placed { IsPlaced (λ v. slice_index_or values.now v None) used queue.now result }
@@ -273,54 +274,48 @@ fn next_open(
 }
 
 // Whether a variable is in use and unassigned.
-fn is_open(values: &[Option<Assigned>], used: u32, variable: u32) -> bool
+fn is_open(values: &Values, used: u32, variable: u32) -> bool
     ensures { MatchBool result
         ((variable < used) × (slice_index_or values.now variable None ≡ None))
         (IsPassed (λ v. slice_index_or values.now v None) used variable) }
 {
-    match value_of(values, variable) {
+    match values.truth(variable) {
         Some(_) => false,
         None => variable < used,
     }
 }
 
-// The assignment of a variable.
-pub(crate) fn value_of(values: &[Option<Assigned>], variable: u32) -> Option<Assigned>
-    ensures { result ≡ slice_index_or values.now variable None }
-{
-    match values.get(variable as usize) {
-        Some(value) => *value,
-        None => None,
-    }
-}
-
 // Writes a true literal at the end of the trail, for which there is room.
 pub(crate) fn lay(
-    values: &mut Vec<Option<Assigned>>,
+    values: &mut Values,
     trail: &mut Vec<Lit>,
     lit: Lit,
     level: u32,
     reason: Option<u32>,
 )
-    requires within { lit.variable < length values.old.items }
+    requires within { lit.variable < length values.old }
     requires room { vec_len trail.old < vec_capacity trail.old }
     requires few { vec_len trail.old < 2 ^ 32 }
-    ensures values { values.new.items ≡ slice_set values.old.items lit.variable (Some (record { positive = lit.positive; level = level; place = vec_len trail.old; reason = reason })) }
+    ensures values { values.new ≡ slice_set values.old lit.variable (Some (record { positive = lit.positive; level = level; place = vec_len trail.old; reason = reason })) }
     ensures trail { trail.new.items ≡ trail.old.items ++ lit ∷ [] }
     ensures room { vec_capacity trail.new ≡ vec_capacity trail.old }
 {
     let place = trail.len() as u32;
-    values[lit.variable as usize] = Some(Assigned {
-        positive: lit.positive,
-        level,
-        place,
-        reason,
-    });
+    let positive = lit.positive;
+    values.set(
+        lit.variable,
+        Assigned {
+            positive,
+            level,
+            place,
+            reason,
+        },
+    );
     trail.push_reserved(lit);
 }
 
 // Takes back the assignments of the literals of the trail from a place on.
-fn take_back(values: &mut [Option<Assigned>], trail: &[Lit], end: usize)
+fn take_back(values: &mut Values, trail: &[Lit], end: usize)
     requires within { end ≤ length trail.now }
     requires named { (place : ℕ) (d : Lit) → place < length trail.now → (slice_index_or trail.now place d).variable < length values.old }
     ensures size { length values.new ≡ length values.old }
@@ -328,16 +323,6 @@ fn take_back(values: &mut [Option<Assigned>], trail: &[Lit], end: usize)
     ensures kept { (v : ℕ) → ((place : ℕ) (d : Lit) → end ≤ place → place < length trail.now → (slice_index_or trail.now place d).variable ≢ v) → slice_index_or values.new v None ≡ slice_index_or values.old v None }
 {
     for place in end..trail.len() {
-        values[trail[place].variable as usize] = None;
-    }
-}
-
-// Adds unassigned variables, for which there is room.
-fn add_free(values: &mut Vec<Option<Assigned>>, count: usize)
-    requires { vec_len values.old + count ≤ vec_capacity values.old }
-    ensures { values.new.items ≡ values.old.items ++ replicate count None }
-{
-    for _ in 0..count {
-        let _ = values.push(None);
+        values.unset(trail[place].variable);
     }
 }

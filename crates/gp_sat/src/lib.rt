@@ -12,6 +12,7 @@ mod pending;
 mod propagation;
 mod solver;
 mod store;
+mod values;
 mod walk;
 mod watches;
 

@@ -7,8 +7,8 @@ ghost use Rattle.gp_sat.specs.Sound.{IsSound};
 ghost use Rattle.gp_sat.specs.Stepping.{IsIdle, IsReady, IsBroken};
 ghost use Rattle.gp_sat.specs.Choosing.{level_of, IsBest, IsOpen, ChosenAs, Holds, IsMore, IsShorter};
 
-use crate::assigned::Assigned;
-use crate::kernel::{Kernel, value_of};
+use crate::kernel::Kernel;
+use crate::values::Values;
 use crate::walk::{Stand, is_attached, look_up, look_up_at, pick};
 use crate::watches::Watches;
 use gp_clause::Lit;
@@ -23,7 +23,7 @@ pub enum Chosen {
     Unit(Lit, Lit),
 }
 
-fn is_false(values: &[Option<Assigned>], lit: Lit) -> bool
+fn is_false(values: &Values, lit: Lit) -> bool
     ensures { MatchBool result (IsFalse (λ variable. slice_index_or values.now variable None) lit) (IsFalse (λ variable. slice_index_or values.now variable None) lit → ⊥) }
 {
     match look_up(values, lit) {
@@ -34,7 +34,7 @@ fn is_false(values: &[Option<Assigned>], lit: Lit) -> bool
 }
 
 // The first literal that is not false.
-fn first_open(values: &[Option<Assigned>], lits: &[Lit]) -> Option<Lit>
+fn first_open(values: &Values, lits: &[Lit]) -> Option<Lit>
     ensures { MatchOption result
         (Each (IsFalse (λ variable. slice_index_or values.now variable None)) lits.now)
         (IsOpen (λ variable. slice_index_or values.now variable None) lits.now) }
@@ -48,10 +48,10 @@ fn first_open(values: &[Option<Assigned>], lits: &[Lit]) -> Option<Lit>
 }
 
 // The level of a literal, 0 where it is unassigned.
-fn level_at(values: &[Option<Assigned>], lit: Lit) -> u32
+fn level_at(values: &Values, lit: Lit) -> u32
     ensures { result ≡ level_of (slice_index_or values.now lit.variable None) }
 {
-    match value_of(values, lit.variable) {
+    match values.get(lit.variable) {
         Some(a) => a.level,
         None => 0,
     }
@@ -64,7 +64,7 @@ fn is_same(lit: Lit, other: Lit) -> bool
 }
 
 // The better one of the best so far and a literal.
-fn better(values: &[Option<Assigned>], one: Lit, best: Option<Lit>, lit: Lit) -> Option<Lit>
+fn better(values: &Values, one: Lit, best: Option<Lit>, lit: Lit) -> Option<Lit>
     ensures { (front : List Lit) → IsBest (λ variable. slice_index_or values.now variable None) front one best → IsBest (λ variable. slice_index_or values.now variable None) (front ++ lit ∷ []) one result }
 {
     if is_same(lit, one) {
@@ -83,7 +83,7 @@ fn better(values: &[Option<Assigned>], one: Lit, best: Option<Lit>, lit: Lit) ->
 }
 
 // The literal of the highest level, but for one.
-fn highest(values: &[Option<Assigned>], lits: &[Lit], one: Lit) -> Option<Lit>
+fn highest(values: &Values, lits: &[Lit], one: Lit) -> Option<Lit>
     ensures { IsBest (λ variable. slice_index_or values.now variable None) lits.now one result }
 {
     let mut best = None;
@@ -93,7 +93,7 @@ fn highest(values: &[Option<Assigned>], lits: &[Lit], one: Lit) -> Option<Lit>
     best
 }
 
-fn choose(values: &[Option<Assigned>], lits: &[Lit]) -> Chosen
+fn choose(values: &Values, lits: &[Lit]) -> Chosen
     requires { IsRising lits.now }
     ensures { ChosenAs (λ variable. slice_index_or values.now variable None) lits.now result }
 {
@@ -113,7 +113,7 @@ fn choose_at(kernel: &Kernel, number: usize) -> Chosen
     requires { number < length kernel.now.clauses }
     ensures { ChosenAs (assigned kernel.now) (clause_at kernel.now.clauses number) result }
 {
-    choose(kernel.values.as_slice(), kernel.clauses.lits(number))
+    choose(&kernel.values, kernel.clauses.lits(number))
 }
 
 // Forces a literal that is not false, if it is unassigned.

@@ -6,8 +6,8 @@ ghost use Rattle.gp_sat.specs.Stepping.{StandsAs, IsPick, JudgesAs, IsWalking, I
 ghost use Rattle.gp_sat.specs.Watching.{link_at, no_slot};
 ghost use Rattle.gp_clause.specs.Lit.{opposite};
 
-use crate::assigned::Assigned;
-use crate::kernel::{Kernel, value_of};
+use crate::kernel::Kernel;
+use crate::values::Values;
 use crate::watches::{Watches, clause_of, partner_of};
 use gp_clause::Lit;
 
@@ -30,12 +30,12 @@ pub enum Judged {
     Fails,
 }
 
-pub(crate) fn look_up(values: &[Option<Assigned>], lit: Lit) -> Stand
+pub(crate) fn look_up(values: &Values, lit: Lit) -> Stand
     ensures { StandsAs (λ variable. slice_index_or values.now variable None) lit result }
 {
-    match value_of(values, lit.variable) {
-        Some(a) => {
-            if a.positive == lit.positive {
+    match values.truth(lit.variable) {
+        Some(positive) => {
+            if positive == lit.positive {
                 Stand::True
             } else {
                 Stand::False
@@ -46,7 +46,7 @@ pub(crate) fn look_up(values: &[Option<Assigned>], lit: Lit) -> Stand
 }
 
 // Whether a literal is not false, and another one than the one that is watched.
-fn is_open(values: &[Option<Assigned>], lit: Lit, other: Lit) -> bool
+fn is_open(values: &Values, lit: Lit, other: Lit) -> bool
     ensures { MatchBool result
         ((lit ≢ other) × (IsFalse (λ variable. slice_index_or values.now variable None) lit → ⊥))
         ((lit ≡ other) ⊎ IsFalse (λ variable. slice_index_or values.now variable None) lit) }
@@ -62,7 +62,7 @@ fn is_open(values: &[Option<Assigned>], lit: Lit, other: Lit) -> bool
 }
 
 // The first such literal.
-pub(crate) fn pick(values: &[Option<Assigned>], lits: &[Lit], other: Lit) -> Option<Lit>
+pub(crate) fn pick(values: &Values, lits: &[Lit], other: Lit) -> Option<Lit>
     ensures { MatchOption result
         (EachOther (IsFalse (λ variable. slice_index_or values.now variable None)) lits.now other)
         (IsPick (λ variable. slice_index_or values.now variable None) lits.now other) }
@@ -82,13 +82,13 @@ fn pick_at(kernel: &Kernel, number: usize, other: Lit) -> Option<Lit>
         (EachOther (IsFalse (assigned kernel.now)) (clause_at kernel.now.clauses number) other)
         (IsPick (assigned kernel.now) (clause_at kernel.now.clauses number) other) }
 {
-    pick(kernel.values.as_slice(), kernel.clauses.lits(number), other)
+    pick(&kernel.values, kernel.clauses.lits(number), other)
 }
 
 pub(crate) fn look_up_at(kernel: &Kernel, lit: Lit) -> Stand
     ensures { StandsAs (assigned kernel.now) lit result }
 {
-    look_up(kernel.values.as_slice(), lit)
+    look_up(&kernel.values, lit)
 }
 
 pub(crate) fn is_attached(kernel: &Kernel, number: usize) -> bool

@@ -2,50 +2,47 @@ ghost use Rattle.std.specs.Prelude.{◌≡◌, ◌+◌, ◌-◌, ◌*◌, ◌<�
 ghost use Rattle.gp_sat.specs.Watching.{ArePartners, code, link_at, next_at, watch_at, no_slot};
 ghost use Rattle.std.specs.List.{swap_remove};
 ghost use Rattle.gp_sat.specs.Linked.{passed, adopted, IsBlank};
+ghost use Rattle.gp_sat.specs.WatchesForm.{opened};
 
 use gp_clause::Lit;
 use std::alloc::{AllocError, Global};
 use std::marker::Model;
 
-/// A slot of a clause: the literal that it watches, and the next slot that watches the same, as one more than its number,
-/// or 0 for none.
+/// A slot of a clause in eight bytes: the literal that it watches, as twice its variable and one more where it is positive,
+/// and the next slot that watches the same, as one more than its number, or 0 for none.
 #[derive(Debug, Clone, Copy, PartialEq, Eq, Drop)]
-pub struct Slot {
-    pub lit: Lit,
-    pub next: usize,
+pub struct Packed {
+    pub lit: u32,
+    pub next: u32,
 }
 
-const NO_SLOT: Slot = Slot {
-    lit: Lit {
-        variable: 0,
-        positive: false,
-    },
-    next: 0,
-};
+const NO_SLOT: Packed = Packed { lit: 0, next: 0 };
 
-/// The slots by the literals that they watch. The clause of a number has the slots 2 * number and 2 * number + 1.
+/// The slots by the literals that they watch. The clause of a number has the slots 2 * number and 2 * number + 1. Lists and
+/// slots are numbered by 32 bits, so that a slot stays small: some 2^31 variables or clauses are want of memory.
 #[derive(Debug, Drop)]
 pub struct Watches {
-    pub(crate) heads: Vec<usize>,
-    pub(crate) slots: Vec<Slot>,
+    heads: Vec<u32>,
+    slots: Vec<Packed>,
     // The clauses below this number are linked.
-    pub(crate) linked: usize,
+    linked: usize,
     // The place of the trail that is looked at next.
-    pub(crate) cursor: usize,
+    cursor: usize,
     // The clauses of fewer than two literals, and how many of them were looked at.
-    pub(crate) shorts: Vec<usize>,
-    pub(crate) looked: usize,
+    shorts: Vec<usize>,
+    looked: usize,
 }
 
 impl Model for Watches {
     ghost use Rattle.std.specs.Vec.{vec_capacity};
-    ghost use Rattle.gp_sat.specs.WatchesForm.{WatchesForm};
+    ghost use Rattle.std.specs.Prelude.{length, map};
+    ghost use Rattle.gp_sat.specs.WatchesForm.{WatchesForm, FitNumbers, opened};
 
     ghost Value = { WatchesForm };
 
     ghost view = { λ w. record {
       heads = w.heads.items;
-      slots = w.slots.items;
+      slots = map opened w.slots.items;
       linked = w.linked;
       cursor = w.cursor;
       shorts = w.shorts.items;
@@ -54,6 +51,8 @@ impl Model for Watches {
       slots_room = vec_capacity w.slots;
       shorts_room = vec_capacity w.shorts;
     } };
+
+    ghost invariant = { λ w. FitNumbers (length w.heads.items) (length w.slots.items) };
 }
 
 impl Watches {
@@ -64,7 +63,7 @@ impl Watches {
         ensures first { link_at self.old.heads 0 ≡ result + 1 }
         ensures taken { self.new ≡ record self.old { heads = slice_set self.old.heads 0 (next_at self.old.slots result) } }
     {
-        let slot = self.heads[0] - 1;
+        let slot = self.heads[0] as usize - 1;
         self.heads[0] = self.slots[slot].next;
         slot
     }
@@ -72,7 +71,6 @@ impl Watches {
     // Links a slot to the front of the list of a literal.
     pub(crate) fn link(&mut self, slot: usize, lit: Lit)
         requires within { slot < length self.old.slots }
-        requires few { length self.old.slots < 2 ^ 64 }
         requires named { code lit < length self.old.heads }
         ensures { self.new ≡ record self.old {
           heads = slice_set self.old.heads (code lit) (slot + 1);
@@ -80,18 +78,21 @@ impl Watches {
         } }
     {
         let place = code_of(lit);
-        self.slots[slot] = Slot {
-            lit,
-            next: self.heads[place],
+        let next = self.heads[place];
+        self.slots[slot] = Packed {
+            lit: (place - 2) as u32,
+            next,
         };
-        self.heads[place] = slot + 1;
+        self.heads[place] = slot as u32 + 1;
     }
 
     // The watches of no clause.
     pub(crate) fn new(alloc: Global, variables: u32) -> Result<Watches, AllocError>
         ensures { IfOk result (λ w. IsBlank variables w) }
     {
-        let heads = vec![in alloc; 0usize; 2 * (variables as usize) + 2]?;
+        let lists = 2 * (variables as usize) + 2;
+        check_count(lists)?;
+        let heads = vec![in alloc; 0u32; lists]?;
         Ok(Watches {
             heads,
             slots: Vec::new(alloc),
@@ -107,7 +108,9 @@ impl Watches {
         requires { length self.old.heads ≤ size }
         ensures same { self.new ≡ record self.old { heads_room = self.new.heads_room } }
         ensures room { OnOk result (size ≤ self.new.heads_room) }
+        ensures few { OnOk result (size < 2 ^ 32) }
     {
+        check_count(size)?;
         let added = size - self.heads.len();
         self.heads.reserve(added)
     }
@@ -116,6 +119,7 @@ impl Watches {
     pub(crate) fn widen(&mut self, size: usize)
         requires more { length self.old.heads ≤ size }
         requires room { size ≤ self.old.heads_room }
+        requires few { size < 2 ^ 32 }
         ensures { self.new ≡ record self.old { heads = self.old.heads ++ replicate (size - length self.old.heads) 0 } }
     {
         let added = size - self.heads.len();
@@ -127,7 +131,9 @@ impl Watches {
         ensures same { self.new ≡ record self.old { slots_room = self.new.slots_room; shorts_room = self.new.shorts_room } }
         ensures slots { OnOk result (length self.old.slots + 2 ≤ self.new.slots_room) }
         ensures shorts { OnOk result (length self.old.shorts + 1 ≤ self.new.shorts_room) }
+        ensures few { OnOk result (length self.old.slots + 2 < 2 ^ 32) }
     {
+        check_count(self.slots.len() + 2)?;
         self.slots.reserve(2)?;
         self.shorts.reserve(1)?;
         Ok(())
@@ -137,6 +143,7 @@ impl Watches {
     pub(crate) fn add_clause(&mut self, number: usize, short: bool)
         requires slots { length self.old.slots + 2 ≤ self.old.slots_room }
         requires shorts { length self.old.shorts + 1 ≤ self.old.shorts_room }
+        requires few { length self.old.slots + 2 < 2 ^ 32 }
         ensures { self.new ≡ record self.old {
           slots = (self.old.slots ++ no_slot ∷ []) ++ no_slot ∷ [];
           shorts = self.old.shorts ++ (if short then number ∷ [] else []);
@@ -208,7 +215,6 @@ impl Watches {
     // Links the slots of the next clause to two literals.
     pub(crate) fn adopt(&mut self, one: Lit, two: Lit)
         requires within { 2 * self.old.linked + 1 < length self.old.slots }
-        requires few { length self.old.slots < 2 ^ 64 }
         requires one { code one < length self.old.heads }
         requires two { code two < length self.old.heads }
         ensures { self.new ≡ adopted self.old one two }
@@ -264,12 +270,22 @@ impl Watches {
         requires { slot < length self.now.slots }
         ensures { result ≡ watch_at self.now.slots slot }
     {
-        self.slots[slot].lit
+        lit_of(self.slots[slot])
     }
 }
 
+// Want of memory where 32 bits do not number so many.
+fn check_count(count: usize) -> Result<(), AllocError>
+    ensures { OnOk result (count < 2 ^ 32) }
+{
+    if count > u32::MAX as usize {
+        return Err(AllocError);
+    }
+    Ok(())
+}
+
 // Adds the heads of empty lists, for which there is room.
-fn add_heads(heads: &mut Vec<usize>, count: usize)
+fn add_heads(heads: &mut Vec<u32>, count: usize)
     requires { vec_len heads.old + count ≤ vec_capacity heads.old }
     ensures items { heads.new.items ≡ heads.old.items ++ replicate count 0 }
     ensures room { vec_capacity heads.new ≡ vec_capacity heads.old }
@@ -285,6 +301,16 @@ fn code_of(lit: Lit) -> usize
 {
     let first = 2 * (lit.variable as usize) + 2;
     if lit.positive { first + 1 } else { first }
+}
+
+// The literal that a slot watches.
+fn lit_of(slot: Packed) -> Lit
+    ensures { result ≡ (opened slot).lit }
+{
+    Lit {
+        variable: slot.lit / 2,
+        positive: slot.lit % 2 == 1,
+    }
 }
 
 // The clause of a slot.

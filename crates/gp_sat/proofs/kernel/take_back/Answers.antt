@@ -13,10 +13,10 @@ pub loop-place-preserved : goal.loop-place-preserved
 loop-place-preserved c =
     let here : ℕ = (get_or c.args.trail.now c.loop-place.place (record { variable = 0; positive = false })).variable in
     record {
-      size = length-set c.loop-place.values (get_or c.args.trail.now c.loop-place.place (record { variable = 0; positive = false })).variable None ∙ c.loop-place.invariant.size;
-      gone = λ place d from below. gone_at c.loop-place.values c.args.trail.now c.loop-place.place place d (λ inside. c.loop-place.invariant.gone place d from inside)
+      size = ap (λ (vs : List (Option Assigned)). length vs) c.unset.ensures ∙ length-set c.loop-place.values (get_or c.args.trail.now c.loop-place.place (record { variable = 0; positive = false })).variable None ∙ c.loop-place.invariant.size;
+      gone = λ place d from below. ap (λ (vs : List (Option Assigned)). get_or vs (get_or c.args.trail.now place d).variable None) c.unset.ensures ∙ gone_at c.loop-place.values c.args.trail.now c.loop-place.place place d (λ inside. c.loop-place.invariant.gone place d from inside)
           (omega (arith, c.requires.named c.loop-place.place (record { variable = 0; positive = false }) c.loop-place-test.true, c.loop-place.invariant.size)) c.loop-place-test.true below;
-      kept = λ v apart. get_or-set_other c.loop-place.values (get_or c.args.trail.now c.loop-place.place (record { variable = 0; positive = false })).variable v None None (λ same. apart c.loop-place.place (record { variable = 0; positive = false }) c.loop-place.auto.place (omega arith) (sym same))
+      kept = λ v apart. ap (λ (vs : List (Option Assigned)). get_or vs v None) c.unset.ensures ∙ get_or-set_other c.loop-place.values (get_or c.args.trail.now c.loop-place.place (record { variable = 0; positive = false })).variable v None None (λ same. apart c.loop-place.place (record { variable = 0; positive = false }) c.loop-place.auto.place (omega arith) (sym same))
           ∙ c.loop-place.invariant.kept v (λ place d from below. apart place d from (omega (arith, below)));
     }
   where

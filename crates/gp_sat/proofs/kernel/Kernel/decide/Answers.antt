@@ -28,6 +28,6 @@ pub invariant_of-self : goal.invariant_of-self
 invariant_of-self c =
     let may = may_be_decided _ _ c.args.lit c.self.view_is c.requires.named c.requires.free c.requires.closed c.self.invariant.sound in
     let size : vec_len c.self.inside.trail ≡ length c.self.inside.trail.items = omega arith in
-    consistent_laid _ _ _ _ (vec_len c.self.inside.trail) c.lay.new.values.items c.lay.new.trail.items _ _ _ _ _ _ _
+    consistent_laid _ _ _ _ (vec_len c.self.inside.trail) c.lay.new.values c.lay.new.trail.items _ _ _ _ _ _ _
     size c.lay.ensures.values c.lay.ensures.trail c.lay.ensures.room c.push_reserved.ensures.capacity
     (inr (refl, c.push_reserved.ensures.items ∙ ap (λ (n : ℕ). c.self.inside.starts.items ++ n ∷ []) (c.len.ensures ∙ size))) may c.self.invariant

@@ -18,7 +18,7 @@ pub invariant_of-self : goal.invariant_of-self
 invariant_of-self c =
     let may = may_be_forced _ _ c.args.lit c.args.number c.self.view_is c.requires.named c.requires.attached c.requires.unit c.self.invariant.sound in
     let size : vec_len c.self.inside.trail ≡ length c.self.inside.trail.items = omega arith in
-    consistent_laid _ _ _ _ (vec_len c.self.inside.trail) c.lay.new.values.items c.lay.new.trail.items _ _ _ _ _ _ _
+    consistent_laid _ _ _ _ (vec_len c.self.inside.trail) c.lay.new.values c.lay.new.trail.items _ _ _ _ _ _ _
     size c.lay.ensures.values c.lay.ensures.trail c.lay.ensures.room refl (inl (refl, refl)) may c.self.invariant
 
 pub returns-clause-added : goal.returns-clause-added

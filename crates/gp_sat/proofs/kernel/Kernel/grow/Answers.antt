@@ -31,16 +31,16 @@ grown_parts s variables values trail order starts more place next trail_room sta
     same front (ordered ∙ sym size) (omega (arith, size)) (omega (arith, size, trail_has)) (omega (arith, size, starts_has)) old))
 
 pub overflow_sub-count : goal.overflow_sub-count
-overflow_sub-count c = omega (arith, c.len-2.ensures, c.requires, ap (λ (s : SolverForm). length s.values) c.self.view_is, fits (record { values = c.self.inside.values.items; trail = c.self.inside.trail.items; clauses = c.self.inside.clauses; level = c.self.inside.level; order = c.self.inside.queue; used = c.self.inside.used }) c.self.invariant.sound)
+overflow_sub-count c = omega (arith, c.len.ensures, c.requires, ap (λ (s : SolverForm). length s.values) c.self.view_is, fits (record { values = c.self.inside.values; trail = c.self.inside.trail.items; clauses = c.self.inside.clauses; level = c.self.inside.level; order = c.self.inside.queue; used = c.self.inside.used }) c.self.invariant.sound)
 
 pub overflow_sub-count-2 : goal.overflow_sub-count-2
-overflow_sub-count-2 c = omega (arith, c.len-3.ensures, c.requires, ap (λ (s : SolverForm). length s.values) c.self.view_is, c.self.invariant.starts_at.count, c.self.invariant.sound.ordered.few, fits (record { values = c.self.inside.values.items; trail = c.self.inside.trail.items; clauses = c.self.inside.clauses; level = c.self.inside.level; order = c.self.inside.queue; used = c.self.inside.used }) c.self.invariant.sound)
+overflow_sub-count-2 c = omega (arith, c.len-2.ensures, c.requires, ap (λ (s : SolverForm). length s.values) c.self.view_is, c.self.invariant.starts_at.count, c.self.invariant.sound.ordered.few, fits (record { values = c.self.inside.values; trail = c.self.inside.trail.items; clauses = c.self.inside.clauses; level = c.self.inside.level; order = c.self.inside.queue; used = c.self.inside.used }) c.self.invariant.sound)
 
-pub invariant_of-self-2 : goal.invariant_of-self-2
-invariant_of-self-2 c =
-    let old : c.len.result ≡ length c.self.inside.values.items = omega (arith, c.len.ensures) in
-    let more : length c.self.inside.values.items ≤ c.args.variables = omega (arith, c.requires, ap (λ (s : SolverForm). length s.values) c.self.view_is) in
-    grown_parts (record { values = c.self.inside.values.items; trail = c.self.inside.trail.items; clauses = c.self.inside.clauses; level = c.self.inside.level; order = c.self.inside.queue; used = c.self.inside.used }) c.args.variables c.add_free.new.values.items c.reserve.new.self.items c.grow.new.self c.self.inside.starts.items c.reserve-2.new.self.items c.self.inside.place c.first-self-inside.result (vec_capacity c.self.inside.trail) (vec_capacity c.self.inside.starts) (vec_capacity c.reserve.new.self) (vec_capacity c.reserve-2.new.self)
-    (c.add_free.ensures ∙ ap (λ (vs : List (Option Assigned)). vs ++ replicate (c.args.variables - c.len.result) None) c.in_ok-reserve-3.ensures.items ∙ ap (λ (n : ℕ). c.self.inside.values.items ++ replicate (c.args.variables - n) None) old)
-    c.in_ok-reserve.ensures.items c.in_ok-reserve-2.ensures.items c.in_ok-grow.ensures.grown more c.ranges.variables.fits c.first-self-inside.ensures.first
-    (omega (arith, c.in_ok-reserve.ensures.ok, c.in_ok-reserve.ensures.len, c.len-2.ensures)) (omega (arith, c.in_ok-reserve-2.ensures.ok, c.in_ok-reserve-2.ensures.len, c.len-3.ensures)) c.self.invariant
+pub invariant_of-self-in-Ok : goal.invariant_of-self-in-Ok
+invariant_of-self-in-Ok c =
+    let old : c.len-size.result ≡ length c.self.inside.values = omega (arith, c.len-size.ensures) in
+    let more : length c.self.inside.values ≤ c.args.variables = omega (arith, c.requires, ap (λ (s : SolverForm). length s.values) c.self.view_is) in
+    grown_parts (record { values = c.self.inside.values; trail = c.self.inside.trail.items; clauses = c.self.inside.clauses; level = c.self.inside.level; order = c.self.inside.queue; used = c.self.inside.used }) c.args.variables c.grow.new.self c.reserve.new.self.items c.grow-2.new.self c.self.inside.starts.items c.reserve-2.new.self.items c.self.inside.place c.first-self-inside.result (vec_capacity c.self.inside.trail) (vec_capacity c.self.inside.starts) (vec_capacity c.reserve.new.self) (vec_capacity c.reserve-2.new.self)
+    (c.in_ok-grow.ensures.ok ∙ ap (λ (n : ℕ). c.self.inside.values ++ replicate (c.args.variables - n) None) old)
+    c.in_ok-reserve.ensures.items c.in_ok-reserve-2.ensures.items c.in-Ok.ensures.grown more c.ranges.variables.fits c.first-self-inside.ensures.first
+    (omega (arith, c.in_ok-reserve.ensures.ok, c.in_ok-reserve.ensures.len, c.len.ensures)) (omega (arith, c.in_ok-reserve-2.ensures.ok, c.in_ok-reserve-2.ensures.len, c.len-2.ensures)) c.self.invariant

@@ -1,4 +1,4 @@
-use Rattle.std.proofs.Common.{◌≡◌, sym, ◌∙◌, ap, subst, ℕ, false, Option, Some, None, List, [], ◌∷◌, ◌++◌, get_or, take, arith}
+use Rattle.std.proofs.Common.{◌≡◌, sym, ◌∙◌, ap, subst, ℕ, false, Option, Some, List, [], ◌∷◌, ◌++◌, get_or, take, arith}
 use Rattle.gp_clause.specs.declared.lit.Lit.{Lit}
 use Rattle.gp_sat.specs.declared.assigned.Assigned.{Assigned}
 use Rattle.gp_sat.specs.State.{SolverForm, assigned}
@@ -24,10 +24,9 @@ loop-lit-preserved c =
     let s : SolverForm = c.args.self.now in
     let before : List Lit = take c.loop-lit.lit-index c.args.lits.now in
     let lit : Lit = get_or c.args.lits.now c.loop-lit.lit-index d in
-    let values : c.as_slice.result.now ≡ s.values = c.as_slice.ensures.value ∙ ap (λ (t : SolverForm). t.values) c.self.view_is in
-    let value : c.value_of.result ≡ assigned s lit.variable = c.value_of.ensures ∙ ap (λ (vs : List (Option Assigned)). get_or vs lit.variable None) values in
+    let value : c.get.result ≡ assigned s lit.variable = c.get.ensures ∙ ap (λ (t : SolverForm). assigned t lit.variable) c.self.view_is in
     let level : c.self.inside.level ≡ s.level = ap (λ (t : SolverForm). t.level) c.self.view_is in
-    subst (λ (xs : List Lit). IsHighestBelow s xs c.match-value_of.level) (sym (take_more c.args.lits.now c.loop-lit.lit-index d c.loop-lit-test.true)) (elim c.match-value_of.branch [
+    subst (λ (xs : List Lit). IsHighestBelow s xs c.match-get.level) (sym (take_more c.args.lits.now c.loop-lit.lit-index d c.loop-lit-test.true)) (elim c.match-get.branch [
       | in-Some+then-level-a+then-a-self w ↦
           subst (λ (n : ℕ). IsHighestBelow s (before ++ lit ∷ []) n) (sym w.level-is)
           (highest_new s before lit c.loop-lit.level w.in-Some.a (sym value ∙ w.in-Some.is) w.if-level-a.true (omega (arith, w.if-a-self.true, level)) c.loop-lit.invariant)

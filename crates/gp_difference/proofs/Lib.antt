@@ -12,4 +12,5 @@ pub mod WalkBuffer
 pub mod SettleLemmas
 pub mod LinkLemmas
 pub mod GraphLemmas
-pub mod TreeLemmas
+pub mod OrderLemmas
+pub mod HeapLemmas

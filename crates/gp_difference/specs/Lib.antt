@@ -3,6 +3,7 @@ pub mod Bounds
 pub mod BoundsLaws
 pub mod Graph
 pub mod Links
+pub mod Order
 pub mod Falls
 pub mod Placement
 pub mod Lower

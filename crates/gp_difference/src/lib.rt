@@ -14,6 +14,7 @@ mod graph;
 mod keeping;
 mod laws;
 mod lower;
+mod order;
 mod placement;
 mod settle;
 mod start;

@@ -1,21 +1,19 @@
-use Rattle.std.proofs.Common.{◌≡◌, ◌+◌, ◌*◌, List, length, set, drop, sym, ap, subst, ◌∙◌, ℤ, w64, to_z, of_z, arith}
+use Rattle.std.proofs.Common.{◌≡◌, ◌<◌, List, ℤ, length, sym, subst, pos, w64, to_z, of_z, ◌∙◌, arith}
 use Rattle.std.proofs.lemmas.Int.{ints}
-use Rattle.std.proofs.lemmas.List.{drop-set-add, with_items_is}
+use Rattle.std.proofs.lemmas.List.{get_or_read}
+use Rattle.gp_difference.specs.Places.{place_at}
+use Rattle.gp_difference.proofs.HeapLemmas.{written, written_at}
 use Rattle.gp_difference.proofs.falls.Falls.put.Goals as goal
 
-pub returns : goal.returns
-returns c =
-    let inside = c.self.inside in
-    let tree = inside.tree.items in
-    let points = inside.points in
-    let x = to_z w64 (of_z w64 c.args.number) in
-    let bits : x ≡ c.args.number = omega (arith, ints, c.ranges.number.sfits) in
-    let size : length tree ≡ 2 * points = c.self.invariant.1 in
-    let lent = c.deref_mut.ensures.value in
-    let lent_size : length c.deref_mut.result.now ≡ 2 * points = subst (λ (ts : List ℤ). length ts ≡ 2 * points) (sym lent) size in
-    ap (λ ts. drop points ts) (with_items_is inside.tree c.put_leaf.new.tree (omega (arith, c.put_leaf.auto.tree, lent_size, size, inside.tree.ok.0)))
-    ∙ c.put_leaf.ensures.leaves points lent_size
-    ∙ ap (λ ts. drop points (set ts (points + c.args.point) x)) lent
-    ∙ drop-set-add points tree c.args.point x
-    ∙ ap (λ (fs : List ℤ). set fs c.args.point x) c.self.view_is
-    ∙ ap (λ y. set c.args.self.now c.args.point y) bits
+pub settle-self-inside-requires : goal.settle-self-inside-requires
+settle-self-inside-requires c =
+    let falls = c.self.inside.numbers.items in
+    let before = to_z w64 (of_z w64 c.replace-before.result) in
+    let within : c.args.point < length falls = subst (λ (fs : List ℤ). c.args.point < length fs) (sym c.self.view_is) c.requires in
+    let read : c.index_mut.result.now ≡ place_at falls c.args.point =
+    get_or_read falls c.args.point c.index_mut.result.now (omega (arith, within, c.self.inside.numbers.ok.0)) c.index_mut.ensures.value (pos 0) in
+    let bits : before ≡ c.replace-before.result = omega (arith, ints, c.replace-before.type_inv) in
+    record {
+      heaped = rw c.deref.ensures.value (written falls c.self.inside.order c.self.inside.count c.args.point c.spot-spot.result before _ c.self.invariant c.spot-spot.ensures (bits ∙ c.replace-before.ensures.value ∙ read));
+      number = rw c.deref.ensures.value (written_at falls c.self.inside.order c.args.point c.spot-spot.result _ _ c.spot-spot.ensures within (sym c.replace-before.ensures.after));
+    }

@@ -39,3 +39,4 @@ pub mod ScheduleModels
 pub mod StandingLaws
 pub mod TrueLaws
 pub mod Extension
+pub mod Families

@@ -108,7 +108,7 @@ fn count_of(encoded: &Encoded) -> usize
     encoded.problem().clauses.len()
 }
 
-fn points_of(alloc: Global, encoded: &Encoded) -> Result<Points, AllocError>
+pub(crate) fn points_of(alloc: Global, encoded: &Encoded) -> Result<Points, AllocError>
     ensures { IfOk result (λ points. points ≡ points_of encoded.now) }
 {
     Points::of(alloc, encoded.window())

@@ -1,10 +1,11 @@
 ghost use Rattle.std.specs.Prelude.{◌≡◌, ◌++◌, [], take, drop, IfOk, OnOk, flat_map, if◌then◌else◌, length, map, nat_lt};
 ghost use Rattle.gp_instance.specs.Matches.{groups_of};
 ghost use Rattle.gp_constraint.specs.declared.symbol.Symbol.TheVariants.{Order};
+ghost use Rattle.gp_constraint.specs.Base.{names_in};
 ghost use Rattle.gp_constraint.specs.Numbering.{numbered_lit};
 ghost use Rattle.gp_constraint.specs.Points.{number_in, points_of};
 ghost use Rattle.gp_constraint.specs.QueryNames.{AreMentioned, all_names};
-ghost use Rattle.gp_constraint.specs.Query.{executed_lits, holds, order_lit, ordered, orders_from, pattern_lits, query_of, side, sides_of, span_lit, spans_in};
+ghost use Rattle.gp_constraint.specs.Query.{executed_lits, holds, order_lit, ordered, orders_from, pattern_lits, query_names, query_of, side, sides_of, span_lit, spans_in};
 
 use crate::encoded::Encoded;
 use crate::naming::kinds_of;
@@ -30,12 +31,43 @@ pub fn query(
 {
     let ids = instance.events.as_slice();
     let lits = pattern_lits(alloc, encoded, property, ids)?;
-    let mut names = QueryNames::new(alloc, encoded.names());
-    mention_lits(&mut names, lits.as_slice())?;
-    mention_sides(&mut names, encoded, property.pattern(), ids)?;
+    let names = query_names(alloc, encoded, property, ids, lits.as_slice())?;
     let assumed = assumed(alloc, &names, encoded, ids, lits.as_slice())?;
     let locals = kinds_of(alloc, names.own())?;
     Ok(Query { locals, assumed })
+}
+
+/// The symbols of the window that is encoded and of the query of an instance, each at the place of its variable.
+pub fn query_symbols(
+    alloc: Global,
+    encoded: &Encoded,
+    property: &Property,
+    instance: &Instance,
+) -> Result<Row<Symbol>, AllocError>
+    ensures { IfOk result (λ symbols. symbols ≡ query_names encoded.now property.now instance.now.events) }
+{
+    let ids = instance.events.as_slice();
+    let lits = pattern_lits(alloc, encoded, property, ids)?;
+    let names = query_names(alloc, encoded, property, ids, lits.as_slice())?;
+    names.all(alloc)
+}
+
+/// The names of a query whose pattern has these literals.
+fn query_names<'a>(
+    alloc: Global,
+    encoded: &'a Encoded,
+    property: &Property,
+    ids: &[EventId],
+    lits: &[SymbolicLit],
+) -> Result<QueryNames<'a>, AllocError>
+    requires { lits.now ≡ pattern_lits encoded.now property.now ids.now }
+    ensures base { IfOk result (λ names. names.base ≡ names_in encoded.now) }
+    ensures all { IfOk result (λ names. all_names names ≡ query_names encoded.now property.now ids.now) }
+{
+    let mut names = QueryNames::new(alloc, encoded.names());
+    mention_lits(&mut names, lits)?;
+    mention_sides(&mut names, encoded, property.pattern(), ids)?;
+    Ok(names)
 }
 
 fn holds(symbol: Symbol) -> SymbolicLit

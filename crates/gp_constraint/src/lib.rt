@@ -7,6 +7,7 @@
 
 mod action;
 mod adding;
+mod base_family;
 mod encoded;
 mod extending;
 mod extension;
@@ -36,13 +37,14 @@ mod term;
 mod window_base;
 
 pub use action::Action;
+pub use base_family::{BaseFamily, family_size};
 pub use encoded::Encoded;
 pub use extending::{ExtendedProblem, extended};
 pub use extension::{Extension, extended_beside};
 pub use family::Family;
 pub use fault::{BaseFault, Full, MOST_CLAUSES, MOST_POINTS};
 pub use groups::Groups;
-pub use instance_query::query;
+pub use instance_query::{query, query_symbols};
 pub use laws::{
     answers_mean, extensions_mean, models_extend, problems_are_valid, truths_are_numbered,
 };

@@ -1,9 +1,10 @@
-ghost use Rattle.std.specs.Prelude.{◌≡◌, ◌≤◌, ◌∷◌, [], OnOk, length};
+ghost use Rattle.std.specs.Prelude.{◌≡◌, ◌≤◌, ◌∷◌, [], IfOk, OnOk, length};
 ghost use Rattle.gp_constraint.specs.Numbering.{number_of, numbered_lit};
 ghost use Rattle.gp_constraint.specs.QueryNames.{AreMentioned, all_names};
 
 use crate::naming::Names;
 use crate::symbol::{Symbol, SymbolicLit};
+use gp_base::Row;
 use gp_clause::Lit;
 use std::alloc::{AllocError, Global};
 use std::marker::Model;
@@ -76,6 +77,15 @@ impl<'a> QueryNames<'a> {
         ensures { result.now ≡ self.now.own }
     {
         self.own.as_slice()
+    }
+
+    /// All symbols, each at the place of its number.
+    pub fn all(&self, alloc: Global) -> Result<Row<Symbol>, AllocError>
+        ensures { IfOk result (λ symbols. symbols ≡ all_names self.now) }
+    {
+        let mut symbols = Vec::from_slice(alloc, self.base.as_slice())?;
+        symbols.extend_from_slice(self.own.as_slice())?;
+        Ok(Row::from_vec(symbols))
     }
 
     pub fn lit(&self, lit: SymbolicLit) -> Lit

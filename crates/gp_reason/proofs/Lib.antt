@@ -1,0 +1,7 @@
+pub mod Assumed
+pub mod Drafted
+pub mod Enough
+pub mod FamiliesTold
+pub mod Holding
+pub mod Marked
+pub mod Resting

@@ -1,0 +1,114 @@
+-- Small windows, with the reasons that certificates give.
+use Rattle.std.specs.Prelude.{◌≡◌, ℕ, pos, true, false, List, [], ◌∷◌, None}
+use Rattle.gp_certificate.specs.declared.step.Step.{Step}
+use Rattle.gp_clause.specs.declared.lit.Lit.{Lit}
+use Rattle.gp_constraint.specs.declared.base_family.BaseFamily.TheVariants.{ProgramOrder, Read, Choice, HeldLock}
+use Rattle.gp_property.specs.declared.property.PatternStep.{PatternStep}
+use Rattle.gp_property.specs.PropertyForm.{PropertyForm}
+use Rattle.gp_trace.specs.declared.event.Event.TheVariants as event
+use Rattle.gp_window.specs.declared.schedule.EventId.{EventId}
+use Rattle.gp_window.specs.WindowForm.{WindowForm}
+use Rattle.gp_reason.specs.declared.fact.Fact.TheVariants.{Executed, NotExecuted, Before, Sees, NotSees}
+use Rattle.gp_reason.specs.declared.reasons.Ground.TheVariants.{Base, Earlier, Everything}
+use Rattle.gp_reason.specs.Reasons.{reason_of}
+
+abbrev a : List ℕ
+a = 97 ∷ []
+
+abbrev b : List ℕ
+b = 98 ∷ []
+
+abbrev c : List ℕ
+c = 99 ∷ []
+
+abbrev at : ℕ → ℕ → EventId
+at thread index = record { thread = thread; index = index }
+
+-- a literal of a variable, and its negation
+abbrev so : ℕ → Lit
+so variable = record { variable = variable; positive = true }
+
+abbrev not_so : ℕ → Lit
+not_so variable = record { variable = variable; positive = false }
+
+abbrev step : List Lit → List ℕ → Step
+step clause hints = record { clause = clause; hints = hints }
+
+-- one event, and then another
+abbrev single : PatternStep
+single = record { atoms = record { event = a; thread_var = b; opens = None; closes = None } ∷ [] }
+
+abbrev pub in_turn : PropertyForm
+in_turn = record { name = a; events = []; pattern = single ∷ single ∷ [] }
+
+-- thread 1 works and then raises a flag, which thread 2 finds raised before it works. The clauses 0 and 1 are of program order, 2 says
+-- that the read sees a value, and 3 and 4 what it means that it sees the write
+abbrev pub flagged : WindowForm
+flagged = record {
+  number = 1;
+  segments = (event.Op (a, []) ∷ event.Write c (pos 1) ∷ []) ∷ (event.Read c (pos 1) ∷ event.Op (b, []) ∷ []) ∷ [];
+  start_values = [];
+  holders = [];
+  readers = [];
+  started = 1 ∷ 2 ∷ [];
+  exited = [];
+}
+
+-- thread 1 works under a lock that it holds when the window begins, and thread 2 takes the lock before it works. The clauses 0 and 1 are
+-- of program order, 2 and 3 say that the lock is given back first
+abbrev pub guarded : WindowForm
+guarded = record {
+  number = 1;
+  segments = (event.Op (a, []) ∷ event.Release c ∷ []) ∷ (event.Acquire c ∷ event.Op (b, []) ∷ []) ∷ [];
+  start_values = [];
+  holders = (c, 1) ∷ [];
+  readers = [];
+  started = 1 ∷ 2 ∷ [];
+  exited = [];
+}
+
+-- the work of thread 2 before that of thread 1
+abbrev pub reversed : List EventId
+reversed = at 2 1 ∷ at 1 0 ∷ []
+
+pub record ExamplesHold : Type 0 where
+  -- one step, by the clauses that it cites; a hint that cites nothing is left out
+  pub flag : reason_of flagged in_turn reversed [] (record { steps = step (not_so 3 ∷ so 6 ∷ []) (1 ∷ 2 ∷ 40 ∷ 4 ∷ []) ∷ [] }) ≡ record {
+    assumed = Executed (at 2 1) ∷ Before (at 2 1) (at 1 0) ∷ [];
+    steps = record {
+      number = 5;
+      says = NotExecuted (at 2 1) ∷ Before (at 1 0) (at 2 1) ∷ [];
+      grounds = Base ProgramOrder (Executed (at 2 0) ∷ NotExecuted (at 2 1) ∷ [])
+          ∷ Base Read (NotExecuted (at 2 0) ∷ Sees (at 2 0) (at 1 1) ∷ [])
+          ∷ Base Choice (NotSees (at 2 0) (at 1 1) ∷ Before (at 1 1) (at 2 0) ∷ []) ∷ [];
+    } ∷ [];
+  }
+  -- of two shared steps the one that is cited is told, and the steps that are told count without the other
+  pub shared : reason_of flagged in_turn reversed (step (not_so 2 ∷ so 1 ∷ []) (2 ∷ 3 ∷ []) ∷ step (not_so 2 ∷ so 5 ∷ []) (2 ∷ 4 ∷ []) ∷ [])
+      (record { steps = step (not_so 3 ∷ so 5 ∷ []) (1 ∷ 6 ∷ []) ∷ step (not_so 3 ∷ so 6 ∷ []) (7 ∷ []) ∷ [] }) ≡ record {
+        assumed = Executed (at 2 1) ∷ Before (at 2 1) (at 1 0) ∷ [];
+        steps = record {
+          number = 6;
+          says = NotExecuted (at 2 0) ∷ Before (at 1 1) (at 2 0) ∷ [];
+          grounds = Base Read (NotExecuted (at 2 0) ∷ Sees (at 2 0) (at 1 1) ∷ []) ∷ Base Choice (NotSees (at 2 0) (at 1 1) ∷ Before (at 1 1) (at 2 0) ∷ []) ∷ [];
+        }
+            ∷ record {
+              number = 7;
+              says = NotExecuted (at 2 1) ∷ Before (at 1 1) (at 2 0) ∷ [];
+              grounds = Base ProgramOrder (Executed (at 2 0) ∷ NotExecuted (at 2 1) ∷ []) ∷ Earlier 0 ∷ [];
+            }
+            ∷ record { number = 8; says = NotExecuted (at 2 1) ∷ Before (at 1 0) (at 2 1) ∷ []; grounds = Earlier 1 ∷ [] } ∷ [];
+      }
+  -- a step without hints rests on all own steps before it, and on no shared one
+  pub everything : reason_of guarded in_turn reversed (step (not_so 2 ∷ so 4 ∷ []) (3 ∷ []) ∷ [])
+      (record { steps = step (not_so 3 ∷ so 4 ∷ []) (1 ∷ 3 ∷ []) ∷ step (not_so 3 ∷ so 5 ∷ []) [] ∷ [] }) ≡ record {
+        assumed = Executed (at 2 1) ∷ Before (at 2 1) (at 1 0) ∷ [];
+        steps = record {
+          number = 5;
+          says = NotExecuted (at 2 1) ∷ Before (at 1 1) (at 2 0) ∷ [];
+          grounds = Base ProgramOrder (Executed (at 2 0) ∷ NotExecuted (at 2 1) ∷ []) ∷ Base HeldLock (NotExecuted (at 2 0) ∷ Before (at 1 1) (at 2 0) ∷ []) ∷ [];
+        }
+            ∷ record { number = 6; says = NotExecuted (at 2 1) ∷ Before (at 1 0) (at 2 1) ∷ []; grounds = Everything ∷ [] } ∷ [];
+      }
+  -- a certificate without steps gives no reason
+  pub none : reason_of flagged in_turn reversed (step (not_so 2 ∷ so 1 ∷ []) (2 ∷ 3 ∷ []) ∷ []) (record { steps = [] }) ≡ record { assumed = []; steps = [] }

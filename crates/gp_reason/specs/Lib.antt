@@ -1,0 +1,10 @@
+pub mod Draft
+pub mod Examples
+pub mod Facts
+pub mod Families
+pub mod Laws
+pub mod Marks
+pub mod Reasons
+pub mod Told
+pub mod Truth
+pub mod Vocabulary

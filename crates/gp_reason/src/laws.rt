@@ -1,0 +1,32 @@
+ghost use Rattle.gp_reason.specs.Examples.{ExamplesHold};
+ghost use Rattle.gp_reason.specs.Laws.{FamiliesAreTold, ReasonsAreEnough, ReasonsTellWhatTheyRestOn};
+ghost use Rattle.gp_reason.specs.Truth.{FactsAreTrue};
+
+use gp_certificate::more_passes;
+
+/// A reason tells the last step of its certificate and the steps on which that rests, each once and in their order.
+pub fn reasons_tell_what_they_rest_on()
+    ensures { ReasonsTellWhatTheyRestOn }
+{}
+
+/// Each step that is told of a certificate that checks passes with the clauses of its problem and the steps told before it.
+pub fn reasons_are_enough()
+    ensures { ReasonsAreEnough }
+{
+    more_passes();
+}
+
+/// A clause of a window is one of the clauses of the family that is told for its number.
+pub fn families_are_told()
+    ensures { FamiliesAreTold }
+{}
+
+/// Where a literal is true, and the places of events keep what it says, the fact that it says holds.
+pub fn facts_are_true()
+    ensures { FactsAreTrue }
+{}
+
+/// The reasons that certificates for small windows give.
+pub fn gives_examples()
+    ensures { ExamplesHold }
+{}

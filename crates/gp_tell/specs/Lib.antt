@@ -1,0 +1,4 @@
+pub mod Examples
+pub mod FactText
+pub mod ReasonText
+pub mod StoryText

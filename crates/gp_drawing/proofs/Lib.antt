@@ -1,0 +1,4 @@
+pub mod Leading
+pub mod Plain
+pub mod Steps
+pub mod Telling

@@ -1,0 +1,11 @@
+pub mod Arrows
+pub mod Bars
+pub mod Drawing
+pub mod Escaped
+pub mod Examples
+pub mod Laws
+pub mod Places
+pub mod Rows
+pub mod Singles
+pub mod Svg
+pub mod Words

@@ -1,0 +1,29 @@
+ghost use Rattle.gp_drawing.specs.Escaped.{EscapedIsPlain};
+ghost use Rattle.gp_drawing.specs.Examples.{ExamplesHold};
+ghost use Rattle.gp_drawing.specs.Laws.{ArrowsLeadDown, BarsLeadDown, RowsTellParts};
+
+/// A drawing has a row for each part of its story, which tells that part.
+pub fn rows_tell_parts()
+    ensures { RowsTellParts }
+{}
+
+/// Each arrow leads down, from a row to a later one. Both tell one line each, and the later of these looks back at the event
+/// of the earlier, or its thread is started by it.
+pub fn arrows_lead_down()
+    ensures { ArrowsLeadDown }
+{}
+
+/// A bar ends in a row of the drawing, and not above the row in which it begins.
+pub fn bars_lead_down()
+    ensures { BarsLeadDown }
+{}
+
+/// An escaped text has no angle bracket and no quote, and `&` stands in it only where an entity begins.
+pub fn escaped_is_plain()
+    ensures { EscapedIsPlain }
+{}
+
+/// The drawings of small stories, and the text of one.
+pub fn draws_examples()
+    ensures { ExamplesHold }
+{}

@@ -8,11 +8,15 @@ use Rattle.std.proofs.lemmas.List.Elements.{All-from_recursion, recursion_from_A
 use Rattle.std.proofs.lemmas.List.Recursion.{is_sum_by}
 use Rattle.std.proofs.lemmas.List.Sorted.{All-permutation, sum_by-IsPermutation}
 use Rattle.gp_words.specs.Argument.{same_argument}
-use Rattle.gp_words.specs.Order.{AnyOrder}
-use Rattle.gp_words.specs.Reading.{GivenForm}
+use Rattle.gp_words.specs.Command.{command_of}
+use Rattle.gp_words.specs.Order.{AnyOrder, IsAnyOrder}
+use Rattle.gp_words.specs.Reading.{GivenForm, given_of}
+use Rattle.gp_words.specs.Showing.{show_command_of}
 use Rattle.gp_words.specs.Value.{at_most_one, value_of, values_of}
 use Rattle.gp_words.specs.declared.argument.Argument.{Argument}
 use Rattle.gp_words.specs.declared.argument.Argument.TheVariants as argument
+use Rattle.gp_words.specs.declared.argument.Program.{Program}
+use Rattle.gp_words.specs.declared.argument.Program.TheVariants.{Gpredict, Gpshow}
 
 -- given to this argument
 abbrev is_for : Argument → GivenForm → Bool
@@ -82,9 +86,23 @@ same_value argument given moved permuted =
     each_value argument value moved (recursion_from_All (HasValue argument value) moved
     (All-permutation (HasValue argument value) given moved permuted (All-from_recursion (HasValue argument value) given (each_given argument value given all)))))
 
-pub any_order_lem : AnyOrder
-any_order_lem words others given moved read other permuted =
-    let same : (argument : Argument) → value_of argument words ≡ value_of argument others =
-    λ argument. rw read (rw other (same_value argument given moved permuted)) in
+-- so the words of a program give it the same value, whose options and folder are the same
+same_given : (program : Program) (words others : List (List ℕ)) (given moved : List GivenForm)
+    → given_of program words ≡ Some given → given_of program others ≡ Some moved → IsPermutation given moved
+    → (argument : Argument) → value_of program argument words ≡ value_of program argument others
+same_given program words others given moved read other permuted argument = rw read (rw other (same_value argument given moved permuted))
+
+gpredict : IsAnyOrder Gpredict command_of
+gpredict words others given moved read other permuted =
+    let same = same_given Gpredict words others given moved read other permuted in
     rw (same argument.Task) (rw (same argument.Folder) (rw (same argument.Workers) (rw (same argument.Budget) (rw (same argument.Report)
     (rw (same argument.Seed) (rw (same argument.Threads) (rw (same argument.Events) refl)))))))
+
+gpshow : IsAnyOrder Gpshow show_command_of
+gpshow words others given moved read other permuted =
+    let same = same_given Gpshow words others given moved read other permuted in
+    rw (same argument.As) (rw (same argument.Folder) (rw (same argument.Window) (rw (same argument.Property) (rw (same argument.Instance)
+    (rw (same argument.Most) refl)))))
+
+pub any_order_lem : AnyOrder
+any_order_lem = record { gpredict = gpredict; gpshow = gpshow }

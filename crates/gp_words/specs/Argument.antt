@@ -2,11 +2,13 @@
 use Rattle.std.specs.Prelude.{ℕ, Bool, true, false, List, Option, Some, None, if◌then◌else◌, codes}
 use Rattle.std.specs.Str.{bytes_eq}
 use Rattle.gp_words.specs.declared.argument.Argument.{Argument}
-use Rattle.gp_words.specs.declared.argument.Argument.TheVariants.{Task, Workers, Budget, Report, Seed, Threads, Events, Folder}
+use Rattle.gp_words.specs.declared.argument.Argument.TheVariants.{Task, Workers, Budget, Report, Seed, Threads, Events, As, Window, Property, Instance, Most, Folder}
+use Rattle.gp_words.specs.declared.argument.Program.{Program}
+use Rattle.gp_words.specs.declared.argument.Program.TheVariants.{Gpredict, Gpshow}
 
--- the option of this name
-abbrev pub option_named : List ℕ → Option Argument
-option_named name =
+-- the option of gpredict that has this name
+abbrev pub gpredict_option : List ℕ → Option Argument
+gpredict_option name =
     if bytes_eq name (codes "--task") then Some Task
     else (if bytes_eq name (codes "--workers") then Some Workers
     else (if bytes_eq name (codes "--budget") then Some Budget
@@ -14,6 +16,20 @@ option_named name =
     else (if bytes_eq name (codes "--seed") then Some Seed
     else (if bytes_eq name (codes "--threads") then Some Threads
     else (if bytes_eq name (codes "--events") then Some Events else None))))))
+
+-- the option of gpshow that has this name
+abbrev pub gpshow_option : List ℕ → Option Argument
+gpshow_option name =
+    if bytes_eq name (codes "--as") then Some As
+    else (if bytes_eq name (codes "--window") then Some Window
+    else (if bytes_eq name (codes "--property") then Some Property
+    else (if bytes_eq name (codes "--instance") then Some Instance
+    else (if bytes_eq name (codes "--most") then Some Most else None))))
+
+-- the option of a program that has this name
+abbrev pub option_named : Program → List ℕ → Option Argument
+option_named Gpredict name = gpredict_option name
+option_named Gpshow name = gpshow_option name
 
 -- whether two arguments are the same
 abbrev pub same_argument : Argument → Argument → Bool
@@ -24,5 +40,10 @@ same_argument Report Report = true
 same_argument Seed Seed = true
 same_argument Threads Threads = true
 same_argument Events Events = true
+same_argument As As = true
+same_argument Window Window = true
+same_argument Property Property = true
+same_argument Instance Instance = true
+same_argument Most Most = true
 same_argument Folder Folder = true
 same_argument one other = false

@@ -1,4 +1,4 @@
--- The command that the words of a command line are.
+-- The command that the words of a command line of gpredict are.
 use Rattle.std.specs.Prelude.{ℕ, Bool, not, ◌&&◌, ◌≤◌, nat_le, List, length, Option, Some, None, if◌then◌else◌, codes}
 use Rattle.std.specs.Str.{bytes_eq}
 use Rattle.gp_text.specs.Numbers.{between, number_of}
@@ -6,6 +6,8 @@ use Rattle.gp_words.specs.Reading.{if_some}
 use Rattle.gp_words.specs.Value.{value_of}
 use Rattle.gp_words.specs.declared.argument.Argument.{Argument}
 use Rattle.gp_words.specs.declared.argument.Argument.TheVariants as argument
+use Rattle.gp_words.specs.declared.argument.Program.{Program}
+use Rattle.gp_words.specs.declared.argument.Program.TheVariants.{Gpredict}
 use Rattle.gp_words.specs.declared.command.Command.{Command}
 use Rattle.gp_words.specs.declared.task.Task.{Task}
 use Rattle.gp_words.specs.declared.task.Task.TheVariants as task
@@ -51,15 +53,15 @@ task_named name =
 
 -- the task, which must be given
 abbrev pub task_of : List (List ℕ) → Option Task
-task_of words = if_some (value_of argument.Task words) (λ value. if_some value task_named)
+task_of words = if_some (value_of Gpredict argument.Task words) (λ value. if_some value task_named)
 
 -- a name of 1 to 4,096 bytes that is not the single byte `-`
 abbrev pub is_folder : List ℕ → Bool
 is_folder name = nat_le 1 (length name) && nat_le (length name) 4096 && not (bytes_eq name (codes "-"))
 
 -- the folder, which must be given
-abbrev pub folder_of : List (List ℕ) → Option (List ℕ)
-folder_of words = if_some (value_of argument.Folder words) (λ value. if_some value (λ name. if is_folder name then Some name else None))
+abbrev pub folder_of : Program → List (List ℕ) → Option (List ℕ)
+folder_of program words = if_some (value_of program argument.Folder words) (λ value. if_some value (λ name. if is_folder name then Some name else None))
 
 -- a canonical decimal in this range
 abbrev pub number_in : ℕ → ℕ → List ℕ → Option ℕ
@@ -71,20 +73,20 @@ or_default default read None = Some default
 or_default default read (Some value) = read value
 
 -- the number of an option that may be left out
-abbrev pub number_given : Argument → (List ℕ → Option ℕ) → ℕ → List (List ℕ) → Option ℕ
-number_given option read default words = if_some (value_of option words) (or_default default read)
+abbrev pub number_given : Program → Argument → (List ℕ → Option ℕ) → ℕ → List (List ℕ) → Option ℕ
+number_given program option read default words = if_some (value_of program option words) (or_default default read)
 
 -- the command that the words are: each argument is tested, also one that the task does not use
 abbrev pub command_of : List (List ℕ) → Option CommandForm
 command_of words =
     if_some (task_of words) (λ task.
-    if_some (folder_of words) (λ folder.
-    if_some (number_given argument.Workers (number_in 1 16) 4 words) (λ workers.
-    if_some (number_given argument.Budget (number_in 1 1000000) 200 words) (λ budget.
-    if_some (number_given argument.Report (number_in 1 2) 1 words) (λ format.
-    if_some (number_given argument.Seed number_of 1 words) (λ seed.
-    if_some (number_given argument.Threads (number_in 1 64) 4 words) (λ threads.
-    if_some (number_given argument.Events (number_in 1 100000) 600 words) (λ events.
+    if_some (folder_of Gpredict words) (λ folder.
+    if_some (number_given Gpredict argument.Workers (number_in 1 16) 4 words) (λ workers.
+    if_some (number_given Gpredict argument.Budget (number_in 1 1000000) 200 words) (λ budget.
+    if_some (number_given Gpredict argument.Report (number_in 1 2) 1 words) (λ format.
+    if_some (number_given Gpredict argument.Seed number_of 1 words) (λ seed.
+    if_some (number_given Gpredict argument.Threads (number_in 1 64) 4 words) (λ threads.
+    if_some (number_given Gpredict argument.Events (number_in 1 100000) 600 words) (λ events.
     Some (record { task = task; folder = folder; workers = workers; budget = budget; format = format; seed = seed; threads = threads; events = events })))))))))
 
 -- the numbers of a command are in their ranges

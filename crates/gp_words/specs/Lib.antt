@@ -4,3 +4,4 @@ pub mod Value
 pub mod Command
 pub mod Order
 pub mod Forms
+pub mod Showing

@@ -5,6 +5,7 @@ use Rattle.std.specs.Str.{bytes_eq}
 use Rattle.gp_words.specs.Argument.{option_named}
 use Rattle.gp_words.specs.declared.argument.Argument.{Argument}
 use Rattle.gp_words.specs.declared.argument.Argument.TheVariants.{Folder}
+use Rattle.gp_words.specs.declared.argument.Program.{Program}
 use Rattle.gp_words.specs.declared.reading.Expected.{Expected}
 use Rattle.gp_words.specs.declared.reading.Expected.TheVariants.{AnyWord, ValueOf, PlainWord}
 use Rattle.gp_words.specs.declared.reading.Given.{Given}
@@ -57,22 +58,22 @@ abbrev pub gives : Argument → List ℕ → Expected → ReadingForm
 gives argument value next = record { given = Some (record { argument = argument; value = value }); next = next }
 
 -- `--name=value` gives the option all bytes after the first equals sign; `--name` takes the next word
-abbrev pub read_option : List ℕ → Option ReadingForm
-read_option word =
-    if list_any is_equals word then option_map (λ option. gives option (after_first is_equals word) AnyWord) (option_named (before_first is_equals word))
-    else option_map (λ option. record { given = None; next = ValueOf option }) (option_named word)
+abbrev pub read_option : Program → List ℕ → Option ReadingForm
+read_option program word =
+    if list_any is_equals word then option_map (λ option. gives option (after_first is_equals word) AnyWord) (option_named program (before_first is_equals word))
+    else option_map (λ option. record { given = None; next = ValueOf option }) (option_named program word)
 
 -- `--` ends the options; any other word that begins with a hyphen and has more bytes is an option, and all others are plain
-abbrev pub read_any : List ℕ → Option ReadingForm
-read_any word =
+abbrev pub read_any : Program → List ℕ → Option ReadingForm
+read_any program word =
     if bytes_eq word (codes "--") then Some (record { given = None; next = PlainWord })
-    else (if is_option_word word then read_option word else Some (gives Folder word AnyWord))
+    else (if is_option_word word then read_option program word else Some (gives Folder word AnyWord))
 
 -- a word where any word may come, the value of the option before it, or a word after `--`
-abbrev pub read_word : Expected → List ℕ → Option ReadingForm
-read_word AnyWord word = read_any word
-read_word (ValueOf option) word = if is_hyphened word then None else Some (gives option word AnyWord)
-read_word PlainWord word = Some (gives Folder word PlainWord)
+abbrev pub read_word : Program → Expected → List ℕ → Option ReadingForm
+read_word program AnyWord word = read_any program word
+read_word program (ValueOf option) word = if is_hyphened word then None else Some (gives option word AnyWord)
+read_word program PlainWord word = Some (gives Folder word PlainWord)
 
 -- nothing more is given at the end; an option must not wait for its value there
 abbrev pub at_end : Expected → Option (List GivenForm)
@@ -81,10 +82,10 @@ at_end AnyWord = Some []
 at_end PlainWord = Some []
 
 -- what these words give in order, where this may come first
-abbrev pub given_from : Expected → List (List ℕ) → Option (List GivenForm)
-given_from expected [] = at_end expected
-given_from expected (word ∷ words) = if_some (read_word expected word) (λ reading. option_map (with_given reading.given) (given_from reading.next words))
+abbrev pub given_from : Program → Expected → List (List ℕ) → Option (List GivenForm)
+given_from program expected [] = at_end expected
+given_from program expected (word ∷ words) = if_some (read_word program expected word) (λ reading. option_map (with_given reading.given) (given_from program reading.next words))
 
--- what the words of a command line give, in order
-abbrev pub given_of : List (List ℕ) → Option (List GivenForm)
-given_of words = given_from AnyWord words
+-- what the words of a program's command line give, in order
+abbrev pub given_of : Program → List (List ℕ) → Option (List GivenForm)
+given_of program words = given_from program AnyWord words

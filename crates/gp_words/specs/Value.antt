@@ -4,6 +4,7 @@ use Rattle.std.specs.List.{filter_map}
 use Rattle.gp_words.specs.Argument.{same_argument}
 use Rattle.gp_words.specs.Reading.{GivenForm, given_of, if_some, with_given}
 use Rattle.gp_words.specs.declared.argument.Argument.{Argument}
+use Rattle.gp_words.specs.declared.argument.Program.{Program}
 
 -- the value, where it is given to this argument
 abbrev pub value_for : Argument → GivenForm → Option (List ℕ)
@@ -20,8 +21,8 @@ at_most_one (value ∷ []) = Some (Some value)
 at_most_one (value ∷ again ∷ more) = None
 
 -- the value that the words give an argument, none or one; refused where the words are, or give it twice
-abbrev pub value_of : Argument → List (List ℕ) → Option (Option (List ℕ))
-value_of argument words = if_some (given_of words) (λ given. at_most_one (values_of argument given))
+abbrev pub value_of : Program → Argument → List (List ℕ) → Option (Option (List ℕ))
+value_of program argument words = if_some (given_of program words) (λ given. at_most_one (values_of argument given))
 
 -- the values so far, none or one, and then these
 abbrev pub after_value : Option (List ℕ) → List (List ℕ) → List (List ℕ)

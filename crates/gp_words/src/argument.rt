@@ -1,7 +1,14 @@
 ghost use Rattle.std.specs.Prelude.{◌≡◌};
-ghost use Rattle.gp_words.specs.Argument.{option_named};
+ghost use Rattle.gp_words.specs.Argument.{gpredict_option, gpshow_option, option_named};
 
-/// What the words of a command line may give: the values of seven options, and the folder.
+/// Whose command line it is.
+#[derive(Clone, Copy, Debug, PartialEq, Eq)]
+pub enum Program {
+    Gpredict,
+    Gpshow,
+}
+
+/// What the words of a command line may give: the values of seven options of gpredict or of five of gpshow, and the folder.
 #[derive(Clone, Copy, Debug, PartialEq, Eq)]
 pub enum Argument {
     Task,
@@ -11,13 +18,27 @@ pub enum Argument {
     Seed,
     Threads,
     Events,
+    As,
+    Window,
+    Property,
+    Instance,
+    Most,
     /// The one plain word.
     Folder,
 }
 
-/// The option of this name, which stands with its two hyphens.
-pub fn option_named(name: &str) -> Option<Argument>
-    ensures { result ≡ option_named name.now }
+/// The option of a program that has this name, which stands with its two hyphens.
+pub fn option_named(program: Program, name: &str) -> Option<Argument>
+    ensures { result ≡ option_named program name.now }
+{
+    match program {
+        Program::Gpredict => gpredict_option(name),
+        Program::Gpshow => gpshow_option(name),
+    }
+}
+
+fn gpredict_option(name: &str) -> Option<Argument>
+    ensures { result ≡ gpredict_option name.now }
 {
     match name {
         "--task" => Some(Argument::Task),
@@ -27,6 +48,19 @@ pub fn option_named(name: &str) -> Option<Argument>
         "--seed" => Some(Argument::Seed),
         "--threads" => Some(Argument::Threads),
         "--events" => Some(Argument::Events),
+        _ => None,
+    }
+}
+
+fn gpshow_option(name: &str) -> Option<Argument>
+    ensures { result ≡ gpshow_option name.now }
+{
+    match name {
+        "--as" => Some(Argument::As),
+        "--window" => Some(Argument::Window),
+        "--property" => Some(Argument::Property),
+        "--instance" => Some(Argument::Instance),
+        "--most" => Some(Argument::Most),
         _ => None,
     }
 }

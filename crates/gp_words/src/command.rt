@@ -1,7 +1,7 @@
 ghost use Rattle.std.specs.Prelude.{◌≡◌, IfSome, map, option_map, string_bytes};
 ghost use Rattle.gp_words.specs.Command.{IsInRanges, command_of, folder_of, form_of, is_folder, task_of};
 
-use crate::argument::Argument;
+use crate::argument::{Argument, Program};
 use crate::number::{Setting, number, seed};
 use crate::task::{Task, task_named};
 use crate::value::value_of;
@@ -44,7 +44,7 @@ const EVENTS: Setting = Setting {
     usual: 600,
 };
 
-/// What the words ask for.
+/// What the words of a command line of gpredict ask for.
 #[derive(Clone, Copy, Debug, PartialEq, Eq)]
 pub struct Command<'a> {
     pub task: Task,
@@ -71,26 +71,27 @@ pub fn command_of(words: &[String]) -> Option<Command<'_>>
 {
     Some(Command {
         task: task_of(words)?,
-        folder: folder_of(words)?,
-        workers: number(words, WORKERS)?,
-        budget: u64::from(number(words, BUDGET)?),
-        format: number(words, REPORT)?,
+        folder: folder_of(words, Program::Gpredict)?,
+        workers: number(words, Program::Gpredict, WORKERS)?,
+        budget: u64::from(number(words, Program::Gpredict, BUDGET)?),
+        format: number(words, Program::Gpredict, REPORT)?,
         seed: seed(words)?,
-        threads: number(words, THREADS)?,
-        events: number(words, EVENTS)?,
+        threads: number(words, Program::Gpredict, THREADS)?,
+        events: number(words, Program::Gpredict, EVENTS)?,
     })
 }
 
 fn task_of(words: &[String]) -> Option<Task>
     ensures { result ≡ task_of (map string_bytes words.now) }
 {
-    task_named(value_of(words, Argument::Task)??)
+    task_named(value_of(words, Program::Gpredict, Argument::Task)??)
 }
 
-fn folder_of(words: &[String]) -> Option<&str>
-    ensures { option_map (λ folder. folder.now) result ≡ folder_of (map string_bytes words.now) }
+/// The folder, which must be given.
+pub fn folder_of(words: &[String], program: Program) -> Option<&str>
+    ensures { option_map (λ folder. folder.now) result ≡ folder_of program (map string_bytes words.now) }
 {
-    value_of(words, Argument::Folder)?.filter(|name| is_folder(name))
+    value_of(words, program, Argument::Folder)?.filter(|name| is_folder(name))
 }
 
 fn is_folder(name: &str) -> bool

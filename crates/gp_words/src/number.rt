@@ -2,8 +2,9 @@ ghost use Rattle.std.specs.Prelude.{◌≡◌, ◌≤◌, IfSome, map, string_by
 ghost use Rattle.gp_text.specs.Numbers.{number_of};
 ghost use Rattle.gp_words.specs.Command.{number_given, number_in};
 ghost use Rattle.gp_words.specs.declared.argument.Argument.TheVariants.{Seed};
+ghost use Rattle.gp_words.specs.declared.argument.Program.TheVariants.{Gpredict};
 
-use crate::argument::Argument;
+use crate::argument::{Argument, Program};
 use crate::value::value_of;
 use gp_text::{between, read_u32, read_u64};
 
@@ -20,22 +21,22 @@ pub struct Setting {
 }
 
 /// The number of an option that may be left out.
-pub fn number(words: &[String], setting: Setting) -> Option<u32>
+pub fn number(words: &[String], program: Program, setting: Setting) -> Option<u32>
     requires { (setting.low ≤ setting.usual) × (setting.usual ≤ setting.high) }
-    ensures due { result ≡ number_given setting.option (number_in setting.low setting.high) setting.usual (map string_bytes words.now) }
+    ensures due { result ≡ number_given program setting.option (number_in setting.low setting.high) setting.usual (map string_bytes words.now) }
     ensures within { IfSome result (λ number. (setting.low ≤ number) × (number ≤ setting.high)) }
 {
-    match value_of(words, setting.option)? {
+    match value_of(words, program, setting.option)? {
         None => Some(setting.usual),
         Some(digits) => between(setting.low, setting.high, read_u32(digits.as_bytes())),
     }
 }
 
-/// The seed, which may be any number of 64 bits.
+/// The seed of gpredict, which may be any number of 64 bits.
 pub fn seed(words: &[String]) -> Option<u64>
-    ensures { result ≡ number_given Seed number_of 1 (map string_bytes words.now) }
+    ensures { result ≡ number_given Gpredict Seed number_of 1 (map string_bytes words.now) }
 {
-    match value_of(words, Argument::Seed)? {
+    match value_of(words, Program::Gpredict, Argument::Seed)? {
         None => Some(USUAL_SEED),
         Some(digits) => read_u64(digits.as_bytes()),
     }

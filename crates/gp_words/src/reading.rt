@@ -1,7 +1,7 @@
 ghost use Rattle.std.specs.Prelude.{◌≡◌, option_map};
 ghost use Rattle.gp_words.specs.Reading.{gives, is_hyphened, is_option_word, read_any, read_option, read_word, reading_form};
 
-use crate::argument::{Argument, option_named};
+use crate::argument::{Argument, Program, option_named};
 
 /// What the next word may be.
 #[derive(Clone, Copy, Debug)]
@@ -28,20 +28,20 @@ pub struct Reading<'a> {
     pub next: Expected,
 }
 
-/// Reads one word. It is refused where it cannot come here.
-pub fn read_word(expected: Expected, word: &str) -> Option<Reading<'_>>
-    ensures { option_map reading_form result ≡ read_word expected word.now }
+/// Reads one word of a program's command line. It is refused where it cannot come here.
+pub fn read_word(program: Program, expected: Expected, word: &str) -> Option<Reading<'_>>
+    ensures { option_map reading_form result ≡ read_word program expected word.now }
 {
     match expected {
-        Expected::AnyWord => read_any(word),
+        Expected::AnyWord => read_any(program, word),
         Expected::ValueOf(_) if is_hyphened(word) => None,
         Expected::ValueOf(option) => Some(gives(option, word, Expected::AnyWord)),
         Expected::PlainWord => Some(gives(Argument::Folder, word, Expected::PlainWord)),
     }
 }
 
-fn read_any(word: &str) -> Option<Reading<'_>>
-    ensures { option_map reading_form result ≡ read_any word.now }
+fn read_any(program: Program, word: &str) -> Option<Reading<'_>>
+    ensures { option_map reading_form result ≡ read_any program word.now }
 {
     if word == "--" {
         Some(Reading {
@@ -49,20 +49,20 @@ fn read_any(word: &str) -> Option<Reading<'_>>
             next: Expected::PlainWord,
         })
     } else if is_option_word(word) {
-        read_option(word)
+        read_option(program, word)
     } else {
         Some(gives(Argument::Folder, word, Expected::AnyWord))
     }
 }
 
-fn read_option(word: &str) -> Option<Reading<'_>>
-    ensures { option_map reading_form result ≡ read_option word.now }
+fn read_option(program: Program, word: &str) -> Option<Reading<'_>>
+    ensures { option_map reading_form result ≡ read_option program word.now }
 {
     match word.split_once('=') {
-        Some((name, value)) => Some(gives(option_named(name)?, value, Expected::AnyWord)),
+        Some((name, value)) => Some(gives(option_named(program, name)?, value, Expected::AnyWord)),
         None => Some(Reading {
             given: None,
-            next: Expected::ValueOf(option_named(word)?),
+            next: Expected::ValueOf(option_named(program, word)?),
         }),
     }
 }

@@ -2,20 +2,20 @@ ghost use Rattle.std.specs.Prelude.{◌≡◌, map, option_map, string_bytes};
 ghost use Rattle.gp_words.specs.Reading.{given_form};
 ghost use Rattle.gp_words.specs.Value.{value_now, value_of};
 
-use crate::argument::Argument;
+use crate::argument::{Argument, Program};
 use crate::reading::{Expected, Given, read_word};
 
-/// The value that the words give an argument, where they give one. They are refused where one of them
-/// is, where an option waits for a value at their end, and where the argument is given twice.
+/// The value that the words of a program give an argument, where they give one. They are refused where
+/// one of them is, where an option waits for a value at their end, and where the argument is given twice.
 ///
 /// Each argument is looked up by a walk of its own, since the words are few and nothing is stored so.
-pub fn value_of(words: &[String], argument: Argument) -> Option<Option<&str>>
-    ensures { option_map (option_map (λ value. value.now)) result ≡ value_of argument (map string_bytes words.now) }
+pub fn value_of(words: &[String], program: Program, argument: Argument) -> Option<Option<&str>>
+    ensures { option_map (option_map (λ value. value.now)) result ≡ value_of program argument (map string_bytes words.now) }
 {
     let mut expected = Expected::AnyWord;
     let mut value = None;
     for word in words {
-        let reading = read_word(expected, word.as_str())?;
+        let reading = read_word(program, expected, word.as_str())?;
         value = value_now(value, reading.given, argument)?;
         expected = reading.next;
     }

@@ -7,5 +7,5 @@ use Rattle.gp_words.proofs.value.value_of.Given as goal
 -- the walk over what is left, from here, is the walk over all
 abbrev pub invariant-loop-word : goal.invariant-loop-word
 invariant-loop-word l =
-    value_from l.fn.argument (option_map (λ value. value.now) l.value) l.expected (map string_bytes (drop l.word-index l.words))
-    ≡ value_from l.fn.argument None AnyWord (map string_bytes l.words)
+    value_from l.fn.program l.fn.argument (option_map (λ value. value.now) l.value) l.expected (map string_bytes (drop l.word-index l.words))
+    ≡ value_from l.fn.program l.fn.argument None AnyWord (map string_bytes l.words)

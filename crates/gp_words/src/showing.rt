@@ -1,0 +1,83 @@
+ghost use Rattle.std.specs.Prelude.{◌≡◌, map, option_map, string_bytes};
+ghost use Rattle.gp_words.specs.Showing.{number_asked, show_command_of, show_form, style_named, style_of};
+
+use crate::argument::{Argument, Program};
+use crate::command::folder_of;
+use crate::number::{Setting, number};
+use crate::value::value_of;
+use gp_text::{between, read_u32};
+
+const MOST: Setting = Setting {
+    option: Argument::Most,
+    low: 1,
+    high: 10_000,
+    usual: 100,
+};
+
+/// How a report is shown.
+#[derive(Clone, Copy, Debug, PartialEq, Eq)]
+pub enum Style {
+    /// As lines of text.
+    Text,
+    /// As one HTML page, which wants nothing from outside.
+    Page,
+}
+
+/// What the words of a command line of gpshow ask for.
+#[derive(Clone, Copy, Debug, PartialEq, Eq)]
+pub struct ShowCommand<'a> {
+    pub style: Style,
+    /// The folder that holds the files.
+    pub folder: &'a str,
+    /// The window whose instances are shown; those of all windows, where it is `None`.
+    pub window: Option<u32>,
+    /// The property whose instances are shown, or all.
+    pub property: Option<&'a str>,
+    /// The number of the instances that are shown, or all.
+    pub instance: Option<u32>,
+    /// How many instances are shown at most.
+    pub most: u32,
+}
+
+/// The command that the words are. It is `None` exactly where they are refused.
+pub fn show_command_of(words: &[String]) -> Option<ShowCommand<'_>>
+    ensures { option_map show_form result ≡ show_command_of (map string_bytes words.now) }
+{
+    Some(ShowCommand {
+        style: style_of(words)?,
+        folder: folder_of(words, Program::Gpshow)?,
+        window: number_asked(words, Argument::Window, 1, 4096)?,
+        property: value_of(words, Program::Gpshow, Argument::Property)?,
+        instance: number_asked(words, Argument::Instance, 0, 9999)?,
+        most: number(words, Program::Gpshow, MOST)?,
+    })
+}
+
+fn style_of(words: &[String]) -> Option<Style>
+    ensures { result ≡ style_of (map string_bytes words.now) }
+{
+    match value_of(words, Program::Gpshow, Argument::As)? {
+        None => Some(Style::Text),
+        Some(name) => style_named(name),
+    }
+}
+
+fn style_named(name: &str) -> Option<Style>
+    ensures { result ≡ style_named name.now }
+{
+    match name {
+        "text" => Some(Style::Text),
+        "html" => Some(Style::Page),
+        _ => None,
+    }
+}
+
+/// The number in this range, both ends included, that an option gives, where it is given.
+fn number_asked(words: &[String], option: Argument, low: u32, high: u32) -> Option<Option<u32>>
+    ensures { result ≡ number_asked option low high (map string_bytes words.now) }
+{
+    match value_of(words, Program::Gpshow, option)? {
+        None => Some(None),
+        Some(digits) => between(low, high, read_u32(digits.as_bytes())).map(Some),
+    }
+}

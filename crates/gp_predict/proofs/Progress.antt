@@ -10,7 +10,7 @@ use Rattle.gp_window.specs.WindowForm.{WindowForm}
 use Rattle.gp_window.specs.Windows.{all_windows}
 use Rattle.gp_window.specs.WindowsLaws.{count_windows}
 use Rattle.gp_predict.specs.Listing.{all_lines, total_count, window_count, window_lines}
-use Rattle.gp_predict.proofs.Written.{IsWritten, written_all, written_cut, written_more, written_none, written_prefix}
+use Rattle.gp_predict.specs.WrittenLaws.{IsWritten, written_all, written_cut, written_more, written_none, written_prefix}
 
 -- what holds anyway holds on an error
 pub anyway : {T E P : Type 0} (result : Result T E) → P → OnErr result P

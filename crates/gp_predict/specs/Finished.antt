@@ -4,6 +4,7 @@ use Rattle.gp_outside.specs.Faults.{Rose}
 use Rattle.gp_outside.specs.Sinks.{Appends, AppendsFront}
 use Rattle.gp_predict.specs.declared.outcome.Outcome.{Outcome}
 use Rattle.gp_predict.specs.declared.refusal.Refusal.{Refusal}
+use Rattle.gp_predict.specs.declared.reply.Reply.{Reply}
 use Rattle.gp_predict.specs.declared.stop.Stop.{Stop}
 use Rattle.gp_predict.specs.declared.stop.Stop.TheVariants as stop
 use Rattle.gp_predict.specs.Tasks.{Expected, Means, Text}
@@ -25,12 +26,16 @@ told_by tells (Err (stop.Refused why)) = Refused why
 told_by tells (Err stop.FolderFailed) = Failed
 told_by tells (Err stop.Memory) = Wanting
 
--- what a task came to is what is due, or says nothing of it
+-- what a task came to is what is due, of which this may be told and of which a text is one, or says nothing of it
+abbrev pub CameToBy : {E : Type 0} → (E → Told → Type 0) → (Reply → E) → Came → E → Type 0
+CameToBy means text (By told) expected = means expected told
+CameToBy means text (Refused why) expected = expected ≡ text (reply_of why)
+CameToBy means text Failed expected = Unit {0}
+CameToBy means text Wanting expected = Unit {0}
+
+-- the same of a task
 abbrev pub CameTo : Came → Expected → Type 0
-CameTo (By told) expected = Means expected told
-CameTo (Refused why) expected = expected ≡ Text (reply_of why)
-CameTo Failed expected = Unit {0}
-CameTo Wanting expected = Unit {0}
+CameTo = CameToBy Means Text
 
 -- what was told whole, or up to a fault of the sink or of memory
 pub record IsPut (told : Told) (outcome : Outcome) (old new : Option (List ℕ)) (before after : ℕ) : Type 0 where

@@ -1,3 +1,4 @@
+pub mod AbsentTextLaws
 pub mod Analysing
 pub mod Asking
 pub mod Compacting
@@ -15,9 +16,11 @@ pub mod Refusal
 pub mod Refused
 pub mod Replaying
 pub mod Run
+pub mod RunLaws
 pub mod Stage
 pub mod Submission
 pub mod Tasks
 pub mod Telling
 pub mod Told
 pub mod Verdict
+pub mod WrittenLaws

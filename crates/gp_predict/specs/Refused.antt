@@ -25,6 +25,11 @@ is_absent (refusal.Content (content.Absent name)) = true
 is_absent (refusal.Recording (recording.Absent name)) = true
 is_absent _ = false
 
+-- whether a refusal says that too much work is asked
+abbrev pub is_limit : Refusal → Bool
+is_limit (refusal.Limit total budget) = true
+is_limit _ = false
+
 -- what a fault of reading a recording stops with
 abbrev pub stop_of_recording : RecordingFault → Stop
 stop_of_recording recording.ReadFailed = FolderFailed
@@ -37,3 +42,14 @@ stops_absent (Ok value) = false
 stops_absent (Err (Refused why)) = is_absent why
 stops_absent (Err FolderFailed) = false
 stops_absent (Err Memory) = false
+
+-- whether a stop is that too much work is asked
+abbrev pub is_at_limit : Stop → Bool
+is_at_limit (Refused why) = is_limit why
+is_at_limit FolderFailed = false
+is_at_limit Memory = false
+
+-- whether a stage stopped so
+abbrev pub stops_at_limit : {A : Type 0} → Result A Stop → Bool
+stops_at_limit (Ok value) = false
+stops_at_limit (Err stop) = is_at_limit stop

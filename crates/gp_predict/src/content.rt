@@ -1,6 +1,6 @@
-ghost use Rattle.std.specs.Prelude.{◌≡◌, ◌≤◌, IfOk, length};
+ghost use Rattle.std.specs.Prelude.{◌≡◌, ◌≤◌, IfOk, false, length};
 ghost use Rattle.gp_predict.specs.Content.{content_at, recording_at};
-ghost use Rattle.gp_predict.specs.Refused.{stop_of_recording};
+ghost use Rattle.gp_predict.specs.Refused.{is_at_limit, stop_of_recording, stops_at_limit};
 ghost use Rattle.gp_predict.specs.Stage.{IsStage, refusal_of};
 ghost use Rattle.gp_window.specs.FileNames.{limit_of};
 ghost use Rattle.gp_window.specs.Gives.{Gives};
@@ -20,6 +20,7 @@ pub fn recording_at<R: AllocGlobal + Threads + Sync, F: Folder>(
     directory: &str,
 ) -> Result<Recording, Stop>
     ensures stage { IsStage result (λ files. Gives refusal_of result (recording_at files directory.now)) (F.files folder.old) (F.files folder.new) (F.faults folder.old) (F.faults folder.new) }
+    ensures limit { stops_at_limit result ≡ false }
 {
     match read_recording(rt, rt.alloc(), folder, directory) {
         Ok(recording) => Ok(recording),
@@ -29,7 +30,8 @@ pub fn recording_at<R: AllocGlobal + Threads + Sync, F: Folder>(
 
 /// What a fault of reading a recording stops with.
 fn stop_of_recording(fault: RecordingFault) -> Stop
-    ensures { result ≡ stop_of_recording fault }
+    ensures value { result ≡ stop_of_recording fault }
+    ensures limit { is_at_limit result ≡ false }
 {
     match fault {
         RecordingFault::ReadFailed => Stop::FolderFailed,
@@ -55,6 +57,7 @@ pub fn content_at<F: Folder>(
 ) -> Result<Row<u8>, Stop>
     ensures stage { IsStage result (λ files. Gives refusal_of result (content_at files directory.now file)) (F.files folder.old) (F.files folder.new) (F.faults folder.old) (F.faults folder.new) }
     ensures fits { IfOk result (λ bytes. length bytes ≤ limit_of file) }
+    ensures limit { stops_at_limit result ≡ false }
 {
     match content_of(alloc, folder, directory, &file) {
         Ok(bytes) => Ok(bytes),

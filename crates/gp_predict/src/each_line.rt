@@ -4,7 +4,7 @@ ghost use Rattle.gp_outside.specs.Sinks.{Appends, AppendsFront};
 
 use gp_outside::{PutFault, Sink};
 
-/// Writes a text, each of its lines by one call.
+/// Writes a text, each of its lines by one call. Where the sink fails, or memory is wanting, a part of it may be written.
 pub fn put_each_line<S: Sink>(sink: &mut S, text: &[u8]) -> Result<(), PutFault>
     ensures later { S.faults sink.old ≤ S.faults sink.new }
     ensures ok { OnOk result (Appends (S.written sink.old) (S.written sink.new) text.now) }

@@ -12,7 +12,8 @@
 // is stated by one definition, what is due to the words and the files: a text with its status, an
 // analysis of one of these kinds, the verdict on a report, its compact form, or a linking; and by one relation, what may
 // be told where that is due. A file that breaks a rule is refused by its name, the line and the rule; a fault of the folder or
-// of the sink is never told as an answer.
+// of the sink is never told as an answer. The other public items are this frame, for programs beside gpredict: stages that read a
+// folder and stop with a refusal, a result that tells itself to a sink, and the outcome.
 #![tactic(auto)]
 
 mod analysing;
@@ -20,7 +21,7 @@ mod compacting;
 mod content;
 mod deadlocks;
 mod each_line;
-mod finish;
+mod finishing;
 mod lines;
 mod linking;
 mod listing;
@@ -40,5 +41,14 @@ mod top;
 mod verdict;
 mod writing;
 
+pub use each_line::put_each_line;
+pub use finishing::{finish, put_reply};
+pub use listing::Listing;
 pub use outcome::Outcome;
+pub use refusal::Refusal;
+pub use reply::{Reply, words_refused};
+pub use results::Tells;
+pub use stop::Stop;
+pub use submission::{Submission, submission_at};
 pub use top::run;
+pub use verdict::checked_report;

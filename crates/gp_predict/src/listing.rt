@@ -8,7 +8,7 @@ ghost use Rattle.gp_predict.specs.Listing.{instance_lines, list_at, listing_at, 
 ghost use Rattle.gp_predict.specs.Tasks.{as_text, either_expected};
 ghost use Rattle.gp_predict.specs.Finished.{CameTo, told_by};
 ghost use Rattle.gp_predict.specs.Refusal.{properties_refusal};
-ghost use Rattle.gp_predict.specs.Refused.{stops_absent};
+ghost use Rattle.gp_predict.specs.Refused.{stops_absent, stops_at_limit};
 ghost use Rattle.gp_base.specs.Results.{or_refused};
 ghost use Rattle.gp_predict.specs.Stage.{IsStage, refusal_of};
 ghost use Rattle.gp_window.specs.Gives.{Gives};
@@ -27,7 +27,7 @@ use gp_window::{FileName, Recording, Window};
 use std::alloc::{AllocError, Global};
 use std::thread::Threads;
 
-/// What task list is to list: the instances of each of these properties in each window.
+/// A recording with its properties, each of which has instances in each window: what task list lists, and what a report answers.
 #[derive(Debug, Drop)]
 pub struct Listing {
     pub recording: Recording,
@@ -55,6 +55,7 @@ pub fn listing_at<R: AllocGlobal + Threads + Sync, F: Folder>(
     ensures stage { IsStage result (λ files. Gives refusal_of result (listing_at files directory.now)) (F.files folder.old) (F.files folder.new) (F.faults folder.old) (F.faults folder.new) }
     ensures few { IfOk result (λ listing. length listing.properties ≤ 64) }
     ensures valid { IfOk result (λ listing. AllByRecursion IsProperty listing.properties) }
+    ensures limit { stops_at_limit result ≡ false }
 {
     let recording = recording_at(rt, folder, directory)?;
     let properties = properties_at(rt.alloc(), folder, directory)?;
@@ -72,6 +73,7 @@ fn properties_at<F: Folder>(
     ensures stage { IsStage result (λ files. Gives refusal_of result (properties_at files directory.now)) (F.files folder.old) (F.files folder.new) (F.faults folder.old) (F.faults folder.new) }
     ensures few { IfOk result (λ properties. length properties ≤ 64) }
     ensures valid { IfOk result (λ properties. AllByRecursion IsProperty properties) }
+    ensures limit { stops_at_limit result ≡ false }
 {
     let bytes = content_at(alloc, folder, directory, FileName::Properties)?;
     properties_from(alloc, bytes.as_slice())
@@ -84,6 +86,7 @@ fn properties_from(alloc: Global, bytes: &[u8]) -> Result<Row<Property>, Stop>
     ensures valid { IfOk result (λ properties. AllByRecursion IsProperty properties) }
     ensures no_fault { result ≢ Err Stop.FolderFailed }
     ensures present { stops_absent result ≡ false }
+    ensures limit { stops_at_limit result ≡ false }
 {
     reads_exactly();
     match read_properties(alloc, bytes) {

@@ -9,7 +9,7 @@ ghost use Rattle.gp_predict.specs.Making.{LeavesMade, MakingStops, made_answer};
 ghost use Rattle.gp_predict.specs.Run.{IsRun};
 ghost use Rattle.gp_words.specs.Command.{IsInRanges, form_of};
 
-use crate::finish::finish;
+use crate::finishing::finish;
 use crate::outcome::Outcome;
 use crate::reply::{Reply, one_line};
 use crate::results::Answer;

@@ -1,6 +1,6 @@
-ghost use Rattle.std.specs.Prelude.{◌≡◌, ◌⊎◌, IfOk};
+ghost use Rattle.std.specs.Prelude.{◌≡◌, ◌⊎◌, IfOk, true};
 ghost use Rattle.gp_predict.specs.Refusal.{content_refusal, properties_refusal, recording_refusal, recording_refused, refused_as, refused_at, report_refusal, rule_word, schedule_refusal, text_refusal, trace_refusal, two_holders};
-ghost use Rattle.gp_predict.specs.Refused.{reply_of};
+ghost use Rattle.gp_predict.specs.Refused.{is_limit, reply_of};
 
 use crate::reply::{Reply, limit_refused, line_of, one_line};
 use gp_property::PropertyFault;
@@ -34,6 +34,7 @@ pub enum Refusal {
 pub fn reply_of(alloc: Global, why: Refusal) -> Result<Reply, AllocError>
     ensures text { IfOk result (λ reply. reply ≡ reply_of why) }
     ensures status { IfOk result (λ reply. (reply.status ≡ 3) ⊎ (reply.status ≡ 7)) }
+    ensures limit { IfOk result (λ reply. reply.status ≡ 7 → is_limit why ≡ true) }
 {
     match why {
         Refusal::Content(fault) => content_refusal(alloc, fault),

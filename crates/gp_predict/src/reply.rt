@@ -30,7 +30,7 @@ pub fn line_of(alloc: Global, status: u8, line: Vec<u8>) -> Result<Reply, AllocE
     Ok(Reply { status, lines })
 }
 
-/// The refusal of the words.
+/// The refusal of the words of a command line, with status 2.
 pub fn words_refused(alloc: Global) -> Result<Reply, AllocError>
     ensures { IfOk result (λ answer. answer ≡ words_refused) }
 {

@@ -9,11 +9,11 @@ use crate::writing::put_lines;
 use gp_outside::{PutFault, Sink};
 use std::alloc::Global;
 
-/// The result of a task, which can be told: it has a status, a text, and what of it is kept.
+/// The result of a task or of another program, which can be told: it has a status of 0 or 1, a text, and what of it is kept.
 pub trait Tells {
     ghost told: { Self → Told };
 
-    /// Writes its text.
+    /// Writes its text. Where the sink fails, or memory is wanting, a part of it may be written.
     fn put<S: Sink>(&self, alloc: Global, sink: &mut S) -> Result<(), PutFault>
         ensures later { S.faults sink.old ≤ S.faults sink.new }
         ensures ok { OnOk result (Appends (S.written sink.old) (S.written sink.new) (told self.now).text) }

@@ -1,7 +1,7 @@
 use crate::refusal::Refusal;
 use std::alloc::AllocError;
 
-/// Why a stage gave nothing.
+/// Why a stage, which reads the folder, gave nothing.
 #[derive(Clone, Copy, Debug)]
 pub enum Stop {
     /// An input file, the recording as a whole, or what is asked of them is refused.

@@ -1,6 +1,6 @@
 ghost use Rattle.std.specs.Prelude.{◌≡◌, ◌≢◌, ◌≤◌, ◌<◌, ◌-◌, ◌^◌, Err, IfOk, false, length};
 ghost use Rattle.gp_predict.specs.Refusal.{report_refusal};
-ghost use Rattle.gp_predict.specs.Refused.{stops_absent};
+ghost use Rattle.gp_predict.specs.Refused.{stops_absent, stops_at_limit};
 ghost use Rattle.gp_predict.specs.Stage.{IsStage, refusal_of};
 ghost use Rattle.gp_predict.specs.Submission.{CanBeChecked, report_at, submission_at};
 ghost use Rattle.gp_report.specs.Reading.{report_of};
@@ -24,7 +24,8 @@ pub struct Submission {
     pub report: Report,
 }
 
-/// Reads the recording, the properties and the report in a folder.
+/// Reads the recording, the properties and the report in a folder. The traces of the threads are read beside each other.
+/// It stops with the refusal of the first file that breaks a rule, at a fault of the folder, or at want of memory.
 pub fn submission_at<R: AllocGlobal + Threads + Sync, F: Folder>(
     rt: &R,
     folder: &mut F,
@@ -32,6 +33,7 @@ pub fn submission_at<R: AllocGlobal + Threads + Sync, F: Folder>(
 ) -> Result<Submission, Stop>
     ensures stage { IsStage result (λ files. Gives refusal_of result (submission_at files directory.now)) (F.files folder.old) (F.files folder.new) (F.faults folder.old) (F.faults folder.new) }
     ensures within { IfOk result CanBeChecked }
+    ensures limit { stops_at_limit result ≡ false }
 {
     let listing = listing_at(rt, folder, directory)?;
     let report = report_at(rt.alloc(), folder, directory)?;
@@ -40,6 +42,7 @@ pub fn submission_at<R: AllocGlobal + Threads + Sync, F: Folder>(
 
 fn report_at<F: Folder>(alloc: Global, folder: &mut F, directory: &str) -> Result<Report, Stop>
     ensures stage { IsStage result (λ files. Gives refusal_of result (report_at files directory.now)) (F.files folder.old) (F.files folder.new) (F.faults folder.old) (F.faults folder.new) }
+    ensures limit { stops_at_limit result ≡ false }
 {
     let bytes = content_at(alloc, folder, directory, FileName::Report)?;
     report_from(alloc, bytes.as_slice())
@@ -50,6 +53,7 @@ fn report_from(alloc: Global, bytes: &[u8]) -> Result<Report, Stop>
     ensures due { Gives refusal_of result (or_refused report_refusal (report_of bytes.now)) }
     ensures no_fault { result ≢ Err Stop.FolderFailed }
     ensures present { stops_absent result ≡ false }
+    ensures limit { stops_at_limit result ≡ false }
 {
     match read_report(alloc, bytes) {
         Ok(read) => Ok(read.report),

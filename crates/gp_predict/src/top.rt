@@ -10,7 +10,7 @@ ghost use Rattle.gp_words.specs.Command.{IsInRanges, command_of, form_of};
 use crate::analysing::{analysed, asked_of};
 use crate::compacting::compacted;
 use crate::deadlocks::deadlocks_at;
-use crate::finish::{finish, put_reply};
+use crate::finishing::{finish, put_reply};
 use crate::linking::linked;
 use crate::listing::listed;
 use crate::making::make_at;

@@ -40,8 +40,8 @@ fn verdict_of(alloc: Global, submission: &Submission) -> Result<Answer, AllocErr
     Ok(Answer { reply })
 }
 
-/// Checks a report.
-fn checked_report(alloc: Global, submission: &Submission) -> Result<Checked, AllocError>
+/// Checks a report against the recording and the properties beside it. It takes the time of making the clauses of each window anew.
+pub fn checked_report(alloc: Global, submission: &Submission) -> Result<Checked, AllocError>
     requires { CanBeChecked submission.now }
     ensures { IfOk result (IsVerdict submission.now) }
 {

@@ -1,7 +1,7 @@
 -- A line more is written, or a line was cut off.
 use Rattle.std.proofs.Common.{List, ℕ, subst, arith}
 use Rattle.std.proofs.lemmas.Result.{err_from_is_err_and}
-use Rattle.gp_predict.proofs.Written.{IsWritten, written_cut, written_more}
+use Rattle.gp_predict.specs.WrittenLaws.{IsWritten, written_cut, written_more}
 use Rattle.gp_predict.proofs.each_line.put_each_line.Goals as goal
 
 pub returns-in_err-put-clause-err : goal.returns-in_err-put-clause-err

@@ -1,5 +1,5 @@
 use Rattle.std.proofs.Common.{◌≤◌, length}
-use Rattle.gp_predict.proofs.Written.{IsWritten}
+use Rattle.gp_predict.specs.WrittenLaws.{IsWritten}
 use Rattle.gp_predict.proofs.each_line.put_each_line.Given as goal
 
 abbrev pub decreases-loop-rest : goal.decreases-loop-rest

@@ -2,20 +2,21 @@
 use Rattle.std.proofs.Common.{subst}
 use Rattle.gp_make.specs.declared.recipe.Recipe.{Recipe}
 use Rattle.gp_predict.specs.Asking.{recipe_of}
-use Rattle.gp_predict.specs.Tasks.{Text}
+use Rattle.gp_predict.specs.Tasks.{Means, Text}
 use Rattle.gp_predict.specs.Telling.{of_answer}
 use Rattle.gp_predict.specs.Finished.{CameTo, told_by}
 use Rattle.gp_words.specs.Command.{form_of}
 use Rattle.gp_make.specs.Writing.{made_at}
 use Rattle.gp_predict.specs.Making.{LeavesMade, made_answer}
+use Rattle.gp_predict.specs.RunLaws.{ran, where_due}
 use Rattle.gp_predict.proofs.Left.{left_made, never_absent}
-use Rattle.gp_predict.proofs.Ran.{ran, where_due}
+use Rattle.gp_predict.proofs.Ran.{text_means}
 use Rattle.gp_predict.proofs.making.make_at.Goals as goal
 
 pub returns-clause-run : goal.returns-clause-run
 returns-clause-run g c =
     let came = told_by of_answer c.made-made.result in
-    ran _ _ _ _ _ _ _ _ _ of_answer c.made-made.result
+    ran Means _ _ _ _ _ _ _ _ _ Text text_means of_answer c.made-made.result
     (where_due (Text (made_answer (recipe_of (form_of c.args.command.now)))) (CameTo came)
     (subst (λ (recipe : Recipe). CameTo came (Text (made_answer recipe))) c.recipe_of-recipe.ensures.numbers c.made-made.ensures.due))
     c.made-made.ensures.fault (λ is none. never_absent c.made-made.result _ _ _ c.made-made.ensures.stopped is) c.finish.ensures.finished

@@ -5,7 +5,8 @@ use Rattle.std.proofs.lemmas.Result.{err_from_is_err_and}
 use Rattle.gp_outside.specs.Sinks.{Appends, AppendsFront}
 use Rattle.gp_predict.specs.Lines.{total_line}
 use Rattle.gp_predict.specs.Listing.{all_lines, total_count}
-use Rattle.gp_predict.proofs.Written.{cut_before, cut_between, cut_within, on_err}
+use Rattle.gp_predict.specs.WrittenLaws.{on_err}
+use Rattle.gp_predict.proofs.LastLine.{cut_before, cut_between, cut_within}
 use Rattle.gp_predict.proofs.writing.put_listing.Goals as goal
 
 pub returns-in_err-total-clause-err : goal.returns-in_err-total-clause-err

@@ -1,9 +1,8 @@
--- A text that is written piece by piece.
+-- Laws: a text that is written piece by piece.
 use Rattle.std.proofs.Common.{◌≡◌, refl, ℕ, ◌+◌, ◌≤◌, min, List, [], ◌∷◌, ◌++◌, length, take, ap, Result, Ok, Err, OnErr, ◌∙◌, sym, append_assoc, append-nil, arith}
 use Rattle.std.proofs.lemmas.List.{take-append-le, take_min}
 use Rattle.std.proofs.Math.Seq.{take-append-add, take-append_seam}
-use Rattle.std.proofs.lemmas.Grind.{flat_map-append}
-use Rattle.std.specs.Prelude.{Option, Some, None, flat_map}
+use Rattle.std.specs.Prelude.{Option, Some, None}
 use Rattle.gp_outside.specs.Sinks.{Appends, AppendsFront}
 
 -- where the bytes written are told, a prefix of the whole came behind the old ones, and the rest is left
@@ -22,7 +21,8 @@ pub written_none : (old : Option (List ℕ)) (whole : List ℕ) → IsWritten ol
 written_none None whole = record { done = []; appended = tt; all = refl }
 written_none (Some old) whole = record { done = []; appended = ap Some (sym (append-nil old)); all = refl }
 
-appends_both : (old middle new : Option (List ℕ)) (done piece : List ℕ) → Appends old middle done → Appends middle new piece
+-- two pieces, one behind the other
+pub appends_both : (old middle new : Option (List ℕ)) (done piece : List ℕ) → Appends old middle done → Appends middle new piece
     → Appends old new (done ++ piece)
 appends_both None middle new done piece first second = tt
 appends_both (Some old) None new done piece first second = absurd (cc)
@@ -69,32 +69,34 @@ written_cut (Some old) (Some middle) new piece rest whole h cut =
           ∙ ap (λ p. Some (old ++ p)) (sym part),
     )
 
-text_then : (lines : List (List ℕ)) (line : List ℕ) → flat_map (λ l. l) (lines ++ line ∷ []) ≡ flat_map (λ l. l) lines ++ (line ++ [])
-text_then lines line = flat_map-append (λ l. l) lines (line ∷ [])
+-- nothing is appended
+pub appends_none : (old : Option (List ℕ)) → Appends old old []
+appends_none None = tt
+appends_none (Some old) = ap Some (sym (append-nil old))
 
--- a prefix of lines is a prefix of them with one line more
-pub cut_before : (old new : Option (List ℕ)) (lines : List (List ℕ)) (line : List ℕ)
-    → AppendsFront old new (flat_map (λ l. l) lines) → AppendsFront old new (flat_map (λ l. l) (lines ++ line ∷ []))
-cut_before old new lines line cut =
-    rw (text_then lines line)
-    (written_cut old old new (flat_map (λ l. l) lines) (line ++ []) (flat_map (λ l. l) lines ++ (line ++ []))
-    (written_none old (flat_map (λ l. l) lines ++ (line ++ []))) cut)
+-- the first of two pieces is written
+pub written_first : (old new : Option (List ℕ)) (first rest : List ℕ) → Appends old new first → IsWritten old new rest (first ++ rest)
+written_first old new first rest appended = record { done = first; appended = appended; all = refl }
 
-first_written : (old new : Option (List ℕ)) (first rest : List ℕ) → Appends old new first → IsWritten old new rest (first ++ rest)
-first_written old new first rest appended = written_more old old new first rest (first ++ rest) (written_none old (first ++ rest)) appended
+-- a prefix of the first of two pieces is a prefix of both
+pub front_first : (old new : Option (List ℕ)) (first rest : List ℕ) → AppendsFront old new first → AppendsFront old new (first ++ rest)
+front_first old new first rest cut = written_cut old old new first rest (first ++ rest) (written_none old (first ++ rest)) cut
 
--- all lines but the last are a prefix
-pub cut_between : (old new : Option (List ℕ)) (lines : List (List ℕ)) (line : List ℕ)
-    → Appends old new (flat_map (λ l. l) lines) → AppendsFront old new (flat_map (λ l. l) (lines ++ line ∷ []))
-cut_between old new lines line appended =
-    rw (text_then lines line)
-    (written_prefix old new (line ++ []) (flat_map (λ l. l) lines ++ (line ++ [])) (first_written old new (flat_map (λ l. l) lines) (line ++ []) appended))
+-- the first of two pieces is a prefix of both
+pub front_between : (old new : Option (List ℕ)) (first rest : List ℕ) → Appends old new first → AppendsFront old new (first ++ rest)
+front_between old new first rest appended = written_prefix old new rest (first ++ rest) (written_first old new first rest appended)
 
--- all lines, and a prefix of the last, are a prefix
-pub cut_within : (old middle new : Option (List ℕ)) (lines : List (List ℕ)) (line : List ℕ)
-    → Appends old middle (flat_map (λ l. l) lines) → AppendsFront middle new line
-    → AppendsFront old new (flat_map (λ l. l) (lines ++ line ∷ []))
-cut_within old middle new lines line appended cut =
-    rw (text_then lines line)
-    (written_cut old middle new line [] (flat_map (λ l. l) lines ++ (line ++ []))
-    (first_written old middle (flat_map (λ l. l) lines) (line ++ []) appended) cut)
+-- the first of two pieces, and a prefix of the second, are a prefix of both
+pub front_second : (old middle new : Option (List ℕ)) (first second : List ℕ) → Appends old middle first → AppendsFront middle new second
+    → AppendsFront old new (first ++ second)
+front_second old middle new first second appended cut =
+    written_cut old middle new second [] (first ++ second)
+    (record { done = first; appended = appended; all = ap (λ rest. first ++ rest) (append-nil second) }) cut
+
+-- what was appended is a prefix of itself
+pub front_all : (old new : Option (List ℕ)) (text : List ℕ) → Appends old new text → AppendsFront old new text
+front_all old new text appended = written_prefix old new [] text (record { done = text; appended = appended; all = append-nil text })
+
+-- nothing is a prefix of everything
+pub front_none : (old : Option (List ℕ)) (text : List ℕ) → AppendsFront old old text
+front_none old text = written_prefix old old text text (written_none old text)

@@ -1,6 +1,6 @@
-ghost use Rattle.std.specs.Prelude.{◌≡◌, ◌≢◌, ◌≤◌, ◌⊎◌, ◌↔◌};
+ghost use Rattle.std.specs.Prelude.{◌≡◌, ◌≢◌, ◌≤◌, ◌⊎◌, ◌↔◌, true};
 ghost use Rattle.gp_predict.specs.Finished.{IsFinished, IsPut, told_by};
-ghost use Rattle.gp_predict.specs.Refused.{reply_of};
+ghost use Rattle.gp_predict.specs.Refused.{is_limit, reply_of, stops_at_limit};
 ghost use Rattle.gp_predict.specs.Telling.{of_reply};
 ghost use Rattle.gp_predict.specs.Told.{IsDone};
 
@@ -13,7 +13,8 @@ use crate::writing::put_lines;
 use gp_outside::{PutFault, Sink};
 use std::alloc::Global;
 
-/// Tells what a task came to, and ends.
+/// Tells what a task, or another program, came to, and ends with its status: 3 or 7 where that is a refusal, 4 where the folder failed,
+/// 5 where the sink fails, and 6 where memory is wanting.
 pub fn finish<S: Sink, T: Tells + Drop>(
     alloc: Global,
     sink: &mut S,
@@ -21,6 +22,7 @@ pub fn finish<S: Sink, T: Tells + Drop>(
 ) -> Outcome
     ensures finished { IsFinished (told_by T.told made) result (S.written sink.old) (S.written sink.new) (S.faults sink.old) (S.faults sink.new) }
     ensures words { result.status ≢ 2 }
+    ensures limit { result.status ≡ 7 → stops_at_limit made ≡ true }
 {
     match made {
         Ok(whole) => put_whole(alloc, sink, whole),
@@ -35,6 +37,7 @@ fn put_whole<S: Sink, T: Tells>(alloc: Global, sink: &mut S, whole: T) -> Outcom
     ensures put { IsPut (T.told whole) result (S.written sink.old) (S.written sink.new) (S.faults sink.old) (S.faults sink.new) }
     ensures few { (T.told whole).status ≤ 1 }
     ensures words { result.status ≢ 2 }
+    ensures limit { result.status ≢ 7 }
 {
     let put = whole.put(alloc, sink);
     let mut outcome = whole.end();
@@ -48,6 +51,7 @@ fn put_whole<S: Sink, T: Tells>(alloc: Global, sink: &mut S, whole: T) -> Outcom
 fn put_refusal<S: Sink>(alloc: Global, sink: &mut S, why: Refusal) -> Outcome
     ensures put { IsPut (of_reply (reply_of why)) result (S.written sink.old) (S.written sink.new) (S.faults sink.old) (S.faults sink.new) }
     ensures words { result.status ≢ 2 }
+    ensures limit { result.status ≡ 7 → is_limit why ≡ true }
 {
     match reply_of(alloc, why) {
         Ok(reply) => put_reply(sink, &reply),
@@ -55,7 +59,7 @@ fn put_refusal<S: Sink>(alloc: Global, sink: &mut S, why: Refusal) -> Outcome
     }
 }
 
-/// Tells a text with its status, and ends with it.
+/// Tells a text with its status, and ends with it: with 5 where the sink fails, and with 6 where memory is wanting.
 pub fn put_reply<S: Sink>(sink: &mut S, reply: &Reply) -> Outcome
     requires { IsDone reply.now.status }
     ensures put { IsPut (of_reply reply.now) result (S.written sink.old) (S.written sink.new) (S.faults sink.old) (S.faults sink.new) }

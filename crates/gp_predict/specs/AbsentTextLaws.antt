@@ -1,4 +1,4 @@
--- No refusal but that of an absent file is told as `refused FILE absent`: each other has one more space, or a letter that no
+-- Laws: no refusal but that of an absent file is told as `refused FILE absent`: each other has one more space, or a letter that no
 -- name of a file has.
 use Rattle.std.proofs.Common.{◌≡◌, refl, ap, ◌∙◌, ℕ, zero, suc, ◌+◌, ◌/◌, ◌%◌, ◌<◌, ◌≤◌, ◌==◌, Bool, true, false, if◌then◌else◌, List, [], ◌∷◌, ◌++◌, sum_by, arith}
 use Rattle.std.specs.Prelude.{codes, decimal}

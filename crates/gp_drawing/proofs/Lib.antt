@@ -1,4 +1,5 @@
 pub mod Leading
+pub mod OwnMarkup
 pub mod Plain
 pub mod Steps
 pub mod Telling

@@ -4,6 +4,8 @@ pub mod Drawing
 pub mod Escaped
 pub mod Examples
 pub mod Laws
+pub mod Markup
+pub mod MarkupLaws
 pub mod Places
 pub mod Rows
 pub mod Singles

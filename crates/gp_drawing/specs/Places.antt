@@ -5,7 +5,7 @@ use Rattle.gp_drawing.specs.Rows.{thread_of}
 
 -- the middle of a lane; lanes count from 0
 abbrev pub lane_x : ℕ → ℕ
-lane_x lane = 40 + 120 * lane
+lane_x lane = 40 + 48 * lane
 
 -- the middle of a row; rows count from 0
 abbrev pub row_y : ℕ → ℕ

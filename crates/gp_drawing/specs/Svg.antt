@@ -48,9 +48,9 @@ words_at class x y = tag (codes "text") class ++ point (codes "x") x (codes "y")
 abbrev pub lane_line : ℕ → ℕ → List ℕ
 lane_line rows thread = stroke (codes "lane") (thread_x thread) 20 (thread_x thread) (row_y rows) ++ codes "/>\n"
 
--- the name of a thread, above its lane
+-- the number of a thread, above its lane
 abbrev pub lane_name : ℕ → List ℕ
-lane_name thread = words_at (codes "thread") (thread_x thread) 14 ++ codes "thread " ++ decimal thread ++ codes "</text>\n"
+lane_name thread = words_at (codes "thread") (thread_x thread) 14 ++ decimal thread ++ codes "</text>\n"
 
 -- the lane of a thread
 unfoldable pub lane_svg : ℕ → ℕ → List ℕ

@@ -1,6 +1,7 @@
 ghost use Rattle.gp_drawing.specs.Escaped.{EscapedIsPlain};
 ghost use Rattle.gp_drawing.specs.Examples.{ExamplesHold};
 ghost use Rattle.gp_drawing.specs.Laws.{ArrowsLeadDown, BarsLeadDown, RowsTellParts};
+ghost use Rattle.gp_drawing.specs.Markup.{DrawingsHaveOwnMarkup};
 
 /// A drawing has a row for each part of its story, which tells that part.
 pub fn rows_tell_parts()
@@ -21,6 +22,11 @@ pub fn bars_lead_down()
 /// An escaped text has no angle bracket and no quote, and `&` stands in it only where an entity begins.
 pub fn escaped_is_plain()
     ensures { EscapedIsPlain }
+{}
+
+/// In the text of a drawing each angle bracket that opens opens one of the program's own tags, whatever stands in the window.
+pub fn drawings_have_own_markup()
+    ensures { DrawingsHaveOwnMarkup }
 {}
 
 /// The drawings of small stories, and the text of one.

@@ -21,6 +21,8 @@ pub use drawing::{Arrow, ArrowKind, Bar, Drawing, DrawnRow, Span};
 pub use drawn::draw;
 pub use escaped::put_escaped;
 pub use laws::{
-    arrows_lead_down, bars_lead_down, draws_examples, escaped_is_plain, rows_tell_parts,
+    arrows_lead_down, bars_lead_down, drawings_have_own_markup, draws_examples, escaped_is_plain,
+    rows_tell_parts,
 };
 pub use svg::{put_svg, put_tip};
+pub use tags::put_between;

@@ -9,7 +9,7 @@ use crate::rows::thread_of;
 pub fn lane_x(lane: u32) -> u64
     ensures { result ≡ lane_x lane }
 {
-    40 + 120 * u64::from(lane)
+    40 + 48 * u64::from(lane)
 }
 
 /// The middle of a row.

@@ -118,7 +118,6 @@ fn put_lane_name(text: &mut Vec<u8>, thread: u32) -> Result<(), AllocError>
     ensures { OnOk result (text.new.items ≡ text.old.items ++ lane_name thread) }
 {
     put_words_at(text, b"thread", thread_x(thread), 14)?;
-    text.extend_from_slice(b"thread ")?;
     print_u64(text, u64::from(thread))?;
     text.extend_from_slice(b"</text>\n")
 }

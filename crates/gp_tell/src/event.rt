@@ -9,7 +9,7 @@ use gp_writer::{put_word, put_words};
 use std::alloc::AllocError;
 
 /// Puts the words of an event as its trace has them, behind what stands in the line.
-pub(crate) fn put_event(text: &mut Vec<u8>, event: &Event) -> Result<(), AllocError>
+pub fn put_event(text: &mut Vec<u8>, event: &Event) -> Result<(), AllocError>
     ensures { OnOk result (text.new.items ≡ text.old.items ++ after_words (event_words event.now)) }
 {
     match event {

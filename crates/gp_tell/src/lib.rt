@@ -1,6 +1,6 @@
 // Stories and reasons as text that people read: a schedule line by line, with what each event looks back at, and why an
-// instance is impossible, fact by fact and step by step. Both are put at the end of a text, so that the text so far stays.
-// Where memory is wanting, no contract says what the text is.
+// instance is impossible, fact by fact and step by step; beside them an event's own words. All is put at the end of a text,
+// so that the text so far stays. Where memory is wanting, no contract says what the text is.
 #![tactic(auto)]
 
 mod event;
@@ -10,6 +10,7 @@ mod line;
 mod reason;
 mod story;
 
+pub use event::put_event;
 pub use laws::tells_texts;
 pub use reason::put_reason;
 pub use story::put_story;

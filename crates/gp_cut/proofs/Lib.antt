@@ -1,0 +1,13 @@
+mod Cutting
+mod Ending
+mod Giving
+mod Holding
+mod Middles
+mod Naming
+mod Parted
+mod Roots
+mod Staging
+mod Starting
+mod Tables
+mod Weighing
+mod Whole

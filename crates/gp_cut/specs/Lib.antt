@@ -1,0 +1,5 @@
+pub mod Cut
+pub mod Examples
+pub mod Laws
+pub mod Parts
+pub mod PartsExamples

@@ -1,0 +1,4 @@
+pub mod AddUp
+pub mod Counted
+pub mod OwnMarkup
+pub mod Told

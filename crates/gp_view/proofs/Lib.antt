@@ -1,0 +1,2 @@
+pub mod OwnMarkup
+pub mod Put

@@ -1,0 +1,8 @@
+-- What is true of the instances that are told.
+use Rattle.gp_drawing.specs.Markup.{HasOwnMarkup}
+use Rattle.gp_view.specs.Answered.{AnsweredForm}
+use Rattle.gp_view.specs.Page.{answered_part}
+
+-- nothing of what is told of an instance is read as markup
+abbrev pub AnswersHaveOwnMarkup : Type 0
+AnswersHaveOwnMarkup = (answered : AnsweredForm) → HasOwnMarkup (answered_part answered)

@@ -1,0 +1,5 @@
+pub mod Answered
+pub mod Examples
+pub mod Laws
+pub mod Page
+pub mod Text

@@ -1,0 +1,6 @@
+pub mod Further
+pub mod Markup
+pub mod Numbered
+pub mod Pieces
+pub mod Reached
+pub mod Told

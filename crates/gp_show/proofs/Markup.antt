@@ -1,0 +1,66 @@
+-- Nothing of what a page shows is read as markup.
+use Rattle.std.proofs.Common.{◌≡◌, refl, sym, ℕ, List, ◌++◌, length, subst}
+use Rattle.std.specs.Prelude.{codes, flat_map}
+use Rattle.gp_checker.specs.declared.failure.Checked.{Checked}
+use Rattle.gp_checker.specs.declared.failure.Checked.TheVariants.{Accepted, Rejected}
+use Rattle.gp_drawing.specs.Markup.{DrawingsHaveOwnMarkup, HasOwnMarkup}
+use Rattle.gp_drawing.specs.MarkupLaws.{markup_append, markup_before, markup_between, markup_by_test, markup_flat_map, markup_nil, markup_words}
+use Rattle.gp_drawing.specs.Svg.{tip}
+use Rattle.gp_overview.specs.Laws.{OverviewsHaveOwnMarkup}
+use Rattle.gp_overview.specs.Page.{table_part, verdict_part}
+use Rattle.gp_predict.specs.declared.submission.Submission.{Submission}
+use Rattle.gp_text.specs.Spelling.{joined}
+use Rattle.gp_view.specs.Answered.{AnsweredForm}
+use Rattle.gp_view.specs.Laws.{AnswersHaveOwnMarkup}
+use Rattle.gp_view.specs.Page.{answered_part}
+use Rattle.gp_words.specs.Showing.{ShowForm}
+use Rattle.gp_words.specs.declared.showing.Style.{Style}
+use Rattle.gp_words.specs.declared.showing.Style.TheVariants.{Page}
+use Rattle.gp_show.specs.Choice.{asked_of, shown_of}
+use Rattle.gp_show.specs.Laws.{PagesHaveOwnMarkup}
+use Rattle.gp_show.specs.Show.{answered_text, body_text, foot_text, head_text, page_foot, page_head, shown_text, shown_words, style_sheet, submitted_answers}
+
+style_own : HasOwnMarkup style_sheet
+unfolding style_sheet
+style_own = markup_by_test style_sheet refl
+
+head_own : DrawingsHaveOwnMarkup → HasOwnMarkup page_head
+unfolding page_head
+head_own drawings =
+    let before : List ℕ =
+    codes "<!doctype html>\n<html lang='en'>\n<head>\n<meta charset='utf-8'>\n<meta name='viewport' content='width=device-width'>\n<title>gpshow</title>\n<style>\n" in
+    let between : List ℕ = codes "</style>\n</head>\n<body>\n" in
+    markup_before (before ++ style_sheet ++ between ++ tip) (codes "<h1>gpshow</h1>\n")
+    (markup_append (before ++ style_sheet ++ between) tip (markup_between before style_sheet between refl style_own refl) drawings.tip) refl
+
+foot_own : HasOwnMarkup page_foot
+unfolding page_foot
+foot_own = markup_by_test page_foot refl
+
+count_own : (shown asked : ℕ) → HasOwnMarkup (shown_text Page shown asked)
+count_own shown asked = markup_words (codes "<p>") (joined (shown_words shown asked)) (codes "</p>\n") refl refl
+
+module _ (drawings : DrawingsHaveOwnMarkup) (overviews : OverviewsHaveOwnMarkup) (answers_own : AnswersHaveOwnMarkup) where
+  before_own : (submission : Submission) (checked : Checked) → HasOwnMarkup (head_text Page submission checked)
+  before_own submission checked =
+      markup_append (page_head ++ verdict_part submission.report.windows checked) (table_part submission.listing.properties submission.report.windows)
+      (markup_append page_head (verdict_part submission.report.windows checked) (head_own drawings) (overviews.verdict submission.report.windows checked))
+      (overviews.table submission.listing.properties submission.report.windows)
+
+  -- the style is a page
+  body_own : (command : ShowForm) (submission : Submission) (checked : Checked) → command.style ≡ Page → HasOwnMarkup (body_text command submission checked)
+  body_own command submission Accepted is =
+      let answers : List AnsweredForm = submitted_answers submission in
+      let shown : List AnsweredForm = shown_of command command.most answers in
+      let asked : List AnsweredForm = asked_of command answers in
+      subst (λ (style : Style). HasOwnMarkup (flat_map (answered_text style) shown ++ shown_text style (length shown) (length asked))) (sym is)
+      (markup_append (flat_map answered_part shown) (shown_text Page (length shown) (length asked)) (markup_flat_map answered_part shown answers_own) (count_own (length shown) (length asked)))
+  body_own command submission (Rejected failure) is = markup_nil
+
+  pub pages_own : PagesHaveOwnMarkup
+  pages_own command submission checked is =
+      markup_append (head_text command.style submission checked ++ body_text command submission checked) (foot_text command.style)
+      (markup_append (head_text command.style submission checked) (body_text command submission checked)
+      (subst (λ (style : Style). HasOwnMarkup (head_text style submission checked)) (sym is) (before_own submission checked))
+      (body_own command submission checked is))
+      (subst (λ (style : Style). HasOwnMarkup (foot_text style)) (sym is) foot_own)

@@ -1,0 +1,6 @@
+pub mod Answers
+pub mod Choice
+pub mod Due
+pub mod Laws
+pub mod Show
+pub mod Telling

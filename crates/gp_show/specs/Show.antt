@@ -1,0 +1,95 @@
+-- What is shown of a report: the verdict, the table, and where the report is accepted the instances that are asked for.
+use Rattle.std.specs.Prelude.{ℕ, ◌-◌, List, [], ◌∷◌, ◌++◌, codes, decimal, flat_map, length}
+use Rattle.gp_checker.specs.declared.failure.Checked.{Checked}
+use Rattle.gp_checker.specs.declared.failure.Checked.TheVariants.{Accepted, Rejected}
+use Rattle.gp_drawing.specs.Escaped.{escaped}
+use Rattle.gp_drawing.specs.Svg.{tip}
+use Rattle.gp_overview.specs.Page.{table_part, verdict_part}
+use Rattle.gp_overview.specs.Table.{table_text}
+use Rattle.gp_overview.specs.Verdict.{verdict_words}
+use Rattle.gp_predict.specs.Told.{Nothing, Told}
+use Rattle.gp_predict.specs.declared.submission.Submission.{Submission}
+use Rattle.gp_text.specs.Spelling.{joined, spelling}
+use Rattle.gp_view.specs.Answered.{AnsweredForm}
+use Rattle.gp_view.specs.Page.{answered_part}
+use Rattle.gp_view.specs.Text.{answered_lines}
+use Rattle.gp_window.specs.Windows.{all_windows}
+use Rattle.gp_words.specs.Showing.{ShowForm}
+use Rattle.gp_words.specs.declared.showing.Style.{Style}
+use Rattle.gp_words.specs.declared.showing.Style.TheVariants.{Text, Page}
+use Rattle.gp_show.specs.Answers.{answers_of}
+use Rattle.gp_show.specs.Choice.{asked_of, shown_of}
+
+-- how a page looks, by light and by dark
+unfoldable pub style_sheet : List ℕ
+style_sheet = codes ":root{color-scheme:light dark;--ink:#1f2328;--soft:#59636e;--line:#d1d9e0;--mark:#bc4c00;--read:#0969da;--lock:#8250df;--flow:#1a7f37}@media(prefers-color-scheme:dark){:root{--ink:#e6edf3;--soft:#9198a1;--line:#3d444d;--mark:#f0883e;--read:#58a6ff;--lock:#bc8cff;--flow:#3fb950}}\nbody{font:15px/1.5 system-ui,sans-serif;color:var(--ink);max-width:72rem;margin:1.5rem auto;padding:0 1rem}h1{font-size:1.4rem}h2{font-size:1.1rem}\ntable{border-collapse:collapse;display:block;overflow-x:auto}th,td{padding:.2rem .7rem;text-align:right;border-bottom:1px solid var(--line)}th:first-child,td:first-child{text-align:left}\nsection{margin:2rem 0;overflow-x:auto}ul,pre,.words,.thread{font-family:ui-monospace,monospace;font-size:13px}ul{padding-left:1.2rem}summary{cursor:pointer;color:var(--soft)}\n.tips{position:absolute}.tip{fill:var(--soft);fill:context-stroke}.lane{stroke:var(--line)}.bar{stroke:var(--lock);stroke-width:5;stroke-opacity:.4}.shared{stroke-dasharray:4 3}\n.arrow{stroke-width:1.3}.read{stroke:var(--read)}.lock{stroke:var(--lock)}.join,.start{stroke:var(--flow)}\ncircle{fill:var(--soft)}.run{fill:none;stroke:var(--soft)}.marked{fill:var(--mark)}text{fill:var(--ink)}.thread{fill:var(--soft);text-anchor:middle}\n"
+
+-- the head of a page: its style sheet, and the tip of the arrows of its drawings
+unfoldable pub page_head : List ℕ
+page_head =
+    codes "<!doctype html>\n<html lang='en'>\n<head>\n<meta charset='utf-8'>\n<meta name='viewport' content='width=device-width'>\n<title>gpshow</title>\n<style>\n"
+    ++ style_sheet ++ codes "</style>\n</head>\n<body>\n" ++ tip ++ codes "<h1>gpshow</h1>\n"
+
+-- the foot of a page
+unfoldable pub page_foot : List ℕ
+page_foot = codes "</body>\n</html>\n"
+
+-- what stands before the instances
+abbrev pub head_text : Style → Submission → Checked → List ℕ
+head_text Text submission checked =
+    spelling (verdict_words submission.report.windows checked ∷ [] ∷ []) ++ table_text submission.listing.properties submission.report.windows
+head_text Page submission checked =
+    page_head ++ verdict_part submission.report.windows checked ++ table_part submission.listing.properties submission.report.windows
+
+-- an instance
+abbrev pub answered_text : Style → AnsweredForm → List ℕ
+answered_text Text answered = spelling (answered_lines answered)
+answered_text Page answered = answered_part answered
+
+-- those of further instances that are shown, where so many that are asked for were before them
+unfoldable pub text_after : ShowForm → ℕ → List AnsweredForm → List ℕ
+text_after command before answers = flat_map (answered_text command.style) (shown_of command (command.most - before) answers)
+
+-- how many of so many instances that are asked for are shown
+abbrev pub shown_words : ℕ → ℕ → List (List ℕ)
+shown_words shown asked = codes "shown" ∷ decimal shown ∷ codes "of" ∷ decimal asked ∷ []
+
+-- the same behind the instances
+abbrev pub shown_text : Style → ℕ → ℕ → List ℕ
+shown_text Text shown asked = spelling ([] ∷ shown_words shown asked ∷ [])
+shown_text Page shown asked = codes "<p>" ++ escaped (joined (shown_words shown asked)) ++ codes "</p>\n"
+
+-- what stands at the end
+abbrev pub foot_text : Style → List ℕ
+foot_text Text = []
+foot_text Page = page_foot
+
+-- the instances of a report that are asked for
+abbrev pub answers_text : ShowForm → List AnsweredForm → List ℕ
+answers_text command answers =
+    flat_map (answered_text command.style) (shown_of command command.most answers)
+    ++ shown_text command.style (length (shown_of command command.most answers)) (length (asked_of command answers))
+
+-- all instances of what was submitted
+abbrev pub submitted_answers : Submission → List AnsweredForm
+submitted_answers submission = answers_of submission.listing.properties (all_windows submission.listing.recording) submission.report.windows
+
+-- what is shown behind the table: nothing of a report that is rejected
+abbrev pub body_text : ShowForm → Submission → Checked → List ℕ
+body_text command submission Accepted = answers_text command (submitted_answers submission)
+body_text command submission (Rejected failure) = []
+
+-- what is shown of a report that was checked so
+abbrev pub show_text : ShowForm → Submission → Checked → List ℕ
+show_text command submission checked =
+    head_text command.style submission checked ++ body_text command submission checked ++ foot_text command.style
+
+-- 0 where it is accepted, and 1 where it is rejected
+abbrev pub show_status : Checked → ℕ
+show_status Accepted = 0
+show_status (Rejected failure) = 1
+
+-- what is told, of which nothing is kept
+abbrev pub of_shown : ShowForm → Submission → Checked → Told
+of_shown command submission checked =
+    record { status = show_status checked; text = show_text command submission checked; kept = Nothing }

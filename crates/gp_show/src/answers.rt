@@ -1,0 +1,195 @@
+ghost use Rattle.std.specs.Prelude.{◌≡◌, ◌≤◌, ◌+◌, Err, IfOk, OnErr, OnOk, Ok};
+ghost use Rattle.gp_outside.specs.Faults.{Rose};
+ghost use Rattle.gp_outside.specs.Sinks.{Appends, AppendsFront};
+ghost use Rattle.gp_show.specs.Answers.{answers_among, answers_from, answers_in, answers_of, answers_over};
+ghost use Rattle.gp_show.specs.Choice.{asked_count};
+ghost use Rattle.gp_show.specs.Show.{submitted_answers, text_after};
+ghost use Rattle.gp_window.specs.Windows.{all_windows};
+ghost use Rattle.gp_words.specs.Showing.{show_form};
+
+use crate::telling::put_if_shown;
+use gp_certificate::Step;
+use gp_constraint::{BaseFault, Encoded, base};
+use gp_outside::{PutFault, Sink};
+use gp_predict::Submission;
+use gp_property::Property;
+use gp_report::{Entry, PropertyRecord, WindowRecord};
+use gp_view::Answered;
+use gp_window::{Recording, Window, Windows};
+use gp_words::ShowCommand;
+use std::alloc::Global;
+
+/// A window whose instances are told, with the steps that its certificates share.
+#[derive(Clone, Copy)]
+struct Basis<'a> {
+    encoded: &'a Encoded,
+    shared: &'a [Step],
+}
+
+/// Writes the instances of a report that are shown, and gives how many are asked for. The text of one at a time is in memory. The
+/// clauses of each window are made anew.
+pub fn put_submitted<S: Sink>(
+    alloc: Global,
+    sink: &mut S,
+    command: &ShowCommand<'_>,
+    submission: &Submission,
+) -> Result<u64, PutFault>
+    ensures later { S.faults sink.old ≤ S.faults sink.new }
+    ensures count { IfOk result (λ count. count ≡ 0 + asked_count (show_form command.now) (submitted_answers submission.now)) }
+    ensures ok { OnOk result (Appends (S.written sink.old) (S.written sink.new) (text_after (show_form command.now) 0 (submitted_answers submission.now))) }
+    ensures err { OnErr result (AppendsFront (S.written sink.old) (S.written sink.new) (text_after (show_form command.now) 0 (submitted_answers submission.now))) }
+    ensures failed { result ≡ Err PutFault.Failed → Rose (S.faults sink.old) (S.faults sink.new) }
+{
+    let listing = &submission.listing;
+    put_windows(
+        alloc,
+        sink,
+        command,
+        &listing.recording,
+        listing.properties.as_slice(),
+        submission.report.windows(),
+    )
+}
+
+fn put_windows<S: Sink>(
+    alloc: Global,
+    sink: &mut S,
+    command: &ShowCommand<'_>,
+    recording: &Recording,
+    properties: &[Property],
+    records: &[WindowRecord],
+) -> Result<u64, PutFault>
+    ensures later { S.faults sink.old ≤ S.faults sink.new }
+    ensures count { IfOk result (λ count. count ≡ 0 + asked_count (show_form command.now) (answers_of properties.now (all_windows recording.now) records.now)) }
+    ensures ok { OnOk result (Appends (S.written sink.old) (S.written sink.new) (text_after (show_form command.now) 0 (answers_of properties.now (all_windows recording.now) records.now))) }
+    ensures err { OnErr result (AppendsFront (S.written sink.old) (S.written sink.new) (text_after (show_form command.now) 0 (answers_of properties.now (all_windows recording.now) records.now))) }
+    ensures failed { result ≡ Err PutFault.Failed → Rose (S.faults sink.old) (S.faults sink.new) }
+{
+    let mut asked = 0u64;
+    let mut windows = Windows::new(alloc, recording)?;
+    for told in records {
+        let Some(window) = windows.next(alloc)? else {
+            return Ok(asked);
+        };
+        asked = put_window(alloc, sink, command, properties, window, told, asked)?;
+    }
+    Ok(asked)
+}
+
+fn put_window<S: Sink>(
+    alloc: Global,
+    sink: &mut S,
+    command: &ShowCommand<'_>,
+    properties: &[Property],
+    window: Window,
+    told: &WindowRecord,
+    asked: u64,
+) -> Result<u64, PutFault>
+    ensures later { S.faults sink.old ≤ S.faults sink.new }
+    ensures count { IfOk result (λ count. count ≡ asked + asked_count (show_form command.now) (answers_in properties.now window told.now)) }
+    ensures ok { OnOk result (Appends (S.written sink.old) (S.written sink.new) (text_after (show_form command.now) asked (answers_in properties.now window told.now))) }
+    ensures err { OnErr result (AppendsFront (S.written sink.old) (S.written sink.new) (text_after (show_form command.now) asked (answers_in properties.now window told.now))) }
+    ensures failed { result ≡ Err PutFault.Failed → Rose (S.faults sink.old) (S.faults sink.new) }
+{
+    match base(alloc, window) {
+        Ok(encoded) => put_encoded(alloc, sink, command, properties, &encoded, told, asked),
+        Err(BaseFault::TooLarge { .. }) => Ok(asked),
+        Err(BaseFault::Memory) => Err(PutFault::Memory),
+    }
+}
+
+fn put_encoded<S: Sink>(
+    alloc: Global,
+    sink: &mut S,
+    command: &ShowCommand<'_>,
+    properties: &[Property],
+    encoded: &Encoded,
+    told: &WindowRecord,
+    asked: u64,
+) -> Result<u64, PutFault>
+    ensures later { S.faults sink.old ≤ S.faults sink.new }
+    ensures count { IfOk result (λ count. count ≡ asked + asked_count (show_form command.now) (answers_over properties.now told.now (Ok encoded.now))) }
+    ensures ok { OnOk result (Appends (S.written sink.old) (S.written sink.new) (text_after (show_form command.now) asked (answers_over properties.now told.now (Ok encoded.now)))) }
+    ensures err { OnErr result (AppendsFront (S.written sink.old) (S.written sink.new) (text_after (show_form command.now) asked (answers_over properties.now told.now (Ok encoded.now)))) }
+    ensures failed { result ≡ Err PutFault.Failed → Rose (S.faults sink.old) (S.faults sink.new) }
+{
+    let basis = Basis {
+        encoded,
+        shared: told.shared.as_slice(),
+    };
+    put_properties(
+        alloc,
+        sink,
+        command,
+        &basis,
+        properties,
+        told.body.properties(),
+        asked,
+    )
+}
+
+fn put_properties<S: Sink>(
+    alloc: Global,
+    sink: &mut S,
+    command: &ShowCommand<'_>,
+    basis: &Basis<'_>,
+    properties: &[Property],
+    records: &[PropertyRecord],
+    asked: u64,
+) -> Result<u64, PutFault>
+    ensures later { S.faults sink.old ≤ S.faults sink.new }
+    ensures count { IfOk result (λ count. count ≡ asked + asked_count (show_form command.now) (answers_among basis.now.encoded.now basis.now.shared.now properties.now records.now)) }
+    ensures ok { OnOk result (Appends (S.written sink.old) (S.written sink.new) (text_after (show_form command.now) asked (answers_among basis.now.encoded.now basis.now.shared.now properties.now records.now))) }
+    ensures err { OnErr result (AppendsFront (S.written sink.old) (S.written sink.new) (text_after (show_form command.now) asked (answers_among basis.now.encoded.now basis.now.shared.now properties.now records.now))) }
+    ensures failed { result ≡ Err PutFault.Failed → Rose (S.faults sink.old) (S.faults sink.new) }
+{
+    let mut count = asked;
+    for (number, property) in properties.iter().enumerate() {
+        let Some(told) = records.get(number) else {
+            return Ok(count);
+        };
+        count = put_entries(
+            alloc,
+            sink,
+            command,
+            basis,
+            property,
+            told.body.entries(),
+            count,
+        )?;
+    }
+    Ok(count)
+}
+
+/// Writes those of a property's instances that are shown. 2^32 instances or more want more memory than there is.
+fn put_entries<S: Sink>(
+    alloc: Global,
+    sink: &mut S,
+    command: &ShowCommand<'_>,
+    basis: &Basis<'_>,
+    property: &Property,
+    entries: &[Entry],
+    asked: u64,
+) -> Result<u64, PutFault>
+    ensures later { S.faults sink.old ≤ S.faults sink.new }
+    ensures count { IfOk result (λ count. count ≡ asked + asked_count (show_form command.now) (answers_from basis.now.encoded.now basis.now.shared.now property.now 0 entries.now)) }
+    ensures ok { OnOk result (Appends (S.written sink.old) (S.written sink.new) (text_after (show_form command.now) asked (answers_from basis.now.encoded.now basis.now.shared.now property.now 0 entries.now))) }
+    ensures err { OnErr result (AppendsFront (S.written sink.old) (S.written sink.new) (text_after (show_form command.now) asked (answers_from basis.now.encoded.now basis.now.shared.now property.now 0 entries.now))) }
+    ensures failed { result ≡ Err PutFault.Failed → Rose (S.faults sink.old) (S.faults sink.new) }
+{
+    if entries.len() > u32::MAX as usize {
+        return Err(PutFault::Memory);
+    }
+    let mut count = asked;
+    for (number, entry) in entries.iter().enumerate() {
+        let answered = Answered {
+            encoded: basis.encoded,
+            shared: basis.shared,
+            property,
+            number: number as u32,
+            entry,
+        };
+        count = put_if_shown(alloc, sink, command, &answered, count)?;
+    }
+    Ok(count)
+}

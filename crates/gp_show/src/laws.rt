@@ -1,0 +1,19 @@
+ghost use Rattle.gp_show.specs.Laws.{AnswersAreEntries, PagesHaveOwnMarkup};
+
+use gp_drawing::drawings_have_own_markup;
+use gp_overview::overviews_have_own_markup;
+use gp_view::answers_have_own_markup;
+
+/// The entries of a report that is accepted are those of the instances that may be shown, in their order.
+pub fn answers_are_entries()
+    ensures { AnswersAreEntries }
+{}
+
+/// In a page each angle bracket that opens opens one of the program's own tags, whatever the files hold.
+pub fn pages_have_own_markup()
+    ensures { PagesHaveOwnMarkup }
+{
+    drawings_have_own_markup();
+    overviews_have_own_markup();
+    answers_have_own_markup();
+}

@@ -216,6 +216,14 @@ impl Case {
     }
 }
 
+/// The words of gpshow, where its name stands before them.
+pub fn words_of_gpshow(words: &[String]) -> Option<&[String]> {
+    match words {
+        [program, words @ ..] if program.as_str() == "gpshow" => Some(words),
+        _ => None,
+    }
+}
+
 /// The number that a text tells, or 0.
 fn number(text: &str) -> u64 {
     text.parse().unwrap_or(0)

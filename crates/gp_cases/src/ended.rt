@@ -1,9 +1,10 @@
-use crate::case::Case;
+use crate::case::{Case, words_of_gpshow};
 use crate::style::{Style, tell_text};
 use gp_notified::NotifyReport;
 use gp_outside::{FreeGate, MemoryFolder, MemorySink};
 use gp_predict::{Outcome, run};
 use gp_report::Report;
+use gp_show::show;
 use std::alloc::{AllocError, Global};
 use std::sync::Wait;
 use std::thread::Threads;
@@ -70,12 +71,25 @@ pub fn ran_where<R: AllocGlobal + Threads + Wait + Sync>(
     let puts = Vec::from_slice(alloc, puts)?;
     let mut folder = MemoryFolder::new(files, failing);
     let mut sink = MemorySink::new(alloc, puts);
-    let outcome = run(rt, case.words(), &mut folder, &mut sink, &FreeGate);
+    let outcome = run_program(rt, case.words(), &mut folder, &mut sink);
     Ok(Ended {
         outcome,
         sink,
         folder,
     })
+}
+
+/// Runs the program whose words these are.
+fn run_program<R: AllocGlobal + Threads + Wait + Sync>(
+    rt: &R,
+    words: &[String],
+    folder: &mut MemoryFolder,
+    sink: &mut MemorySink,
+) -> Outcome {
+    match words_of_gpshow(words) {
+        Some(words) => show(rt, words, folder, sink),
+        None => run(rt, words, folder, sink, &FreeGate),
+    }
 }
 
 /// What is kept beside the status.

@@ -1,12 +1,13 @@
 // What texts, numbers, names and command lines are read as.
 ghost use Rattle.std.specs.Prelude.{◌-◌, ◌<◌, ◌^◌, length};
 
+use crate::case::words_of_gpshow;
 use crate::layers::telling::{tell, tell_last};
 use gp_text::{
     Line, Lines, Name, TextLine, Words, end_line, print_u64, read_i64, read_lines, read_u32,
     read_u64,
 };
-use gp_words::{Command, command_of};
+use gp_words::{Command, ShowCommand, command_of, show_command_of};
 use gp_writer::{put_line, put_word};
 use std::alloc::{AllocError, Global};
 use std::cmp::Ordering;
@@ -116,8 +117,30 @@ fn order_word(order: Ordering) -> &'static str {
 
 /// Tells the command that words are.
 pub fn tell_command(alloc: Global, out: &mut Vec<u8>, words: &[String]) -> Result<(), AllocError> {
+    match words_of_gpshow(words) {
+        Some(words) => tell_command_of_gpshow(alloc, out, words),
+        None => tell_command_of_gpredict(alloc, out, words),
+    }
+}
+
+fn tell_command_of_gpredict(
+    alloc: Global,
+    out: &mut Vec<u8>,
+    words: &[String],
+) -> Result<(), AllocError> {
     match command_of(words) {
         Some(command) => tell(out, command_text(alloc, &command)?.as_str()),
+        None => tell(out, "no command"),
+    }
+}
+
+fn tell_command_of_gpshow(
+    alloc: Global,
+    out: &mut Vec<u8>,
+    words: &[String],
+) -> Result<(), AllocError> {
+    match show_command_of(words) {
+        Some(command) => tell(out, show_command_text(alloc, &command)?.as_str()),
         None => tell(out, "no command"),
     }
 }
@@ -134,4 +157,16 @@ fn command_text(alloc: Global, command: &Command) -> Result<String, AllocError> 
         events,
     } = *command;
     format!(in alloc; "{task:?} {folder} {workers} {budget} {format} {seed} {threads} {events}")
+}
+
+fn show_command_text(alloc: Global, command: &ShowCommand) -> Result<String, AllocError> {
+    let ShowCommand {
+        style,
+        folder,
+        window,
+        property,
+        instance,
+        most,
+    } = *command;
+    format!(in alloc; "{style:?} {folder} {window:?} {property:?} {instance:?} {most}")
 }

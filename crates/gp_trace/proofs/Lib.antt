@@ -8,3 +8,4 @@ pub mod Spelled
 pub mod Texts
 pub mod Walked
 pub mod Whole
+mod Stood

@@ -1,4 +1,4 @@
--- Laws: well-formed events split at any place, and use locks well.
+-- Laws: where a thread stands after events is told part by part; well-formed events split at any place, and use locks well.
 use Rattle.std.specs.Prelude.{◌≡◌, ℕ, if◌then◌else◌, List, [], ◌∷◌, ◌++◌, is_some, Option, Some, None}
 use Rattle.std.proofs.Common.{refl, sym, ap, ◌∙◌, subst, append_assoc}
 use Rattle.gp_trace.specs.declared.event.Event.{Event}
@@ -20,6 +20,11 @@ pub formed_split : (thread : ℕ) (s : Standing) (prefix rest : List Event) → 
 formed_split thread s [] rest formed = (tt, formed)
 formed_split thread s (event ∷ prefix) rest formed =
     let parts = formed_split thread (after s event) prefix rest formed.1 in ((formed.0, parts.0), parts.1)
+
+-- where a thread stands after events, and then further ones
+pub after_both : (s : Standing) (first second : List Event) → after_all s (first ++ second) ≡ after_all (after_all s first) second
+after_both s [] second = refl
+after_both s (event ∷ first) second = after_both (after s event) first second
 
 -- events that use locks well do so up to any place, and from there on
 pub used_well_split : (held : HeldLocks) (prefix rest : List Event) → LocksAreUsedWell held (prefix ++ rest)

@@ -13,6 +13,7 @@ mod lock_use;
 mod operation;
 mod printing;
 mod rules;
+mod standing;
 mod trace;
 mod walk;
 
@@ -22,4 +23,6 @@ pub use grammar::traces_are_spelled;
 pub use lock_use::{LockMode, LockUse};
 pub use operation::Operation;
 pub use printing::{print_trace, trace_reads_again};
+pub use rules::Standing;
+pub use standing::standing_behind;
 pub use trace::{LocalTrace, read_trace, traces_fit};

@@ -1,19 +1,31 @@
 ghost use Rattle.std.specs.Prelude.{◌≡◌, ◌++◌, ◌∷◌, [], ◌-◌, ◌==◌, length, take, IfOk, Ok, Err, Some, is_some, if◌then◌else◌, OnOk};
 ghost use Rattle.gp_trace.specs.LockUse.{held_after_use};
-ghost use Rattle.gp_trace.specs.Rules.{after, check, in_line, is_held_as, is_innermost, lock_fault};
+ghost use Rattle.gp_trace.specs.Rules.{after, at_first, check, in_line, is_held_as, is_innermost, lock_fault};
 
 use crate::event::Event;
 use crate::fault::TraceFault;
 use crate::lock_use::{LockMode, LockUse};
 use gp_base::{Row, Table};
 use gp_text::Name;
-use std::alloc::AllocError;
+use std::alloc::{AllocError, Global};
 
 /// The locks that a thread holds, and the regions that it has begun and not ended, innermost last.
-#[derive(Drop)]
+#[derive(Debug, Drop)]
 pub struct Standing {
     pub held: Table<Name, LockMode>,
     pub begun: Row<Name>,
+}
+
+impl Standing {
+    /// That of a thread that has done nothing, which takes no memory.
+    pub fn at_first(alloc: Global) -> Standing
+        ensures { result ≡ at_first }
+    {
+        Standing {
+            held: Table::new(alloc),
+            begun: Row::new(alloc),
+        }
+    }
 }
 
 /// Whether the thread may do this event in this line.

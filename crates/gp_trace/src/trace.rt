@@ -29,6 +29,18 @@ impl Model for LocalTrace {
 }
 
 impl LocalTrace {
+    /// A trace of parts that are known to fit.
+    pub fn new(thread: u32, segments: Row<Row<Event>>, exit_in: Option<u32>) -> LocalTrace
+        requires { IsLocalTrace (record { thread = thread; segments = segments; exit_in = exit_in }) }
+        ensures { result ≡ record { thread = thread; segments = segments; exit_in = exit_in } }
+    {
+        LocalTrace {
+            thread,
+            segments,
+            exit_in,
+        }
+    }
+
     /// The number of the thread.
     pub fn thread(&self) -> u32
         ensures { result ≡ self.now.thread }

@@ -6,7 +6,7 @@ use crate::event::Event;
 use crate::fault::TraceFault;
 use crate::line::{Entry, entry_of};
 use crate::rules::{Standing, after, check};
-use gp_base::{Row, Table};
+use gp_base::Row;
 use gp_text::{Lines, TextLine};
 use std::alloc::Global;
 
@@ -42,12 +42,8 @@ pub fn walk_lines(
 fn at_start(alloc: Global) -> Walk
     ensures { result ≡ at_start }
 {
-    let standing = Standing {
-        held: Table::new(alloc),
-        begun: Row::new(alloc),
-    };
     Walk {
-        standing,
+        standing: Standing::at_first(alloc),
         ended: Row::new(alloc),
         segment: Row::new(alloc),
         exit_in: None,

@@ -63,6 +63,7 @@ name_weighs (file.Trace thread) =
 name_weighs file.Properties = refl
 name_weighs file.Schedule = refl
 name_weighs file.Report = refl
+name_weighs file.Shard = refl
 
 -- a line weighs what its text does
 line_weighs : (status : ℕ) (line : List ℕ) → sum_by weight (text_of (record { status = status; lines = (line ++ codes "\n") ∷ [] })) ≡ sum_by weight line

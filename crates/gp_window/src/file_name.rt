@@ -16,6 +16,8 @@ pub enum FileName {
     Schedule,
     /// The report.
     Report,
+    /// Which part of a longer recording the folder holds.
+    Shard,
 }
 
 impl FileName {
@@ -32,6 +34,7 @@ impl FileName {
             FileName::Properties => String::from_str(alloc, "props"),
             FileName::Schedule => String::from_str(alloc, "schedule"),
             FileName::Report => String::from_str(alloc, "report"),
+            FileName::Shard => String::from_str(alloc, "shard"),
         }
     }
 
@@ -45,6 +48,7 @@ impl FileName {
             FileName::Properties => 262_144,
             FileName::Schedule => 16_777_216,
             FileName::Report => 67_108_864,
+            FileName::Shard => 4_096,
         }
     }
 

@@ -12,7 +12,7 @@ use Rattle.gp_make.specs.declared.action.Event.{Event}
 use Rattle.gp_make.specs.declared.program.Program.{Program}
 use Rattle.gp_make.specs.declared.recipe.Recipe.{Recipe}
 use Rattle.gp_make.specs.Traces.{TracesGrow, lines_of, trace_lines}
-use Rattle.gp_make.specs.MadeFileForm.{MadeFileForm}
+use Rattle.gp_files.specs.MadeFileForm.{MadeFileForm}
 use Rattle.gp_make.specs.Program.{first_program, step}
 use Rattle.gp_make.specs.Run.{event_of, events_before, program_after, start_values, window_events, windows_of}
 use Rattle.gp_make.specs.Texts.{changes_lines, start_lines, told_by, told_event}

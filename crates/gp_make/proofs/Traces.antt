@@ -12,7 +12,7 @@ use Rattle.gp_window.specs.declared.file_name.FileName.{FileName}
 use Rattle.gp_window.specs.declared.file_name.FileName.TheVariants.{Trace}
 use Rattle.gp_make.specs.declared.action.Event.{Event}
 use Rattle.gp_make.specs.Files.{file_of}
-use Rattle.gp_make.specs.MadeFileForm.{MadeFileForm}
+use Rattle.gp_files.specs.MadeFileForm.{MadeFileForm}
 use Rattle.gp_make.specs.Texts.{told_event}
 use Rattle.gp_make.specs.Traces.{TracesGrow, lines_of, traces_with, with_lines}
 use Rattle.gp_text.specs.SpellingLaws.{spelling_append}

@@ -6,7 +6,7 @@ use Rattle.gp_trace.specs.Printed.{trace_text}
 use Rattle.gp_window.specs.declared.file_name.FileName.{FileName}
 use Rattle.gp_window.specs.declared.file_name.FileName.TheVariants.{Manifest, Trace, Properties}
 use Rattle.gp_make.specs.declared.recipe.Recipe.{Recipe}
-use Rattle.gp_make.specs.MadeFileForm.{MadeFileForm}
+use Rattle.gp_files.specs.MadeFileForm.{MadeFileForm}
 use Rattle.gp_make.specs.Texts.{made_trace, manifest_lines, property_lines}
 
 -- a file with the text of these lines

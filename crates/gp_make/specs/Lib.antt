@@ -1,6 +1,5 @@
 pub mod Draws
 pub mod Files
-pub mod MadeFileForm
 pub mod Program
 pub mod Run
 pub mod Texts

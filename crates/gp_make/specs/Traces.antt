@@ -7,7 +7,7 @@ use Rattle.gp_window.specs.declared.file_name.FileName.TheVariants.{Trace}
 use Rattle.gp_make.specs.declared.action.Event.{Event}
 use Rattle.gp_make.specs.declared.recipe.Recipe.{Recipe}
 use Rattle.gp_make.specs.Files.{file_of}
-use Rattle.gp_make.specs.MadeFileForm.{MadeFileForm}
+use Rattle.gp_files.specs.MadeFileForm.{MadeFileForm}
 use Rattle.gp_make.specs.Texts.{made_trace, told_by}
 
 -- the lines of those of the events that this thread did

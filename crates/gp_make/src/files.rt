@@ -1,5 +1,5 @@
 ghost use Rattle.std.specs.Prelude.{◌≡◌, ◌≤◌, [], ◌∷◌, ◌++◌, IfOk, OnOk, codes, length};
-ghost use Rattle.gp_window.specs.declared.file_name.FileName.TheVariants.{Manifest, Properties};
+ghost use Rattle.gp_window.specs.declared.file_name.FileName.TheVariants.{Manifest, Properties, Trace};
 ghost use Rattle.gp_trace.specs.Printed.{event_words};
 ghost use Rattle.gp_make.specs.Files.{file_of};
 ghost use Rattle.gp_make.specs.Texts.{property_lines, told_event};
@@ -8,6 +8,7 @@ ghost use Rattle.gp_make.specs.Traces.{TracesGrow, lines_of, traces_with, with_l
 use crate::action::{Action, Event};
 use crate::lines::put_action;
 use gp_base::Row;
+use gp_files::MadeFile;
 use gp_window::FileName;
 use std::alloc::{AllocError, Global};
 use std::marker::Model;
@@ -15,43 +16,33 @@ use std::marker::Model;
 const PROPERTIES: &[u8] =
     b"property use_before_auth\nevent use op use $o\nevent auth op auth $o\npattern use@u auth@t\n";
 
-/// A file of the recording: which one of the folder it is, and its text.
-#[derive(Debug, Drop)]
-pub struct MadeFile {
-    name: FileName,
+/// The trace of a thread while it is written.
+#[derive(Drop)]
+pub(crate) struct GrowingTrace {
+    thread: u32,
     text: Vec<u8>,
 }
 
-impl Model for MadeFile {
-    ghost use Rattle.gp_make.specs.MadeFileForm.{MadeFileForm};
+impl Model for GrowingTrace {
+    ghost use Rattle.gp_files.specs.MadeFileForm.{MadeFileForm};
+    ghost use Rattle.gp_window.specs.declared.file_name.FileName.TheVariants.{Trace};
 
     ghost Value = { MadeFileForm };
 
-    ghost view = { λ f. record { name = f.name; text = f.text.items } };
+    ghost view = { λ t. record { name = Trace t.thread; text = t.text.items } };
 }
 
-impl MadeFile {
-    fn new(name: FileName, text: Vec<u8>) -> MadeFile
-        ensures { result ≡ record { name = name; text = text.items } }
+impl GrowingTrace {
+    fn new(alloc: Global, thread: u32) -> GrowingTrace
+        ensures { result ≡ file_of (Trace thread) [] }
     {
-        MadeFile { name, text }
+        GrowingTrace {
+            thread,
+            text: Vec::new(alloc),
+        }
     }
 
-    /// Which file of the folder it is.
-    pub fn name(&self) -> FileName
-        ensures { result ≡ self.now.name }
-    {
-        self.name
-    }
-
-    /// Its text.
-    pub fn text(&self) -> &[u8]
-        ensures { result.now ≡ self.now.text }
-    {
-        self.text.as_slice()
-    }
-
-    // Puts the line of what a thread did.
+    // Puts the line of what the thread did.
     fn put(&mut self, action: Action) -> Result<(), AllocError>
         ensures { OnOk result (self.new ≡ with_lines self.old (event_words (told_event action) ∷ [])) }
     {
@@ -64,21 +55,29 @@ impl MadeFile {
     {
         self.text.extend_from_slice(b"mark\n")
     }
+
+    // The file of the trace, with what it has now.
+    fn finish(self) -> MadeFile
+        ensures { result ≡ self }
+    {
+        let GrowingTrace { thread, text } = self;
+        MadeFile::new(FileName::Trace(thread), Row::from_vec(text))
+    }
 }
 
 /// The traces of so many threads, in order, with nothing in them yet.
-pub(crate) fn empty_traces(alloc: Global, threads: u32) -> Result<Vec<MadeFile>, AllocError>
+pub(crate) fn empty_traces(alloc: Global, threads: u32) -> Result<Vec<GrowingTrace>, AllocError>
     ensures { IfOk result (λ traces. traces.items ≡ traces_with threads (λ _. [])) }
 {
     let mut traces = Vec::new(alloc);
     for thread in 0..threads {
-        traces.push(MadeFile::new(FileName::Trace(thread + 1), Vec::new(alloc)))?;
+        traces.push(GrowingTrace::new(alloc, thread + 1))?;
     }
     Ok(traces)
 }
 
 /// Puts the line of an event into the trace of its thread.
-pub(crate) fn put_event(traces: &mut [MadeFile], event: Event) -> Result<(), AllocError>
+pub(crate) fn put_event(traces: &mut [GrowingTrace], event: Event) -> Result<(), AllocError>
     requires first { 1 ≤ event.thread }
     requires last { event.thread ≤ length traces.old }
     ensures { OnOk result (TracesGrow traces.old traces.new (λ thread. lines_of thread (event ∷ []))) }
@@ -87,7 +86,7 @@ pub(crate) fn put_event(traces: &mut [MadeFile], event: Event) -> Result<(), All
 }
 
 /// Puts a mark into every trace.
-pub(crate) fn put_marks(traces: &mut [MadeFile]) -> Result<(), AllocError>
+pub(crate) fn put_marks(traces: &mut [GrowingTrace]) -> Result<(), AllocError>
     ensures { OnOk result (TracesGrow traces.old traces.new (λ _. (codes "mark" ∷ []) ∷ [])) }
 {
     for trace in traces.iter_mut() {
@@ -100,15 +99,16 @@ pub(crate) fn put_marks(traces: &mut [MadeFile]) -> Result<(), AllocError>
 pub(crate) fn in_order(
     alloc: Global,
     manifest: Vec<u8>,
-    traces: Vec<MadeFile>,
+    traces: Vec<GrowingTrace>,
 ) -> Result<Row<MadeFile>, AllocError>
     ensures { IfOk result (λ files. files ≡ record { name = Manifest; text = manifest.items } ∷ (traces.items ++ file_of Properties property_lines ∷ [])) }
 {
     let mut files = Vec::new(alloc);
-    files.push(MadeFile::new(FileName::Manifest, manifest))?;
+    files.push(MadeFile::new(FileName::Manifest, Row::from_vec(manifest)))?;
     for trace in traces {
-        files.push(trace)?;
+        files.push(trace.finish())?;
     }
-    files.push(MadeFile::new(FileName::Properties, Vec::from_slice(alloc, PROPERTIES)?))?;
+    let properties = Vec::from_slice(alloc, PROPERTIES)?;
+    files.push(MadeFile::new(FileName::Properties, Row::from_vec(properties)))?;
     Ok(Row::from_vec(files))
 }

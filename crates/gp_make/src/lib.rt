@@ -16,7 +16,6 @@ mod program;
 mod recipe;
 mod writing;
 
-pub use files::MadeFile;
 pub use making::make;
 pub use recipe::Recipe;
 pub use writing::write_recording;

@@ -5,11 +5,12 @@ ghost use Rattle.gp_make.specs.Run.{events_before, later_windows, program_after,
 ghost use Rattle.gp_make.specs.Texts.{start_lines};
 ghost use Rattle.gp_make.specs.Traces.{TracesGrow, lines_of, trace_lines};
 
-use crate::files::{MadeFile, empty_traces, in_order, put_event, put_marks};
+use crate::files::{GrowingTrace, empty_traces, in_order, put_event, put_marks};
 use crate::manifest::{manifest_head, put_changes};
 use crate::program::Program;
 use crate::recipe::{Recipe, WINDOW};
 use gp_base::Row;
+use gp_files::MadeFile;
 use std::alloc::{AllocError, Global};
 
 /// The files of the recording, in the order in which they are written: the manifest, the traces by
@@ -26,7 +27,11 @@ pub fn make(alloc: Global, recipe: &Recipe) -> Result<Row<MadeFile>, AllocError>
 }
 
 // Runs the program. The traces get what the threads do, and the manifest the values that changed.
-fn run(recipe: &Recipe, manifest: &mut Vec<u8>, traces: &mut [MadeFile]) -> Result<(), AllocError>
+fn run(
+    recipe: &Recipe,
+    manifest: &mut Vec<u8>,
+    traces: &mut [GrowingTrace],
+) -> Result<(), AllocError>
     requires threads { 0 < recipe.now.threads }
     requires events { 0 < recipe.now.events }
     requires traces { length traces.old ≡ recipe.now.threads }
@@ -50,7 +55,7 @@ fn run_window(
     recipe: &Recipe,
     window: u32,
     program: &mut Program,
-    traces: &mut [MadeFile],
+    traces: &mut [GrowingTrace],
 ) -> Result<(), AllocError>
     requires threads { 0 < recipe.now.threads }
     requires window { 1 ≤ window }

@@ -1,7 +1,7 @@
 -- What task make leaves, by how its writes ended.
 use Rattle.std.proofs.Common.{◌≡◌, ◌≢◌, ℕ, List, ap, inl, inr, true, OnOk, arith}
 use Rattle.std.specs.Prelude.{◌⊎◌, Option, None, Some, Result, Ok, Err, IfErr}
-use Rattle.gp_make.specs.Writing.{AreAllMade, AreKeptOrMade, AreSomeMade, WhereTold}
+use Rattle.gp_files.specs.Writing.{AreAllMade, AreKeptOrMade, AreSomeMade, WhereTold}
 use Rattle.gp_outside.specs.Folders.{File}
 use Rattle.gp_predict.specs.declared.outcome.Outcome.{Outcome}
 use Rattle.gp_predict.specs.declared.stop.Stop.{Stop}

@@ -2,7 +2,8 @@
 use Rattle.std.specs.Prelude.{ℕ, ◌≡◌, ◌≢◌, ◌++◌, List, Option, None, Some, codes, decimal}
 use Rattle.gp_make.specs.declared.recipe.Recipe.{Recipe}
 use Rattle.gp_make.specs.Run.{windows_of}
-use Rattle.gp_make.specs.Writing.{AreAllMade, AreKeptOrMade, AreSomeMade, WhereTold, made_at}
+use Rattle.gp_files.specs.Writing.{AreAllMade, AreKeptOrMade, AreSomeMade, WhereTold}
+use Rattle.gp_make.specs.Writing.{made_at}
 use Rattle.gp_outside.specs.Folders.{File}
 use Rattle.gp_words.specs.declared.task.Task.{Task}
 use Rattle.gp_words.specs.declared.task.Task.TheVariants as task

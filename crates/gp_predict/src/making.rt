@@ -1,5 +1,6 @@
 ghost use Rattle.std.specs.Prelude.{◌≡◌, ◌≢◌, ◌≤◌, ◌<◌, Err, IfErr, IfOk, OnOk, Some};
-ghost use Rattle.gp_make.specs.Writing.{AreAllMade, AreKeptOrMade, AreSomeMade, WhereTold, made_at};
+ghost use Rattle.gp_files.specs.Writing.{AreAllMade, AreKeptOrMade, AreSomeMade, WhereTold};
+ghost use Rattle.gp_make.specs.Writing.{made_at};
 ghost use Rattle.gp_outside.specs.Faults.{Rose};
 ghost use Rattle.gp_predict.specs.Asking.{recipe_of};
 ghost use Rattle.gp_predict.specs.Tasks.{Text};

@@ -1,11 +1,13 @@
 ghost use Rattle.std.specs.Prelude.{◌≡◌, ◌≤◌, ◌<◌, IfOk, IfSome, OnOk, map, option_map, string_bytes};
 ghost use Rattle.gp_outside.specs.Faults.{Rose};
 ghost use Rattle.gp_make.specs.Files.{made_files};
-ghost use Rattle.gp_make.specs.Writing.{AreAllMade, AreKeptOrMade, AreSomeMade, WhereTold, made_at};
+ghost use Rattle.gp_files.specs.Writing.{AreAllMade, AreKeptOrMade, AreSomeMade, WhereTold};
+ghost use Rattle.gp_make.specs.Writing.{made_at};
 ghost use Rattle.gp_words.specs.Command.{IsInRanges, command_of, form_of};
 
 use gp_base::Row;
-use gp_make::{MadeFile, Recipe};
+use gp_files::MadeFile;
+use gp_make::Recipe;
 use gp_outside::{Folder, WriteFault};
 use gp_words::Command;
 use std::alloc::{AllocError, Global};

@@ -1,7 +1,7 @@
 use Rattle.std.proofs.Common.{◌∷◌, [], ap, codes, get_or, arith}
 use Rattle.std.proofs.lemmas.List.Edits.{map_over_more}
 use Rattle.gp_make.specs.Traces.{with_lines}
-use Rattle.gp_make.specs.MadeFileForm.{MadeFileForm}
+use Rattle.gp_files.specs.MadeFileForm.{MadeFileForm}
 use Rattle.gp_make.proofs.Traces.{marks_put}
 use Rattle.gp_make.proofs.files.put_marks.Goals as goal
 

@@ -3,7 +3,7 @@ use Rattle.std.proofs.lemmas.List.FromFn.{length-map-range_with_len}
 use Rattle.gp_window.specs.declared.file_name.FileName.TheVariants.{Trace}
 use Rattle.gp_make.specs.Files.{file_of}
 use Rattle.gp_make.specs.Traces.{traces_with}
-use Rattle.gp_make.specs.MadeFileForm.{MadeFileForm}
+use Rattle.gp_files.specs.MadeFileForm.{MadeFileForm}
 use Rattle.gp_make.proofs.making.make.Goals as goal
 
 pub run-requires-clause-traces : goal.run-requires-clause-traces

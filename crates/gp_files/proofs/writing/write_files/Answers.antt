@@ -3,9 +3,9 @@ use Rattle.std.proofs.Common.{◌+◌, ap, drop, rules}
 use Rattle.std.proofs.lemmas.List.{drop_all}
 use Rattle.std.proofs.lemmas.Result.{err_from_is_err_and}
 use Rattle.gp_window.specs.FileNames.{path_of}
-use Rattle.gp_make.specs.Writing.{files_at}
-use Rattle.gp_make.proofs.Leading.{all_written, file_spared, file_written, one_left}
-use Rattle.gp_make.proofs.writing.write_files.Goals as goal
+use Rattle.gp_files.specs.Writing.{files_at}
+use Rattle.gp_files.proofs.Leading.{all_written, file_spared, file_written, one_left}
+use Rattle.gp_files.proofs.writing.write_files.Goals as goal
 
 pub returns-in_err-write_file-clause-spared : goal.returns-in_err-write_file-clause-spared
 returns-in_err-write_file-clause-spared g c = λ failed.

@@ -6,8 +6,8 @@ use Rattle.std.proofs.lemmas.List.Elements.{All-cons, All-nil}
 use Rattle.std.proofs.lemmas.Slice.Eq.{bytes_eq-Decides}
 use Rattle.gp_outside.specs.Folders.{File, IsWritten, Spares, Writes, file_named}
 use Rattle.gp_window.specs.FileNames.{path_of}
-use Rattle.gp_make.specs.MadeFileForm.{MadeFileForm}
-use Rattle.gp_make.specs.Writing.{AreAllMade, AreApart, AreKeptOrMade, AreSomeMade, IsKeptOrMade, IsMade, WhereTold, files_at}
+use Rattle.gp_files.specs.MadeFileForm.{MadeFileForm}
+use Rattle.gp_files.specs.Writing.{AreAllMade, AreApart, AreKeptOrMade, AreSomeMade, IsKeptOrMade, IsMade, WhereTold, files_at}
 
 -- what comes of the files that are left, from the present ones on, comes of all the files from the first ones on
 pub record Leads (left all before now : List File) : Type 0 where

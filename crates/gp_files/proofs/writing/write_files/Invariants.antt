@@ -1,7 +1,7 @@
 use Rattle.std.proofs.Common.{◌≤◌, drop}
-use Rattle.gp_make.specs.Writing.{WhereTold, files_at}
-use Rattle.gp_make.proofs.Leading.{Leads}
-use Rattle.gp_make.proofs.writing.write_files.Given as goal
+use Rattle.gp_files.specs.Writing.{WhereTold, files_at}
+use Rattle.gp_files.proofs.Leading.{Leads}
+use Rattle.gp_files.proofs.writing.write_files.Given as goal
 
 abbrev pub invariant-loop-file : goal.invariant-loop-file
 invariant-loop-file g l =

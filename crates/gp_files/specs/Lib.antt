@@ -1,0 +1,3 @@
+pub mod MadeFileForm
+pub mod Naming
+pub mod Writing

@@ -6,12 +6,12 @@ use Rattle.std.specs.List.{list_any}
 use Rattle.std.specs.Str.{bytes_eq}
 use Rattle.std.proofs.lemmas.Slice.Eq.{bytes_eq-Decides}
 use Rattle.std.proofs.lemmas.Option.{none-some}
-use Rattle.gp_words.specs.Argument.{gpredict_option, gpshow_option, option_named}
+use Rattle.gp_words.specs.Argument.{gpredict_option, gpshards_option, gpshow_option, option_named}
 use Rattle.gp_words.specs.Reading.{is_equals, is_option_word}
 use Rattle.gp_words.specs.declared.argument.Argument.{Argument}
-use Rattle.gp_words.specs.declared.argument.Argument.TheVariants.{Task, Workers, Budget, Report, Seed, Threads, Events, As, Window, Property, Instance, Most}
+use Rattle.gp_words.specs.declared.argument.Argument.TheVariants.{Task, Workers, Budget, Report, Seed, Threads, Events, As, Window, Property, Instance, Most, Part, Of}
 use Rattle.gp_words.specs.declared.argument.Program.{Program}
-use Rattle.gp_words.specs.declared.argument.Program.TheVariants.{Gpredict, Gpshow}
+use Rattle.gp_words.specs.declared.argument.Program.TheVariants.{Gpredict, Gpshow, Gpshards}
 
 -- a hyphen and more, which does not end the options and has no equals sign
 abbrev pub is_name : List ℕ → Bool
@@ -53,6 +53,14 @@ gpshow_names name =
     (first_name name (codes "--most") Most _ refl
     (λ option is. absurd (none-some option is))))))
 
+gpshards_names : AreNames gpshards_option
+gpshards_names name =
+    first_name name (codes "--task") Task _ refl
+    (first_name name (codes "--part") Part _ refl
+    (first_name name (codes "--of") Of _ refl
+    (λ option is. absurd (none-some option is))))
+
 pub are_names : (program : Program) → AreNames (option_named program)
 are_names Gpredict name option is = gpredict_names name option is
 are_names Gpshow name option is = gpshow_names name option is
+are_names Gpshards name option is = gpshards_names name option is

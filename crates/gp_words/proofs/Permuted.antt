@@ -9,14 +9,15 @@ use Rattle.std.proofs.lemmas.List.Recursion.{is_sum_by}
 use Rattle.std.proofs.lemmas.List.Sorted.{All-permutation, sum_by-IsPermutation}
 use Rattle.gp_words.specs.Argument.{same_argument}
 use Rattle.gp_words.specs.Command.{command_of}
-use Rattle.gp_words.specs.Order.{AnyOrder, IsAnyOrder}
+use Rattle.gp_words.specs.Order.{AnyOrder, IsAnyOrder, IsAnyOrderOfOptions}
 use Rattle.gp_words.specs.Reading.{GivenForm, given_of}
+use Rattle.gp_words.specs.Sharding.{shard_command_of}
 use Rattle.gp_words.specs.Showing.{show_command_of}
-use Rattle.gp_words.specs.Value.{at_most_one, value_of, values_of}
+use Rattle.gp_words.specs.Value.{all_values_of, at_most_one, value_of, values_of}
 use Rattle.gp_words.specs.declared.argument.Argument.{Argument}
 use Rattle.gp_words.specs.declared.argument.Argument.TheVariants as argument
 use Rattle.gp_words.specs.declared.argument.Program.{Program}
-use Rattle.gp_words.specs.declared.argument.Program.TheVariants.{Gpredict, Gpshow}
+use Rattle.gp_words.specs.declared.argument.Program.TheVariants.{Gpredict, Gpshow, Gpshards}
 
 -- given to this argument
 abbrev is_for : Argument → GivenForm → Bool
@@ -104,5 +105,16 @@ gpshow words others given moved read other permuted =
     rw (same argument.As) (rw (same argument.Folder) (rw (same argument.Window) (rw (same argument.Property) (rw (same argument.Instance)
     (rw (same argument.Most) refl)))))
 
+-- the folders, in one order
+same_folders : (words others : List (List ℕ)) (given moved : List GivenForm)
+    → given_of Gpshards words ≡ Some given → given_of Gpshards others ≡ Some moved → values_of argument.Folder given ≡ values_of argument.Folder moved
+    → all_values_of Gpshards argument.Folder words ≡ all_values_of Gpshards argument.Folder others
+same_folders words others given moved read other same = rw read (rw other (ap Some same))
+
+gpshards : IsAnyOrderOfOptions Gpshards shard_command_of
+gpshards words others given moved read other permuted folders =
+    let same = same_given Gpshards words others given moved read other permuted in
+    rw (same argument.Task) (rw (same argument.Part) (rw (same argument.Of) (rw (same_folders words others given moved read other folders) refl)))
+
 pub any_order_lem : AnyOrder
-any_order_lem = record { gpredict = gpredict; gpshow = gpshow }
+any_order_lem = record { gpredict = gpredict; gpshow = gpshow; gpshards = gpshards }

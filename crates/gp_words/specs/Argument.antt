@@ -2,9 +2,9 @@
 use Rattle.std.specs.Prelude.{ℕ, Bool, true, false, List, Option, Some, None, if◌then◌else◌, codes}
 use Rattle.std.specs.Str.{bytes_eq}
 use Rattle.gp_words.specs.declared.argument.Argument.{Argument}
-use Rattle.gp_words.specs.declared.argument.Argument.TheVariants.{Task, Workers, Budget, Report, Seed, Threads, Events, As, Window, Property, Instance, Most, Folder}
+use Rattle.gp_words.specs.declared.argument.Argument.TheVariants.{Task, Workers, Budget, Report, Seed, Threads, Events, As, Window, Property, Instance, Most, Part, Of, Folder}
 use Rattle.gp_words.specs.declared.argument.Program.{Program}
-use Rattle.gp_words.specs.declared.argument.Program.TheVariants.{Gpredict, Gpshow}
+use Rattle.gp_words.specs.declared.argument.Program.TheVariants.{Gpredict, Gpshow, Gpshards}
 
 -- the option of gpredict that has this name
 abbrev pub gpredict_option : List ℕ → Option Argument
@@ -26,10 +26,18 @@ gpshow_option name =
     else (if bytes_eq name (codes "--instance") then Some Instance
     else (if bytes_eq name (codes "--most") then Some Most else None))))
 
+-- the option of gpshards that has this name
+abbrev pub gpshards_option : List ℕ → Option Argument
+gpshards_option name =
+    if bytes_eq name (codes "--task") then Some Task
+    else (if bytes_eq name (codes "--part") then Some Part
+    else (if bytes_eq name (codes "--of") then Some Of else None))
+
 -- the option of a program that has this name
 abbrev pub option_named : Program → List ℕ → Option Argument
 option_named Gpredict name = gpredict_option name
 option_named Gpshow name = gpshow_option name
+option_named Gpshards name = gpshards_option name
 
 -- whether two arguments are the same
 abbrev pub same_argument : Argument → Argument → Bool
@@ -45,5 +53,7 @@ same_argument Window Window = true
 same_argument Property Property = true
 same_argument Instance Instance = true
 same_argument Most Most = true
+same_argument Part Part = true
+same_argument Of Of = true
 same_argument Folder Folder = true
 same_argument one other = false

@@ -1,5 +1,5 @@
 -- The command that the words of a command line of gpredict are.
-use Rattle.std.specs.Prelude.{ℕ, Bool, not, ◌&&◌, ◌≤◌, nat_le, List, length, Option, Some, None, if◌then◌else◌, codes}
+use Rattle.std.specs.Prelude.{ℕ, Bool, not, ◌&&◌, ◌≤◌, nat_le, List, length, Option, Some, None, option_map, if◌then◌else◌, codes}
 use Rattle.std.specs.Str.{bytes_eq}
 use Rattle.gp_text.specs.Numbers.{between, number_of}
 use Rattle.gp_words.specs.Reading.{if_some}
@@ -75,6 +75,15 @@ or_default default read (Some value) = read value
 -- the number of an option that may be left out
 abbrev pub number_given : Program → Argument → (List ℕ → Option ℕ) → ℕ → List (List ℕ) → Option ℕ
 number_given program option read default words = if_some (value_of program option words) (or_default default read)
+
+-- what the value reads as, where one is given
+abbrev pub if_given : {A : Type 0} → (List ℕ → Option A) → Option (List ℕ) → Option (Option A)
+if_given read None = Some None
+if_given read (Some value) = option_map Some (read value)
+
+-- the number in this range that an option gives, where it is given
+abbrev pub number_asked : Program → Argument → ℕ → ℕ → List (List ℕ) → Option (Option ℕ)
+number_asked program option low high words = if_some (value_of program option words) (if_given (number_in low high))
 
 -- the command that the words are: each argument is tested, also one that the task does not use
 abbrev pub command_of : List (List ℕ) → Option CommandForm

@@ -25,10 +25,10 @@ pub record WordsAreRead : Type 0 where
   pub hyphened : (program : Program) (name value : List ℕ) (option : Argument) (words : List (List ℕ)) → option_named program name ≡ Some option → is_hyphened value ≡ true
       → given_of program (name ∷ value ∷ words) ≡ None
   pub missing : (program : Program) (name : List ℕ) (option : Argument) → option_named program name ≡ Some option → given_of program (name ∷ []) ≡ None
-  -- a word that does not begin with a hyphen, or is that one byte, names the folder
+  -- a word that does not begin with a hyphen, or is that one byte, names a folder
   pub plain : (program : Program) (word : List ℕ) (words : List (List ℕ)) → is_option_word word ≡ false
       → given_of program (word ∷ words) ≡ then_given Folder word (given_of program words)
-  -- `--` ends the options: each word after it names the folder
+  -- `--` ends the options: each word after it names a folder
   pub ended : (program : Program) (words : List (List ℕ))
       → given_of program (codes "--" ∷ words) ≡ Some (map (λ word. record { argument = Folder; value = word }) words)
   -- any other word that begins with a hyphen is refused

@@ -5,3 +5,4 @@ pub mod Command
 pub mod Order
 pub mod Forms
 pub mod Showing
+pub mod Sharding

@@ -11,7 +11,7 @@ use Rattle.gp_words.specs.declared.reading.Expected.TheVariants.{AnyWord, ValueO
 use Rattle.gp_words.specs.declared.reading.Given.{Given}
 use Rattle.gp_words.specs.declared.reading.Reading.{Reading}
 
--- an option with its value, or the folder with the plain word that names it
+-- an option with its value, or a folder with the plain word that names it
 pub record GivenForm : Type 0 where
   pub argument : Argument
   pub value : List ℕ

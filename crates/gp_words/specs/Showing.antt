@@ -1,10 +1,9 @@
 -- What the words of a command line of gpshow ask for.
 use Rattle.std.specs.Prelude.{ℕ, List, Option, Some, None, option_map, if◌then◌else◌, codes}
 use Rattle.std.specs.Str.{bytes_eq}
-use Rattle.gp_words.specs.Command.{folder_of, number_given, number_in}
+use Rattle.gp_words.specs.Command.{folder_of, number_asked, number_given, number_in}
 use Rattle.gp_words.specs.Reading.{if_some}
 use Rattle.gp_words.specs.Value.{value_of}
-use Rattle.gp_words.specs.declared.argument.Argument.{Argument}
 use Rattle.gp_words.specs.declared.argument.Argument.TheVariants as argument
 use Rattle.gp_words.specs.declared.argument.Program.TheVariants.{Gpshow}
 use Rattle.gp_words.specs.declared.showing.ShowCommand.{ShowCommand}
@@ -36,11 +35,6 @@ show_form command = record {
 abbrev pub style_named : List ℕ → Option Style
 style_named name = if bytes_eq name (codes "text") then Some Text else (if bytes_eq name (codes "html") then Some Page else None)
 
--- what the value reads as, where one is given
-abbrev pub if_given : {A : Type 0} → (List ℕ → Option A) → Option (List ℕ) → Option (Option A)
-if_given read None = Some None
-if_given read (Some value) = option_map Some (read value)
-
 -- the style, which is text where none is given
 abbrev pub style_or_text : Option (List ℕ) → Option Style
 style_or_text None = Some Text
@@ -49,17 +43,13 @@ style_or_text (Some name) = style_named name
 abbrev pub style_of : List (List ℕ) → Option Style
 style_of words = if_some (value_of Gpshow argument.As words) style_or_text
 
--- the number in this range that an option gives, where it is given
-abbrev pub number_asked : Argument → ℕ → ℕ → List (List ℕ) → Option (Option ℕ)
-number_asked option low high words = if_some (value_of Gpshow option words) (if_given (number_in low high))
-
 -- the command that the words are
 abbrev pub show_command_of : List (List ℕ) → Option ShowForm
 show_command_of words =
     if_some (style_of words) (λ style.
     if_some (folder_of Gpshow words) (λ folder.
-    if_some (number_asked argument.Window 1 4096 words) (λ window.
+    if_some (number_asked Gpshow argument.Window 1 4096 words) (λ window.
     if_some (value_of Gpshow argument.Property words) (λ property.
-    if_some (number_asked argument.Instance 0 9999 words) (λ instance.
+    if_some (number_asked Gpshow argument.Instance 0 9999 words) (λ instance.
     if_some (number_given Gpshow argument.Most (number_in 1 10000) 100 words) (λ most.
     Some (record { style = style; folder = folder; window = window; property = property; instance = instance; most = most })))))))

@@ -1,5 +1,6 @@
 -- The value that the words give an argument.
-use Rattle.std.specs.Prelude.{ℕ, List, [], ◌∷◌, Option, Some, None, if◌then◌else◌}
+use Rattle.std.specs.Prelude.{ℕ, List, [], ◌∷◌, Option, Some, None, if◌then◌else◌, map, option_map}
+use Rattle.std.specs.Borrow.{Bor}
 use Rattle.std.specs.List.{filter_map}
 use Rattle.gp_words.specs.Argument.{same_argument}
 use Rattle.gp_words.specs.Reading.{GivenForm, given_of, if_some, with_given}
@@ -32,3 +33,15 @@ after_value (Some value) values = value ∷ values
 -- the value so far, or the one that a word gives; both are refused
 abbrev pub value_now : Argument → Option (List ℕ) → Option GivenForm → Option (Option (List ℕ))
 value_now argument value given = at_most_one (after_value value (values_of argument (with_given given [])))
+
+-- all values that the words give an argument, in order; refused where the words are
+abbrev pub all_values_of : Program → Argument → List (List ℕ) → Option (List (List ℕ))
+all_values_of program argument words = option_map (values_of argument) (given_of program words)
+
+-- the values that a word gives an argument, none or one
+abbrev pub values_in : Argument → Option GivenForm → List (List ℕ)
+values_in argument given = values_of argument (with_given given [])
+
+-- what contracts see of lent texts
+abbrev pub lent_texts : List (Bor (List ℕ)) → List (List ℕ)
+lent_texts texts = map (λ text. text.now) texts

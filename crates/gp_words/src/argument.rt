@@ -1,14 +1,16 @@
 ghost use Rattle.std.specs.Prelude.{◌≡◌};
-ghost use Rattle.gp_words.specs.Argument.{gpredict_option, gpshow_option, option_named};
+ghost use Rattle.gp_words.specs.Argument.{gpredict_option, gpshards_option, gpshow_option, option_named};
 
 /// Whose command line it is.
 #[derive(Clone, Copy, Debug, PartialEq, Eq)]
 pub enum Program {
     Gpredict,
     Gpshow,
+    Gpshards,
 }
 
-/// What the words of a command line may give: the values of seven options of gpredict or of five of gpshow, and the folder.
+/// What the words of a command line may give: the values of seven options of gpredict, of five of gpshow or of three of gpshards, and
+/// folders.
 #[derive(Clone, Copy, Debug, PartialEq, Eq)]
 pub enum Argument {
     Task,
@@ -23,7 +25,9 @@ pub enum Argument {
     Property,
     Instance,
     Most,
-    /// The one plain word.
+    Part,
+    Of,
+    /// A plain word: the one of gpredict and of gpshow, and each of gpshards.
     Folder,
 }
 
@@ -34,6 +38,7 @@ pub fn option_named(program: Program, name: &str) -> Option<Argument>
     match program {
         Program::Gpredict => gpredict_option(name),
         Program::Gpshow => gpshow_option(name),
+        Program::Gpshards => gpshards_option(name),
     }
 }
 
@@ -61,6 +66,17 @@ fn gpshow_option(name: &str) -> Option<Argument>
         "--property" => Some(Argument::Property),
         "--instance" => Some(Argument::Instance),
         "--most" => Some(Argument::Most),
+        _ => None,
+    }
+}
+
+fn gpshards_option(name: &str) -> Option<Argument>
+    ensures { result ≡ gpshards_option name.now }
+{
+    match name {
+        "--task" => Some(Argument::Task),
+        "--part" => Some(Argument::Part),
+        "--of" => Some(Argument::Of),
         _ => None,
     }
 }

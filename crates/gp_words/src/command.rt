@@ -94,7 +94,8 @@ pub fn folder_of(words: &[String], program: Program) -> Option<&str>
     value_of(words, program, Argument::Folder)?.filter(|name| is_folder(name))
 }
 
-fn is_folder(name: &str) -> bool
+/// Whether a folder may have this name.
+pub fn is_folder(name: &str) -> bool
     ensures { result ≡ is_folder name.now }
 {
     !name.is_empty() && name.len() <= LONGEST_FOLDER && name != "-"

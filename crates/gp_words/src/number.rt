@@ -1,6 +1,6 @@
 ghost use Rattle.std.specs.Prelude.{◌≡◌, ◌≤◌, IfSome, map, string_bytes};
 ghost use Rattle.gp_text.specs.Numbers.{number_of};
-ghost use Rattle.gp_words.specs.Command.{number_given, number_in};
+ghost use Rattle.gp_words.specs.Command.{number_asked, number_given, number_in};
 ghost use Rattle.gp_words.specs.declared.argument.Argument.TheVariants.{Seed};
 ghost use Rattle.gp_words.specs.declared.argument.Program.TheVariants.{Gpredict};
 
@@ -29,6 +29,22 @@ pub fn number(words: &[String], program: Program, setting: Setting) -> Option<u3
     match value_of(words, program, setting.option)? {
         None => Some(setting.usual),
         Some(digits) => between(setting.low, setting.high, read_u32(digits.as_bytes())),
+    }
+}
+
+/// The number in this range, both ends included, that an option gives, where it is given.
+pub fn number_asked(
+    words: &[String],
+    program: Program,
+    option: Argument,
+    low: u32,
+    high: u32,
+) -> Option<Option<u32>>
+    ensures { result ≡ number_asked program option low high (map string_bytes words.now) }
+{
+    match value_of(words, program, option)? {
+        None => Some(None),
+        Some(digits) => between(low, high, read_u32(digits.as_bytes())).map(Some),
     }
 }
 

@@ -14,7 +14,7 @@ pub enum Expected {
     PlainWord,
 }
 
-/// An option with its value, or the folder with the plain word that names it.
+/// An option with its value, or a folder with the plain word that names it.
 #[derive(Clone, Copy, Debug)]
 pub struct Given<'a> {
     pub argument: Argument,

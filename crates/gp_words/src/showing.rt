@@ -1,11 +1,10 @@
 ghost use Rattle.std.specs.Prelude.{◌≡◌, map, option_map, string_bytes};
-ghost use Rattle.gp_words.specs.Showing.{number_asked, show_command_of, show_form, style_named, style_of};
+ghost use Rattle.gp_words.specs.Showing.{show_command_of, show_form, style_named, style_of};
 
 use crate::argument::{Argument, Program};
 use crate::command::folder_of;
-use crate::number::{Setting, number};
+use crate::number::{Setting, number, number_asked};
 use crate::value::value_of;
-use gp_text::{between, read_u32};
 
 const MOST: Setting = Setting {
     option: Argument::Most,
@@ -46,9 +45,9 @@ pub fn show_command_of(words: &[String]) -> Option<ShowCommand<'_>>
     Some(ShowCommand {
         style: style_of(words)?,
         folder: folder_of(words, Program::Gpshow)?,
-        window: number_asked(words, Argument::Window, 1, 4096)?,
+        window: number_asked(words, Program::Gpshow, Argument::Window, 1, 4096)?,
         property: value_of(words, Program::Gpshow, Argument::Property)?,
-        instance: number_asked(words, Argument::Instance, 0, 9999)?,
+        instance: number_asked(words, Program::Gpshow, Argument::Instance, 0, 9999)?,
         most: number(words, Program::Gpshow, MOST)?,
     })
 }
@@ -69,15 +68,5 @@ fn style_named(name: &str) -> Option<Style>
         "text" => Some(Style::Text),
         "html" => Some(Style::Page),
         _ => None,
-    }
-}
-
-/// The number in this range, both ends included, that an option gives, where it is given.
-fn number_asked(words: &[String], option: Argument, low: u32, high: u32) -> Option<Option<u32>>
-    ensures { result ≡ number_asked option low high (map string_bytes words.now) }
-{
-    match value_of(words, Program::Gpshow, option)? {
-        None => Some(None),
-        Some(digits) => between(low, high, read_u32(digits.as_bytes())).map(Some),
     }
 }

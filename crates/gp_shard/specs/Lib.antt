@@ -1,0 +1,4 @@
+pub mod Shard
+pub mod Reading
+pub mod Laws
+pub mod Examples

@@ -11,4 +11,4 @@ pub use laws::{
     cut_windows_are_the_same, cuts_are_recordings, cuts_examples, parts_are_even, parts_are_whole,
     parts_examples,
 };
-pub use parting::{Part, part_of};
+pub use parting::{Part, part_of, segment_after};

@@ -81,7 +81,7 @@ fn events_in(trace: &LocalTrace, before: u32) -> u64
 }
 
 /// The segment of a trace that has so many before it; no events where there is none.
-fn segment_after(before: usize, trace: &LocalTrace) -> &[Event]
+pub fn segment_after(before: usize, trace: &LocalTrace) -> &[Event]
     ensures value { result.now ≡ segment_after before trace.now }
     ensures rules { IsLocalTrace trace.now }
 {

@@ -1,0 +1,5 @@
+pub mod CutFiles
+pub mod Examples
+pub mod ManifestText
+pub mod Reading
+pub mod Values

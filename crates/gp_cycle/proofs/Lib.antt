@@ -1,0 +1,9 @@
+pub mod Counted
+pub mod Derived
+pub mod Found
+pub mod Leveled
+pub mod Linked
+pub mod Passing
+pub mod Swept
+pub mod Tried
+pub mod Spared

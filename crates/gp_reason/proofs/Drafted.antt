@@ -7,6 +7,7 @@ use Rattle.std.proofs.lemmas.Iterator.Adapters.{position_from-zero}
 use Rattle.std.proofs.lemmas.List.{append-nil, get_or_append_left, get_or_past, get_or_push, length-replicate, length_push}
 use Rattle.std.proofs.lemmas.List.Elements.{filter-append}
 use Rattle.gp_certificate.specs.declared.step.Step.{Step}
+use Rattle.gp_clause.specs.declared.lit.Lit.{Lit}
 use Rattle.gp_constraint.specs.declared.symbol.Symbol.{Symbol}
 use Rattle.gp_window.specs.WindowForm.{WindowForm}
 use Rattle.gp_reason.specs.declared.reasons.ReasonStep.{ReasonStep}
@@ -95,24 +96,24 @@ told_place places before step count number same own known =
         ∙ sym (place_more before step number)
 
 -- what some steps add to a draft
-pub record AreTold (window : WindowForm) (names : List Symbol) (draft after : Draft) (before more : List NumberedStep) (start count : ℕ) : Type 0 where
-  pub steps : after.steps ≡ draft.steps ++ steps_from window names before more
+pub record AreTold (window : WindowForm) (names : List Symbol) (clauses : List (List Lit)) (draft after : Draft) (before more : List NumberedStep) (start count : ℕ) : Type 0 where
+  pub steps : after.steps ≡ draft.steps ++ steps_from window names clauses before more
   pub drafted : IsDrafted after (before ++ more)
   pub size : length after.places ≡ start + count
 
-told_where : (window : WindowForm) (names : List Symbol) (marks : List Bool) (first start : ℕ) (draft : Draft) (before : List NumberedStep) (step : Step) (steps : List Step)
+told_where : (window : WindowForm) (names : List Symbol) (clauses : List (List Lit)) (marks : List Bool) (first start : ℕ) (draft : Draft) (before : List NumberedStep) (step : Step) (steps : List Step)
     → IsDrafted draft before → length draft.places ≡ start
     → ((next : Draft) (told : List NumberedStep) → IsDrafted next told → length next.places ≡ suc start
-    → AreTold window names next (after_steps window names marks next steps) told (marked_among marks (numbered_from first (suc start) steps)) (suc start) (length steps))
+    → AreTold window names clauses next (after_steps window names clauses marks next steps) told (marked_among marks (numbered_from first (suc start) steps)) (suc start) (length steps))
     → (b : Bool) → is_marked marks start ≡ b
-    → AreTold window names draft (after_steps window names marks (after_step window names b draft step) steps) before
+    → AreTold window names clauses draft (after_steps window names clauses marks (after_step window names clauses b draft step) steps) before
     (marked_among marks (numbered_from first start (step ∷ steps))) start (suc (length steps))
-told_where window names marks first start draft before step steps drafted size rest true on =
+told_where window names clauses marks first start draft before step steps drafted size rest true on =
     record {
       steps =
-          more.steps ∙ append_assoc draft.steps (made ∷ []) (steps_from window names (before ++ own ∷ []) those)
-          ∙ ap (λ (one : ReasonStep). draft.steps ++ one ∷ steps_from window names (before ++ own ∷ []) those) is_own
-          ∙ ap (λ (list : List NumberedStep). draft.steps ++ steps_from window names before list) (sym grown);
+          more.steps ∙ append_assoc draft.steps (made ∷ []) (steps_from window names clauses (before ++ own ∷ []) those)
+          ∙ ap (λ (one : ReasonStep). draft.steps ++ one ∷ steps_from window names clauses (before ++ own ∷ []) those) is_own
+          ∙ ap (λ (list : List NumberedStep). draft.steps ++ steps_from window names clauses before list) (sym grown);
       drafted = subst (IsDrafted after) (append_assoc before (own ∷ []) those ∙ ap (λ (list : List NumberedStep). before ++ list) (sym grown)) more.drafted;
       size = let all = more.size in omega (arith, all);
     }
@@ -124,15 +125,15 @@ told_where window names marks first start draft before step steps drafted size r
     those = marked_among marks (numbered_from first (suc start) steps)
 
     made : ReasonStep
-    made = step_of window names (place_at draft.places) (length draft.places) step
+    made = step_of window names clauses (place_at draft.places) (length draft.places) step
 
     next : Draft
-    next = after_step window names true draft step
+    next = after_step window names clauses true draft step
 
     after : Draft
-    after = after_steps window names marks next steps
+    after = after_steps window names clauses marks next steps
 
-    more : AreTold window names next after (before ++ own ∷ []) those (suc start) (length steps)
+    more : AreTold window names clauses next after (before ++ own ∷ []) those (suc start) (length steps)
     more = rest next (before ++ own ∷ [])
         (record {
           count = length_push draft.steps made ∙ ap (λ n. n + 1) drafted.count ∙ sym (length_push before own);
@@ -143,15 +144,15 @@ told_where window names marks first start draft before step steps drafted size r
     alike : place_at draft.places ≡ place_of before
     alike = λ i. λ number. drafted.places number i
 
-    is_own : made ≡ step_of window names (place_of before) start step
-    is_own = ap (λ (place : ℕ → Option ℕ). step_of window names place (length draft.places) step) alike
-        ∙ ap (λ (n : ℕ). step_of window names (place_of before) n step) size
+    is_own : made ≡ step_of window names clauses (place_of before) start step
+    is_own = ap (λ (place : ℕ → Option ℕ). step_of window names clauses place (length draft.places) step) alike
+        ∙ ap (λ (n : ℕ). step_of window names clauses (place_of before) n step) size
 
     grown : marked_among marks (numbered_from first start (step ∷ steps)) ≡ own ∷ those
     grown = ap (λ b. if b then own ∷ those else those) on
-told_where window names marks first start draft before step steps drafted size rest false off =
+told_where window names clauses marks first start draft before step steps drafted size rest false off =
     record {
-      steps = more.steps ∙ ap (λ (list : List NumberedStep). draft.steps ++ steps_from window names before list) (sym without);
+      steps = more.steps ∙ ap (λ (list : List NumberedStep). draft.steps ++ steps_from window names clauses before list) (sym without);
       drafted = subst (λ (list : List NumberedStep). IsDrafted after (before ++ list)) (sym without) more.drafted;
       size = let all = more.size in omega (arith, all);
     }
@@ -163,12 +164,12 @@ told_where window names marks first start draft before step steps drafted size r
     those = marked_among marks (numbered_from first (suc start) steps)
 
     next : Draft
-    next = after_step window names false draft step
+    next = after_step window names clauses false draft step
 
     after : Draft
-    after = after_steps window names marks next steps
+    after = after_steps window names clauses marks next steps
 
-    more : AreTold window names next after before those (suc start) (length steps)
+    more : AreTold window names clauses next after before those (suc start) (length steps)
     more = rest next before
         (record { count = drafted.count; places = λ number. untold draft.places number ∙ drafted.places number })
         (let longer = length_push draft.places None in omega (arith, longer, size))
@@ -176,30 +177,30 @@ told_where window names marks first start draft before step steps drafted size r
     without : marked_among marks (numbered_from first start (step ∷ steps)) ≡ those
     without = ap (λ b. if b then own ∷ those else those) off
 
-told_all : (window : WindowForm) (names : List Symbol) (marks : List Bool) (first start : ℕ) (draft : Draft) (before : List NumberedStep) (steps : List Step)
+told_all : (window : WindowForm) (names : List Symbol) (clauses : List (List Lit)) (marks : List Bool) (first start : ℕ) (draft : Draft) (before : List NumberedStep) (steps : List Step)
     → IsDrafted draft before → length draft.places ≡ start
-    → AreTold window names draft (after_steps window names marks draft steps) before (marked_among marks (numbered_from first start steps)) start (length steps)
-told_all window names marks first start draft before [] drafted size =
+    → AreTold window names clauses draft (after_steps window names clauses marks draft steps) before (marked_among marks (numbered_from first start steps)) start (length steps)
+told_all window names clauses marks first start draft before [] drafted size =
     record {
       steps = sym (append-nil draft.steps);
       drafted = subst (IsDrafted draft) (sym (append-nil before)) drafted;
       size = omega (arith, size);
     }
-told_all window names marks first start draft before (step ∷ steps) drafted size =
-    subst (λ (n : ℕ). AreTold window names draft (after_steps window names marks (after_step window names (is_marked marks n) draft step) steps) before
+told_all window names clauses marks first start draft before (step ∷ steps) drafted size =
+    subst (λ (n : ℕ). AreTold window names clauses draft (after_steps window names clauses marks (after_step window names clauses (is_marked marks n) draft step) steps) before
     (marked_among marks (numbered_from first start (step ∷ steps))) start (suc (length steps)))
     (sym size)
-    (told_where window names marks first start draft before step steps drafted size
-    (λ next told is length_is. told_all window names marks first (suc start) next told steps is length_is) (is_marked marks start) refl)
+    (told_where window names clauses marks first start draft before step steps drafted size
+    (λ next told is length_is. told_all window names clauses marks first (suc start) next told steps is length_is) (is_marked marks start) refl)
 
 -- steps behind others
-steps_append : (window : WindowForm) (names : List Symbol) (before front back : List NumberedStep)
-    → steps_from window names before (front ++ back) ≡ steps_from window names before front ++ steps_from window names (before ++ front) back
-steps_append window names before [] back = ap (λ (list : List NumberedStep). steps_from window names list back) (sym (append-nil before))
-steps_append window names before (told ∷ front) back =
-    ap (λ (rest : List ReasonStep). step_of window names (place_of before) told.number told.step ∷ rest)
-    (steps_append window names (before ++ told ∷ []) front back
-    ∙ ap (λ (list : List NumberedStep). steps_from window names (before ++ told ∷ []) front ++ steps_from window names list back) (append_assoc before (told ∷ []) front))
+steps_append : (window : WindowForm) (names : List Symbol) (clauses : List (List Lit)) (before front back : List NumberedStep)
+    → steps_from window names clauses before (front ++ back) ≡ steps_from window names clauses before front ++ steps_from window names clauses (before ++ front) back
+steps_append window names clauses before [] back = ap (λ (list : List NumberedStep). steps_from window names clauses list back) (sym (append-nil before))
+steps_append window names clauses before (told ∷ front) back =
+    ap (λ (rest : List ReasonStep). step_of window names clauses (place_of before) told.number told.step ∷ rest)
+    (steps_append window names clauses (before ++ told ∷ []) front back
+    ∙ ap (λ (list : List NumberedStep). steps_from window names clauses (before ++ told ∷ []) front ++ steps_from window names clauses list back) (append_assoc before (told ∷ []) front))
 
 no_place : (count number : ℕ) → place_at (replicate count None) number ≡ None
 no_place zero number = refl
@@ -210,35 +211,35 @@ pub first_draft_is : (base : ℕ) → IsDrafted (first_draft base) []
 first_draft_is base = record { count = refl; places = no_place base }
 
 -- what is told of the shared steps and then of the own ones
-pub steps_told : (window : WindowForm) (names : List Symbol) (marks : List Bool) (base : ℕ) (shared own : List Step)
+pub steps_told : (window : WindowForm) (names : List Symbol) (clauses : List (List Lit)) (marks : List Bool) (base : ℕ) (shared own : List Step)
     → marked_among marks (all_steps base shared own) ≡ told_of base shared own
-    → (after_steps window names marks (after_steps window names marks (first_draft base) shared) own).steps ≡ steps_from window names [] (told_of base shared own)
-steps_told window names marks base shared own marked =
+    → (after_steps window names clauses marks (after_steps window names clauses marks (first_draft base) shared) own).steps ≡ steps_from window names clauses [] (told_of base shared own)
+steps_told window names clauses marks base shared own marked =
     second.steps
-    ∙ ap (λ (front : List ReasonStep). front ++ steps_from window names those (marked_among marks (numbered (base + length shared) own))) first.steps
-    ∙ sym (steps_append window names [] those (marked_among marks (numbered (base + length shared) own)))
-    ∙ ap (steps_from window names []) (sym (filter-append (λ (step : NumberedStep). is_marked marks step.number) (numbered base shared) (numbered (base + length shared) own)) ∙ marked)
+    ∙ ap (λ (front : List ReasonStep). front ++ steps_from window names clauses those (marked_among marks (numbered (base + length shared) own))) first.steps
+    ∙ sym (steps_append window names clauses [] those (marked_among marks (numbered (base + length shared) own)))
+    ∙ ap (steps_from window names clauses []) (sym (filter-append (λ (step : NumberedStep). is_marked marks step.number) (numbered base shared) (numbered (base + length shared) own)) ∙ marked)
   where
     those : List NumberedStep
     those = marked_among marks (numbered base shared)
 
     behind : Draft
-    behind = after_steps window names marks (first_draft base) shared
+    behind = after_steps window names clauses marks (first_draft base) shared
 
-    first : AreTold window names (first_draft base) behind [] those base (length shared)
-    first = told_all window names marks base base (first_draft base) [] shared (first_draft_is base) (length-replicate base None)
+    first : AreTold window names clauses (first_draft base) behind [] those base (length shared)
+    first = told_all window names clauses marks base base (first_draft base) [] shared (first_draft_is base) (length-replicate base None)
 
-    second : AreTold window names behind (after_steps window names marks behind own) those (marked_among marks (numbered (base + length shared) own)) (base + length shared) (length own)
-    second = told_all window names marks (base + length shared) (base + length shared) behind those own first.drafted first.size
+    second : AreTold window names clauses behind (after_steps window names clauses marks behind own) those (marked_among marks (numbered (base + length shared) own)) (base + length shared) (length own)
+    second = told_all window names clauses marks (base + length shared) (base + length shared) behind those own first.drafted first.size
 
 -- the same of drafts that were made so, one after the other
-pub steps_are : (window : WindowForm) (names : List Symbol) (marks one other : List Bool) (base count : ℕ) (shared own : List Step) (draft behind whole : Draft) (steps : List ReasonStep)
-    → base ≡ count → one ≡ marks → other ≡ marks → draft ≡ first_draft base → behind ≡ after_steps window names one draft shared → whole ≡ after_steps window names other behind own
-    → steps ≡ whole.steps → marked_among marks (all_steps base shared own) ≡ told_of base shared own → steps ≡ steps_from window names [] (told_of count shared own)
-steps_are window names marks one other base count shared own draft behind whole steps counted first second begun more all out marked =
-    let front : behind ≡ after_steps window names marks (first_draft base) shared =
-    more ∙ ap (λ (m : List Bool). after_steps window names m draft shared) first ∙ ap (λ (d : Draft). after_steps window names marks d shared) begun in
-    let both : whole ≡ after_steps window names marks (after_steps window names marks (first_draft base) shared) own =
-    all ∙ ap (λ (m : List Bool). after_steps window names m behind own) second ∙ ap (λ (d : Draft). after_steps window names marks d own) front in
-    out ∙ ap (λ (d : Draft). d.steps) both ∙ steps_told window names marks base shared own marked
-    ∙ ap (λ (b : ℕ). steps_from window names [] (told_of b shared own)) counted
+pub steps_are : (window : WindowForm) (names : List Symbol) (clauses : List (List Lit)) (marks one other : List Bool) (base count : ℕ) (shared own : List Step) (draft behind whole : Draft) (steps : List ReasonStep)
+    → base ≡ count → one ≡ marks → other ≡ marks → draft ≡ first_draft base → behind ≡ after_steps window names clauses one draft shared → whole ≡ after_steps window names clauses other behind own
+    → steps ≡ whole.steps → marked_among marks (all_steps base shared own) ≡ told_of base shared own → steps ≡ steps_from window names clauses [] (told_of count shared own)
+steps_are window names clauses marks one other base count shared own draft behind whole steps counted first second begun more all out marked =
+    let front : behind ≡ after_steps window names clauses marks (first_draft base) shared =
+    more ∙ ap (λ (m : List Bool). after_steps window names clauses m draft shared) first ∙ ap (λ (d : Draft). after_steps window names clauses marks d shared) begun in
+    let both : whole ≡ after_steps window names clauses marks (after_steps window names clauses marks (first_draft base) shared) own =
+    all ∙ ap (λ (m : List Bool). after_steps window names clauses m behind own) second ∙ ap (λ (d : Draft). after_steps window names clauses marks d own) front in
+    out ∙ ap (λ (d : Draft). d.steps) both ∙ steps_told window names clauses marks base shared own marked
+    ∙ ap (λ (b : ℕ). steps_from window names clauses [] (told_of b shared own)) counted

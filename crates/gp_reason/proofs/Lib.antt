@@ -1,4 +1,5 @@
 pub mod Assumed
+pub mod Circled
 pub mod Drafted
 pub mod Enough
 pub mod FamiliesTold

@@ -5,10 +5,13 @@ use Rattle.std.specs.List.{AllByRecursion, list_any}
 use Rattle.std.proofs.lemmas.Bool.{or_cases, or_left, or_right}
 use Rattle.gp_base.specs.ListLaws.{first_or_rest, here, nothing_in, pairwise_append, Pairwise, recursion_at, recursion_from_each, there}
 use Rattle.gp_certificate.specs.declared.step.Step.{Step}
+use Rattle.gp_clause.specs.declared.lit.Lit.{Lit}
 use Rattle.gp_constraint.specs.declared.symbol.Symbol.{Symbol}
+use Rattle.gp_window.specs.declared.schedule.EventId.{EventId}
 use Rattle.gp_window.specs.WindowForm.{WindowForm}
 use Rattle.gp_reason.specs.declared.fact.Fact.{Fact}
 use Rattle.gp_reason.specs.declared.reasons.ReasonStep.{ReasonStep}
+use Rattle.gp_reason.specs.Cycles.{cycle_told}
 use Rattle.gp_reason.specs.Facts.{facts_of}
 use Rattle.gp_reason.specs.Laws.{last_step, RestsOn}
 use Rattle.gp_reason.specs.Laws.RestsOn.{cited, itself}
@@ -211,17 +214,23 @@ all base shared front last step rests =
     (subst (λ (list : List NumberedStep). Pairwise Rises list → RestsOn list (last_step base shared front last) step → Contains (told_among list) step) (sym (ended base shared front last))
     (all_told (numbered base shared ++ numbered (base + length shared) front) (last_step base shared front last) step) (all_rise base shared (front ++ last ∷ [])) rests)
 
--- the steps of a reason have the numbers of those that are told, and say what their clauses do
-pub numbers_told : (window : WindowForm) (names : List Symbol) (before told : List NumberedStep)
-    → map (λ (step : ReasonStep). step.number) (steps_from window names before told) ≡ map (λ (step : NumberedStep). step.number) told
-numbers_told window names before [] = refl
-numbers_told window names before (step ∷ told) = ap (λ (rest : List ℕ). step.number ∷ rest) (numbers_told window names (before ++ step ∷ []) told)
+-- the steps of a reason have the numbers of those that are told, say what their clauses do, and have their cycles
+pub numbers_told : (window : WindowForm) (names : List Symbol) (clauses : List (List Lit)) (before told : List NumberedStep)
+    → map (λ (step : ReasonStep). step.number) (steps_from window names clauses before told) ≡ map (λ (step : NumberedStep). step.number) told
+numbers_told window names clauses before [] = refl
+numbers_told window names clauses before (step ∷ told) = ap (λ (rest : List ℕ). step.number ∷ rest) (numbers_told window names clauses (before ++ step ∷ []) told)
 
-pub says_told : (window : WindowForm) (names : List Symbol) (before told : List NumberedStep)
-    → map (λ (step : ReasonStep). step.says) (steps_from window names before told) ≡ map (λ (step : NumberedStep). facts_of window names step.step.clause) told
-says_told window names before [] = refl
-says_told window names before (step ∷ told) =
-    ap (λ (rest : List (List Fact)). facts_of window names step.step.clause ∷ rest) (says_told window names (before ++ step ∷ []) told)
+pub says_told : (window : WindowForm) (names : List Symbol) (clauses : List (List Lit)) (before told : List NumberedStep)
+    → map (λ (step : ReasonStep). step.says) (steps_from window names clauses before told) ≡ map (λ (step : NumberedStep). facts_of window names step.step.clause) told
+says_told window names clauses before [] = refl
+says_told window names clauses before (step ∷ told) =
+    ap (λ (rest : List (List Fact)). facts_of window names step.step.clause ∷ rest) (says_told window names clauses (before ++ step ∷ []) told)
+
+pub cycles_told : (window : WindowForm) (names : List Symbol) (clauses : List (List Lit)) (before told : List NumberedStep)
+    → map (λ (step : ReasonStep). step.cycle) (steps_from window names clauses before told) ≡ map (λ (step : NumberedStep). cycle_told window names clauses step.number step.step) told
+cycles_told window names clauses before [] = refl
+cycles_told window names clauses before (step ∷ told) =
+    ap (λ (rest : List (List EventId)). cycle_told window names clauses step.number step.step ∷ rest) (cycles_told window names clauses (before ++ step ∷ []) told)
 
 -- some steps end with a last one
 pub ends_with : (step : Step) (steps : List Step) → (front : List Step) × (last : Step) × (step ∷ steps ≡ front ++ last ∷ [])

@@ -71,8 +71,12 @@ guarded = record {
 abbrev pub reversed : List EventId
 reversed = at 2 1 ∷ at 1 0 ∷ []
 
+-- the work of thread 2 before that of thread 1, and the flag before its read
+abbrev pub round : List EventId
+round = at 2 1 ∷ at 1 0 ∷ at 1 1 ∷ at 2 0 ∷ []
+
 pub record ExamplesHold : Type 0 where
-  -- one step, by the clauses that it cites; a hint that cites nothing is left out
+  -- one step, by the clauses that it cites, which force a cycle; a hint that cites nothing is left out
   pub flag : reason_of flagged in_turn reversed [] (record { steps = step (not_so 3 ∷ so 6 ∷ []) (1 ∷ 2 ∷ 40 ∷ 4 ∷ []) ∷ [] }) ≡ record {
     assumed = Executed (at 2 1) ∷ Before (at 2 1) (at 1 0) ∷ [];
     steps = record {
@@ -81,9 +85,11 @@ pub record ExamplesHold : Type 0 where
       grounds = Base ProgramOrder (Executed (at 2 0) ∷ NotExecuted (at 2 1) ∷ [])
           ∷ Base Read (NotExecuted (at 2 0) ∷ Sees (at 2 0) (at 1 1) ∷ [])
           ∷ Base Choice (NotSees (at 2 0) (at 1 1) ∷ Before (at 1 1) (at 2 0) ∷ []) ∷ [];
+      cycle = round;
     } ∷ [];
   }
-  -- of two shared steps the one that is cited is told, and the steps that are told count without the other
+  -- of two shared steps the one that is cited is told, and the steps that are told count without the other. By the first two steps a
+  -- clause becomes false
   pub shared : reason_of flagged in_turn reversed (step (not_so 2 ∷ so 1 ∷ []) (2 ∷ 3 ∷ []) ∷ step (not_so 2 ∷ so 5 ∷ []) (2 ∷ 4 ∷ []) ∷ [])
       (record { steps = step (not_so 3 ∷ so 5 ∷ []) (1 ∷ 6 ∷ []) ∷ step (not_so 3 ∷ so 6 ∷ []) (7 ∷ []) ∷ [] }) ≡ record {
         assumed = Executed (at 2 1) ∷ Before (at 2 1) (at 1 0) ∷ [];
@@ -91,15 +97,17 @@ pub record ExamplesHold : Type 0 where
           number = 6;
           says = NotExecuted (at 2 0) ∷ Before (at 1 1) (at 2 0) ∷ [];
           grounds = Base Read (NotExecuted (at 2 0) ∷ Sees (at 2 0) (at 1 1) ∷ []) ∷ Base Choice (NotSees (at 2 0) (at 1 1) ∷ Before (at 1 1) (at 2 0) ∷ []) ∷ [];
+          cycle = [];
         }
             ∷ record {
               number = 7;
               says = NotExecuted (at 2 1) ∷ Before (at 1 1) (at 2 0) ∷ [];
               grounds = Base ProgramOrder (Executed (at 2 0) ∷ NotExecuted (at 2 1) ∷ []) ∷ Earlier 0 ∷ [];
+              cycle = [];
             }
-            ∷ record { number = 8; says = NotExecuted (at 2 1) ∷ Before (at 1 0) (at 2 1) ∷ []; grounds = Earlier 1 ∷ [] } ∷ [];
+            ∷ record { number = 8; says = NotExecuted (at 2 1) ∷ Before (at 1 0) (at 2 1) ∷ []; grounds = Earlier 1 ∷ []; cycle = round } ∷ [];
       }
-  -- a step without hints rests on all own steps before it, and on no shared one
+  -- a step without hints rests on all own steps before it, and on no shared one; in what it denies alone there is no cycle
   pub everything : reason_of guarded in_turn reversed (step (not_so 2 ∷ so 4 ∷ []) (3 ∷ []) ∷ [])
       (record { steps = step (not_so 3 ∷ so 4 ∷ []) (1 ∷ 3 ∷ []) ∷ step (not_so 3 ∷ so 5 ∷ []) [] ∷ [] }) ≡ record {
         assumed = Executed (at 2 1) ∷ Before (at 2 1) (at 1 0) ∷ [];
@@ -107,8 +115,9 @@ pub record ExamplesHold : Type 0 where
           number = 5;
           says = NotExecuted (at 2 1) ∷ Before (at 1 1) (at 2 0) ∷ [];
           grounds = Base ProgramOrder (Executed (at 2 0) ∷ NotExecuted (at 2 1) ∷ []) ∷ Base HeldLock (NotExecuted (at 2 0) ∷ Before (at 1 1) (at 2 0) ∷ []) ∷ [];
+          cycle = [];
         }
-            ∷ record { number = 6; says = NotExecuted (at 2 1) ∷ Before (at 1 0) (at 2 1) ∷ []; grounds = Everything ∷ [] } ∷ [];
+            ∷ record { number = 6; says = NotExecuted (at 2 1) ∷ Before (at 1 0) (at 2 1) ∷ []; grounds = Everything ∷ []; cycle = [] } ∷ [];
       }
   -- a certificate without steps gives no reason
   pub none : reason_of flagged in_turn reversed (step (not_so 2 ∷ so 1 ∷ []) (2 ∷ 3 ∷ []) ∷ []) (record { steps = [] }) ≡ record { assumed = []; steps = [] }

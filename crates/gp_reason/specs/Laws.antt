@@ -1,20 +1,29 @@
 -- What is true of reasons.
-use Rattle.std.specs.Prelude.{ℕ, ◌≡◌, ◌+◌, ◌<◌, ◌≤◌, true, Contains, List, [], ◌∷◌, ◌++◌, Some, None, length, map, slice_get}
+use Rattle.std.specs.Prelude.{ℕ, ◌≡◌, ◌⊎◌, ◌+◌, ◌<◌, ◌≤◌, true, Contains, List, [], ◌∷◌, ◌++◌, Some, None, length, map, slice_get}
 use Rattle.gp_base.specs.ListLaws.{Pairwise}
 use Rattle.gp_certificate.specs.declared.certificate.Certificate.{Certificate}
 use Rattle.gp_certificate.specs.declared.step.Step.{Step}
 use Rattle.gp_certificate.specs.Shared.{ChecksOver}
 use Rattle.gp_certificate.specs.Step.{Passes}
+use Rattle.gp_clause.specs.declared.lit.Lit.{Lit}
 use Rattle.gp_clause.specs.declared.problem.Problem.{Problem}
 use Rattle.gp_clause.specs.declared.problem.Query.{Query}
+use Rattle.gp_clause.specs.Closure.{Derived}
+use Rattle.gp_clause.specs.Lit.{negations}
 use Rattle.gp_clause.specs.Problem.{IsValidProblem}
 use Rattle.gp_constraint.specs.declared.base_family.BaseFamily.{BaseFamily}
 use Rattle.gp_constraint.specs.declared.symbol.Symbol.{Symbol}
 use Rattle.gp_constraint.specs.declared.symbol.SymbolicLit.{SymbolicLit}
 use Rattle.gp_constraint.specs.Base.{base_of, clauses_of}
 use Rattle.gp_constraint.specs.Families.{family_clauses}
+use Rattle.gp_constraint.specs.PointIds.{id_at}
+use Rattle.gp_constraint.specs.Points.{points_of}
+use Rattle.gp_cycle.specs.Laws.{GoRound}
+use Rattle.gp_window.specs.declared.schedule.EventId.{EventId}
 use Rattle.gp_window.specs.WindowForm.{WindowForm}
-use Rattle.gp_reason.specs.Facts.{facts_of}
+use Rattle.gp_reason.specs.declared.fact.Fact.TheVariants.{Before}
+use Rattle.gp_reason.specs.Cycles.{cycle_told, hinted}
+use Rattle.gp_reason.specs.Facts.{fact_of, facts_of}
 use Rattle.gp_reason.specs.Families.{family_at}
 use Rattle.gp_reason.specs.Reasons.{reason_by}
 use Rattle.gp_reason.specs.Told.{NumberedStep, all_steps, cites, told_of}
@@ -40,12 +49,15 @@ pub record ReasonsTellWhatTheyRestOn : Type 0 where
       → RestsOn (all_steps base shared (front ++ last ∷ [])) (last_step base shared front last) step → Contains (told_of base shared (front ++ last ∷ [])) step
   -- their numbers rise, so that none is told twice
   pub once : (base : ℕ) (shared own : List Step) → Pairwise (λ one other. one.number < other.number) (told_of base shared own)
-  -- the steps of the reason are these, and each says what its clause does
-  pub numbers : (window : WindowForm) (names : List Symbol) (shared own : List Step)
-      → map (λ step. step.number) (reason_by window names shared own).steps ≡ map (λ told. told.number) (told_of (length (base_of window).clauses) shared own)
-  pub says : (window : WindowForm) (names : List Symbol) (shared own : List Step)
-      → map (λ step. step.says) (reason_by window names shared own).steps
+  -- the steps of the reason are these, each says what its clause does, and has a cycle by which it follows
+  pub numbers : (window : WindowForm) (names : List Symbol) (clauses : List (List Lit)) (shared own : List Step)
+      → map (λ step. step.number) (reason_by window names clauses shared own).steps ≡ map (λ told. told.number) (told_of (length (base_of window).clauses) shared own)
+  pub says : (window : WindowForm) (names : List Symbol) (clauses : List (List Lit)) (shared own : List Step)
+      → map (λ step. step.says) (reason_by window names clauses shared own).steps
       ≡ map (λ told. facts_of window names told.step.clause) (told_of (length (base_of window).clauses) shared own)
+  pub cycles : (window : WindowForm) (names : List Symbol) (clauses : List (List Lit)) (shared own : List Step)
+      → map (λ step. step.cycle) (reason_by window names clauses shared own).steps
+      ≡ map (λ told. cycle_told window names clauses told.number told.step) (told_of (length (base_of window).clauses) shared own)
 
 -- of a certificate that checks, each step that is told passes with the clauses of the problem and those told before it
 abbrev pub ReasonsAreEnough : Type 0
@@ -58,3 +70,15 @@ pub record FamiliesAreTold : Type 0 where
   pub family : (window : WindowForm) (number : ℕ) (clause : List SymbolicLit) → slice_get (clauses_of window) number ≡ Some clause
       → (family : BaseFamily) × (family_at window number ≡ Some family) × Contains (family_clauses window family) clause
   pub none : (window : WindowForm) (number : ℕ) → length (clauses_of window) ≤ number → family_at window number ≡ None
+
+-- an event is before another in the same thread, or from the negation of the clause of a step of this number the clauses that its hints
+-- number derive a literal that says so
+abbrev pub IsForcedBefore : WindowForm → List Symbol → List (List Lit) → ℕ → Step → EventId → EventId → Type 0
+IsForcedBefore window names clauses number step one other =
+    ((one.thread ≡ other.thread) × (one.index < other.index))
+    ⊎ ((lit : Lit) × Derived (negations step.clause) (hinted clauses number step.hints) lit × (fact_of names (id_at (points_of window)) lit ≡ Before one other))
+
+-- where a cycle is told, each of its events is forced to be before the next, and the last one before the first
+abbrev pub CyclesAreForced : Type 0
+CyclesAreForced = (window : WindowForm) (names : List Symbol) (clauses : List (List Lit)) (number : ℕ) (step : Step)
+    → (cycle_told window names clauses number step ≡ []) ⊎ GoRound (IsForcedBefore window names clauses number step) (cycle_told window names clauses number step)

@@ -1,3 +1,4 @@
+pub mod Cycles
 pub mod Draft
 pub mod Examples
 pub mod Facts

@@ -16,6 +16,7 @@ use Rattle.gp_reason.specs.declared.reasons.Ground.{Ground}
 use Rattle.gp_reason.specs.declared.reasons.Ground.TheVariants.{Base, Earlier, Everything}
 use Rattle.gp_reason.specs.declared.reasons.Reason.{Reason}
 use Rattle.gp_reason.specs.declared.reasons.ReasonStep.{ReasonStep}
+use Rattle.gp_reason.specs.Cycles.{cycle_told, numbered_clauses}
 use Rattle.gp_reason.specs.Facts.{facts_of}
 use Rattle.gp_reason.specs.Families.{family_at}
 use Rattle.gp_reason.specs.Told.{NumberedStep, told_of}
@@ -47,15 +48,19 @@ grounds_of window names place [] = Everything ∷ []
 grounds_of window names place (hint ∷ hints) = flat_map (ground_of window names place) (hint ∷ hints)
 
 -- a step that is told, where the steps told before have these places
-abbrev pub step_of : WindowForm → List Symbol → (ℕ → Option ℕ) → ℕ → Step → ReasonStep
-step_of window names place number step =
-    record { number = number; says = facts_of window names step.clause; grounds = grounds_of window names place step.hints }
+abbrev pub step_of : WindowForm → List Symbol → List (List Lit) → (ℕ → Option ℕ) → ℕ → Step → ReasonStep
+step_of window names clauses place number step = record {
+  number = number;
+  says = facts_of window names step.clause;
+  grounds = grounds_of window names place step.hints;
+  cycle = cycle_told window names clauses number step;
+}
 
 -- steps that are told, behind those told before
-abbrev pub steps_from : WindowForm → List Symbol → List NumberedStep → List NumberedStep → List ReasonStep
-steps_from window names before [] = []
-steps_from window names before (told ∷ rest) =
-    step_of window names (place_of before) told.number told.step ∷ steps_from window names (before ++ told ∷ []) rest
+abbrev pub steps_from : WindowForm → List Symbol → List (List Lit) → List NumberedStep → List NumberedStep → List ReasonStep
+steps_from window names clauses before [] = []
+steps_from window names clauses before (told ∷ rest) =
+    step_of window names clauses (place_of before) told.number told.step ∷ steps_from window names clauses (before ++ told ∷ []) rest
 
 -- what the clause of the last of some steps denies
 abbrev pub assumed_of : WindowForm → List Symbol → List Step → List Fact
@@ -63,13 +68,14 @@ assumed_of window names [] = []
 assumed_of window names (last ∷ []) = facts_of window names (negations last.clause)
 assumed_of window names (step ∷ next ∷ steps) = assumed_of window names (next ∷ steps)
 
--- the reason that a certificate over shared steps gives, where variables have these names
-abbrev pub reason_by : WindowForm → List Symbol → List Step → List Step → Reason
-reason_by window names shared own = record {
+-- the reason that a certificate over shared steps gives, where variables have these names and hints number these clauses
+abbrev pub reason_by : WindowForm → List Symbol → List (List Lit) → List Step → List Step → Reason
+reason_by window names clauses shared own = record {
   assumed = assumed_of window names own;
-  steps = steps_from window names [] (told_of (length (base_of window).clauses) shared own);
+  steps = steps_from window names clauses [] (told_of (length (base_of window).clauses) shared own);
 }
 
 -- the reason why an instance of these events is impossible in a window
 abbrev pub reason_of : WindowForm → PropertyForm → List EventId → List Step → Certificate → Reason
-reason_of window property ids shared certificate = reason_by window (query_names window property ids) shared certificate.steps
+reason_of window property ids shared certificate =
+    reason_by window (query_names window property ids) (numbered_clauses window shared certificate.steps) shared certificate.steps

@@ -1,8 +1,9 @@
 ghost use Rattle.gp_reason.specs.Examples.{ExamplesHold};
-ghost use Rattle.gp_reason.specs.Laws.{FamiliesAreTold, ReasonsAreEnough, ReasonsTellWhatTheyRestOn};
+ghost use Rattle.gp_reason.specs.Laws.{CyclesAreForced, FamiliesAreTold, ReasonsAreEnough, ReasonsTellWhatTheyRestOn};
 ghost use Rattle.gp_reason.specs.Truth.{FactsAreTrue};
 
 use gp_certificate::more_passes;
+use gp_cycle::{cycle_events_go_round, cycles_are_cycles, forced_is_derived};
 
 /// A reason tells the last step of its certificate and the steps on which that rests, each once and in their order.
 pub fn reasons_tell_what_they_rest_on()
@@ -14,6 +15,16 @@ pub fn reasons_are_enough()
     ensures { ReasonsAreEnough }
 {
     more_passes();
+}
+
+/// Each event of a cycle that is told is before the next, and the last one before the first: in one thread, or by what the clauses
+/// that the step cites derive from its denial.
+pub fn cycles_are_forced()
+    ensures { CyclesAreForced }
+{
+    forced_is_derived();
+    cycles_are_cycles();
+    cycle_events_go_round();
 }
 
 /// A clause of a window is one of the clauses of the family that is told for its number.

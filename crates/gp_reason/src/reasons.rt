@@ -1,6 +1,7 @@
 use crate::fact::Fact;
 use gp_base::Row;
 use gp_constraint::BaseFamily;
+use gp_window::EventId;
 
 /// What a step rests on.
 #[derive(Debug, Drop)]
@@ -22,6 +23,10 @@ pub struct ReasonStep {
     /// One of these facts holds.
     pub says: Row<Fact>,
     pub grounds: Row<Ground>,
+    /// Events that would lie on a cycle, each before the next and the last before the first, if none of the facts held: the clauses
+    /// that the step cites would force it. There are none where these make one of them false, or where what they force says no cycle.
+    /// Of a step that cites none by number they are looked for in what the step denies alone.
+    pub cycle: Row<EventId>,
 }
 
 /// Why an instance is impossible.

@@ -3,6 +3,7 @@ ghost use Rattle.gp_reason.specs.Draft.{after_step, after_steps, first_draft, pl
 ghost use Rattle.gp_reason.specs.Marks.{is_marked};
 ghost use Rattle.gp_reason.specs.Reasons.{ground_of, grounds_of, step_ground, step_of};
 
+use crate::cycles::cycle_told;
 use crate::marking::is_marked;
 use crate::reasons::{Ground, ReasonStep};
 use crate::vocabulary::Vocabulary;
@@ -38,7 +39,7 @@ impl Draft {
         marks: &[bool],
         steps: &[Step],
     ) -> Result<Draft, AllocError>
-        ensures { IfOk result (λ next. next ≡ after_steps vocabulary.now.window vocabulary.now.names marks.now self steps.now) }
+        ensures { IfOk result (λ next. next ≡ after_steps vocabulary.now.window vocabulary.now.names vocabulary.now.clauses marks.now self steps.now) }
     {
         let mut draft = self;
         for step in steps {
@@ -62,7 +63,7 @@ impl Draft {
         marks: &[bool],
         step: &Step,
     ) -> Result<Draft, AllocError>
-        ensures { IfOk result (λ next. next ≡ after_step vocabulary.now.window vocabulary.now.names (is_marked marks.now (length self.places)) self step.now) }
+        ensures { IfOk result (λ next. next ≡ after_step vocabulary.now.window vocabulary.now.names vocabulary.now.clauses (is_marked marks.now (length self.places)) self step.now) }
     {
         if is_marked(marks, self.places.len()) {
             return self.add(alloc, vocabulary, step);
@@ -71,7 +72,7 @@ impl Draft {
     }
 
     fn add(self, alloc: Global, vocabulary: &Vocabulary, step: &Step) -> Result<Draft, AllocError>
-        ensures { IfOk result (λ next. next ≡ after_step vocabulary.now.window vocabulary.now.names true self step.now) }
+        ensures { IfOk result (λ next. next ≡ after_step vocabulary.now.window vocabulary.now.names vocabulary.now.clauses true self step.now) }
     {
         let Draft {
             mut steps,
@@ -99,12 +100,13 @@ fn step_of(
     places: &[Option<u64>],
     step: &Step,
 ) -> Result<ReasonStep, AllocError>
-    ensures { IfOk result (λ told. told ≡ step_of vocabulary.now.window vocabulary.now.names (place_at places.now) (length places.now) step.now) }
+    ensures { IfOk result (λ told. told ≡ step_of vocabulary.now.window vocabulary.now.names vocabulary.now.clauses (place_at places.now) (length places.now) step.now) }
 {
     Ok(ReasonStep {
         number: places.len() as u64,
         says: vocabulary.facts(alloc, step.clause.lits())?,
         grounds: grounds_of(alloc, vocabulary, places, step.hints.as_slice())?,
+        cycle: cycle_told(alloc, vocabulary, places.len(), step)?,
     })
 }
 

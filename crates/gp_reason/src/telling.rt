@@ -18,8 +18,8 @@ use std::alloc::{AllocError, Global};
 /// Why an instance is impossible in the window that is encoded: the last step of a certificate over shared steps, and those
 /// on which it rests, in facts. What is no certificate of the instance gives a reason too, which shows nothing.
 ///
-/// It takes the time of making the window's clauses, and of the steps; where a step has no hints, that of the steps before
-/// it.
+/// It takes the time of making the window's clauses, and of the steps with the clauses that they cite; where a step has no hints, that
+/// of the steps before it; and where what a step denies and cites forces orders of events, at least the square of their number.
 pub fn reason(
     alloc: Global,
     encoded: &Encoded,
@@ -30,8 +30,9 @@ pub fn reason(
 ) -> Result<Reason, AllocError>
     ensures { IfOk result (λ reason. reason ≡ reason_of encoded.now property.now instance.now.events shared.now certificate.now) }
 {
-    let vocabulary = Vocabulary::new(alloc, encoded, property, instance)?;
-    reason_by(alloc, &vocabulary, shared, certificate.steps.as_slice())
+    let own = certificate.steps.as_slice();
+    let vocabulary = Vocabulary::new(alloc, encoded, property, instance, shared, own)?;
+    reason_by(alloc, &vocabulary, shared, own)
 }
 
 fn reason_by(
@@ -40,7 +41,7 @@ fn reason_by(
     shared: &[Step],
     own: &[Step],
 ) -> Result<Reason, AllocError>
-    ensures { IfOk result (λ reason. reason ≡ reason_by vocabulary.now.window vocabulary.now.names shared.now own.now) }
+    ensures { IfOk result (λ reason. reason ≡ reason_by vocabulary.now.window vocabulary.now.names vocabulary.now.clauses shared.now own.now) }
 {
     Ok(Reason {
         assumed: assumed(alloc, vocabulary, own)?,
@@ -65,7 +66,7 @@ fn steps(
     shared: &[Step],
     own: &[Step],
 ) -> Result<Row<ReasonStep>, AllocError>
-    ensures { IfOk result (λ steps. steps ≡ steps_from vocabulary.now.window vocabulary.now.names [] (told_of (length (base_of vocabulary.now.window).clauses) shared.now own.now)) }
+    ensures { IfOk result (λ steps. steps ≡ steps_from vocabulary.now.window vocabulary.now.names vocabulary.now.clauses [] (told_of (length (base_of vocabulary.now.window).clauses) shared.now own.now)) }
 {
     let base = vocabulary.clause_count();
     let marks = marks(alloc, base, shared, own)?;

@@ -32,7 +32,7 @@ awaited = record {
   exited = 2 ∷ [];
 }
 
--- one step by three clauses of its window
+-- one step by three clauses of its window, and a cycle
 abbrev pub by_clauses : Reason
 by_clauses = record {
   assumed = Executed (at 2 1) ∷ Before (at 2 1) (at 1 0) ∷ [];
@@ -42,6 +42,7 @@ by_clauses = record {
     grounds = Base ProgramOrder (Executed (at 2 0) ∷ NotExecuted (at 2 1) ∷ [])
         ∷ Base Read (NotExecuted (at 2 0) ∷ Sees (at 2 0) (at 1 1) ∷ [])
         ∷ Base Choice (NotSees (at 2 0) (at 1 1) ∷ Before (at 1 1) (at 2 0) ∷ []) ∷ [];
+    cycle = at 2 1 ∷ at 1 0 ∷ at 1 1 ∷ at 2 0 ∷ [];
   } ∷ [];
 }
 
@@ -57,8 +58,9 @@ by_steps = record {
         ∷ Base StartChoice (SeesStart (at 2 0) ∷ NotSeesStart (at 2 0) ∷ [])
         ∷ Base Section (SectionBefore (at 1 1) (at 2 1) ∷ SectionBefore (at 2 1) (at 1 1) ∷ [])
         ∷ Base HeldLock (Unnamed 7 false ∷ []) ∷ [];
+    cycle = [];
   }
-      ∷ record { number = 44; says = []; grounds = Earlier 0 ∷ Everything ∷ [] } ∷ [];
+      ∷ record { number = 44; says = []; grounds = Earlier 0 ∷ Everything ∷ []; cycle = [] } ∷ [];
 }
 
 pub record ExamplesHold : Type 0 where
@@ -88,7 +90,7 @@ pub record ExamplesHold : Type 0 where
       codes "1 2.0 op a\n"
       ++ codes "2 1.0 join 2 after 2.0\n"
       ++ codes "3 3.0 no event\n"
-  -- clauses of a window
+  -- clauses of a window, and a cycle
   pub clauses : spelling (reason_lines by_clauses) ≡
       codes "this cannot all hold:\n"
       ++ codes "- 2.1 is executed\n"
@@ -97,7 +99,8 @@ pub record ExamplesHold : Type 0 where
       ++ codes "- program order: 2.0 is executed, or 2.1 is not executed\n"
       ++ codes "- value of a read: 2.0 is not executed, or 2.0 sees 1.1\n"
       ++ codes "- what a read sees: 2.0 does not see 1.1, or 1.1 is before 2.0\n"
-  -- the other families and facts, an earlier step, and a step that says nothing
+      ++ codes "- a cycle: 2.1 before 1.0 before 1.1 before 2.0 before 2.1\n"
+  -- the other families and facts, an earlier step, and a step that says nothing; none of them has a cycle
   pub steps : spelling (reason_lines by_steps) ≡
       codes "this cannot all hold:\n"
       ++ codes "- 1.2 is the last write\n"

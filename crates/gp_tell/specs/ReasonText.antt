@@ -1,7 +1,10 @@
--- A reason as text: what is assumed, then each step with its grounds. A line is a list of phrases, and a space stands between two of them.
+-- A reason as text: what is assumed, then each step with its grounds and with the events of a cycle. A line is a list of phrases, and a space stands between two of them.
 use Rattle.std.specs.Prelude.{ℕ, ◌+◌, List, [], ◌∷◌, ◌++◌, codes, decimal, map}
+use Rattle.std.specs.List.{flat_map}
 use Rattle.gp_constraint.specs.declared.base_family.BaseFamily.{BaseFamily}
 use Rattle.gp_constraint.specs.declared.base_family.BaseFamily.TheVariants.{ProgramOrder, Start, Join, Read, Choice, StartChoice, Section, HeldLock}
+use Rattle.gp_window.specs.declared.schedule.EventId.{EventId}
+use Rattle.gp_window.specs.EventIds.{event_id_text}
 use Rattle.gp_reason.specs.declared.fact.Fact.{Fact}
 use Rattle.gp_reason.specs.declared.reasons.Ground.{Ground}
 use Rattle.gp_reason.specs.declared.reasons.Ground.TheVariants.{Base, Earlier, Everything}
@@ -42,9 +45,25 @@ ground_line basis = item_line (ground_words basis)
 abbrev pub says_line : ℕ → List Fact → List (List ℕ)
 says_line number facts = (decimal number ++ codes ".") ∷ (any_text facts ++ codes ",") ∷ codes "since" ∷ []
 
+-- that what stands before is before an event
+abbrev pub before_words : EventId → List (List ℕ)
+before_words event = codes "before" ∷ event_id_text event ∷ []
+
+-- events of which each is before the next, and the last one before the first
+abbrev pub cycle_words : EventId → List EventId → List (List ℕ)
+cycle_words first others = codes "a cycle:" ∷ event_id_text first ∷ (flat_map before_words others ++ before_words first)
+
+abbrev pub cycle_line : EventId → List EventId → List (List ℕ)
+cycle_line first others = item_line (cycle_words first others)
+
+-- the events of a cycle, where there are any
+abbrev pub cycle_lines : List EventId → List (List (List ℕ))
+cycle_lines [] = []
+cycle_lines (first ∷ others) = cycle_line first others ∷ []
+
 -- the step of this number
 abbrev pub step_lines : ℕ → ReasonStep → List (List (List ℕ))
-step_lines number step = says_line number step.says ∷ map ground_line step.grounds
+step_lines number step = says_line number step.says ∷ (map ground_line step.grounds ++ cycle_lines step.cycle)
 
 -- the steps from this number on
 abbrev pub steps_lines : ℕ → List ReasonStep → List (List (List ℕ))

@@ -1,17 +1,20 @@
 ghost use Rattle.std.specs.Prelude.{◌≡◌, ◌+◌, ◌++◌, ◌∷◌, [], OnOk, codes, decimal, map};
+ghost use Rattle.std.specs.List.{flat_map};
 ghost use Rattle.gp_text.specs.Spelling.{after_words, spelling};
 ghost use Rattle.gp_tell.specs.FactText.{any_text};
-ghost use Rattle.gp_tell.specs.ReasonText.{assumed_line, family_text, ground_line, ground_words, reason_lines, says_line, step_lines, steps_lines};
+ghost use Rattle.gp_tell.specs.ReasonText.{assumed_line, before_words, cycle_line, cycle_lines, cycle_words, family_text, ground_line, ground_words, reason_lines, says_line, step_lines, steps_lines};
 
 use crate::fact::{put_any, put_fact};
 use crate::line::{end_line, put_number};
+use crate::story::put_reference;
 use gp_constraint::BaseFamily;
 use gp_reason::{Fact, Ground, Reason, ReasonStep};
 use gp_text::print_u64;
+use gp_window::EventId;
 use gp_writer::put_word;
 use std::alloc::AllocError;
 
-/// Puts a reason: what is assumed, and then each step with its grounds.
+/// Puts a reason: what is assumed, and then each step with its grounds and its cycle.
 pub fn put_reason(text: &mut Vec<u8>, reason: &Reason) -> Result<(), AllocError>
     ensures { OnOk result (text.new.items ≡ text.old.items ++ spelling (reason_lines reason.now)) }
 {
@@ -57,7 +60,57 @@ fn put_step(text: &mut Vec<u8>, number: u64, step: &ReasonStep) -> Result<(), Al
     ensures { OnOk result (text.new.items ≡ text.old.items ++ spelling (step_lines number step.now)) }
 {
     put_says(text, number, step.says.as_slice())?;
-    put_grounds(text, step.grounds.as_slice())
+    put_basis(text, step)
+}
+
+#[tactic(auto, using(gp_writer::specs::LinesLaws::lines_put))]
+fn put_basis(text: &mut Vec<u8>, step: &ReasonStep) -> Result<(), AllocError>
+    ensures { OnOk result (text.new.items ≡ text.old.items ++ spelling (map ground_line step.now.grounds ++ cycle_lines step.now.cycle)) }
+{
+    put_grounds(text, step.grounds.as_slice())?;
+    put_cycle(text, step.cycle.as_slice())
+}
+
+/// Puts the events of a cycle, where there are any.
+fn put_cycle(text: &mut Vec<u8>, events: &[EventId]) -> Result<(), AllocError>
+    ensures { OnOk result (text.new.items ≡ text.old.items ++ spelling (cycle_lines events.now)) }
+{
+    let Some((first, others)) = events.split_first() else {
+        return Ok(());
+    };
+    put_cycle_line(text, *first, others)
+}
+
+fn put_cycle_line(text: &mut Vec<u8>, first: EventId, others: &[EventId]) -> Result<(), AllocError>
+    ensures { OnOk result (text.new.items ≡ text.old.items ++ spelling (cycle_line first others.now ∷ [])) }
+{
+    text.extend_from_slice(b"-")?;
+    put_cycle_words(text, first, others)?;
+    end_line(text)
+}
+
+fn put_cycle_words(text: &mut Vec<u8>, first: EventId, others: &[EventId]) -> Result<(), AllocError>
+    ensures { OnOk result (text.new.items ≡ text.old.items ++ after_words (cycle_words first others.now)) }
+{
+    put_reference(text, b"a cycle:", first)?;
+    put_others(text, others)?;
+    put_before(text, first)
+}
+
+#[tactic(auto, using(gp_text::specs::SpellingLaws::after_append))]
+fn put_others(text: &mut Vec<u8>, events: &[EventId]) -> Result<(), AllocError>
+    ensures { OnOk result (text.new.items ≡ text.old.items ++ after_words (flat_map before_words events.now)) }
+{
+    for event in events {
+        put_before(text, *event)?;
+    }
+    Ok(())
+}
+
+fn put_before(text: &mut Vec<u8>, event: EventId) -> Result<(), AllocError>
+    ensures { OnOk result (text.new.items ≡ text.old.items ++ after_words (before_words event)) }
+{
+    put_reference(text, b"before", event)
 }
 
 fn put_says(text: &mut Vec<u8>, number: u64, facts: &[Fact]) -> Result<(), AllocError>

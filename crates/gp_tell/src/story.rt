@@ -133,7 +133,7 @@ fn put_mark(text: &mut Vec<u8>, is_marked: bool) -> Result<(), AllocError>
 }
 
 /// Puts a phrase and the event that it speaks of.
-fn put_reference(text: &mut Vec<u8>, says: &[u8], id: EventId) -> Result<(), AllocError>
+pub(crate) fn put_reference(text: &mut Vec<u8>, says: &[u8], id: EventId) -> Result<(), AllocError>
     ensures { OnOk result (text.new.items ≡ text.old.items ++ after_words (says.now ∷ event_id_text id ∷ [])) }
 {
     put_word(text, says)?;

@@ -85,6 +85,7 @@ pub record ExamplesHold : Type 0 where
       ++ codes "- program order: 2.0 is executed, or 2.1 is not executed\n"
       ++ codes "- value of a read: 2.0 is not executed, or 2.0 sees 1.1\n"
       ++ codes "- what a read sees: 2.0 does not see 1.1, or 1.1 is before 2.0\n"
+      ++ codes "- a cycle: 2.1 before 1.0 before 1.1 before 2.0 before 2.1\n"
   -- how many clauses were learned
   pub undecided_lines : spelling (answered_lines undecided) ≡
       codes "\nwindow 1 property races instance 12 undecided\n"
@@ -119,6 +120,7 @@ pub record ExamplesHold : Type 0 where
       ++ codes "- program order: 2.0 is executed, or 2.1 is not executed\n"
       ++ codes "- value of a read: 2.0 is not executed, or 2.0 sees 1.1\n"
       ++ codes "- what a read sees: 2.0 does not see 1.1, or 1.1 is before 2.0\n"
+      ++ codes "- a cycle: 2.1 before 1.0 before 1.1 before 2.0 before 2.1\n"
       ++ codes "</pre>\n</section>\n"
   pub undecided_part : answered_part undecided ≡
       codes "<section>\n<h2>window 1 property races instance 12 undecided</h2>\n"

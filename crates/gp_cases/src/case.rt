@@ -216,10 +216,10 @@ impl Case {
     }
 }
 
-/// The words of gpshow, where its name stands before them.
-pub fn words_of_gpshow(words: &[String]) -> Option<&[String]> {
+/// The words of a program, where its name stands before them.
+pub fn words_behind<'a>(name: &str, words: &'a [String]) -> Option<&'a [String]> {
     match words {
-        [program, words @ ..] if program.as_str() == "gpshow" => Some(words),
+        [first, words @ ..] if first.as_str() == name => Some(words),
         _ => None,
     }
 }

@@ -1,4 +1,4 @@
-use crate::case::{Case, words_of_gpshow};
+use crate::case::{Case, words_behind};
 use crate::style::{Style, tell_text};
 use gp_notified::NotifyReport;
 use gp_outside::{FreeGate, MemoryFolder, MemorySink};
@@ -86,7 +86,7 @@ fn run_program<R: AllocGlobal + Threads + Wait + Sync>(
     folder: &mut MemoryFolder,
     sink: &mut MemorySink,
 ) -> Outcome {
-    match words_of_gpshow(words) {
+    match words_behind("gpshow", words) {
         Some(words) => show(rt, words, folder, sink),
         None => run(rt, words, folder, sink, &FreeGate),
     }

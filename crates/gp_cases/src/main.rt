@@ -3,7 +3,8 @@
 //
 //     group NAME           what follows, up to the next `case`, is said of each case of the group
 //     case NAME            begins a case: what was said of the one before is forgotten. The line is printed
-//     words A B C          the words of the command, parted by spaces, in place of those before; those of gpshow have its name before them
+//     words A B C          the words of the command, parted by spaces, in place of those before; those of another program than gpredict
+//                          have its name before them
 //     word TEXT            one word more, with all its bytes
 //     stretch N            lengthens the last word to N bytes
 //     file PATH            begins a file, in place of the one with this path

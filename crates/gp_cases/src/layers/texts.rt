@@ -1,13 +1,16 @@
 // What texts, numbers, names and command lines are read as.
 ghost use Rattle.std.specs.Prelude.{◌-◌, ◌<◌, ◌^◌, length};
 
-use crate::case::words_of_gpshow;
+use crate::case::words_behind;
 use crate::layers::telling::{tell, tell_last};
 use gp_text::{
     Line, Lines, Name, TextLine, Words, end_line, print_u64, read_i64, read_lines, read_u32,
     read_u64,
 };
-use gp_words::{Command, ShowCommand, command_of, show_command_of};
+use gp_words::{
+    Command, CutCommand, MergeCommand, ShardCommand, ShowCommand, command_of, shard_command_of,
+    show_command_of,
+};
 use gp_writer::{put_line, put_word};
 use std::alloc::{AllocError, Global};
 use std::cmp::Ordering;
@@ -117,10 +120,13 @@ fn order_word(order: Ordering) -> &'static str {
 
 /// Tells the command that words are.
 pub fn tell_command(alloc: Global, out: &mut Vec<u8>, words: &[String]) -> Result<(), AllocError> {
-    match words_of_gpshow(words) {
-        Some(words) => tell_command_of_gpshow(alloc, out, words),
-        None => tell_command_of_gpredict(alloc, out, words),
+    if let Some(words) = words_behind("gpshow", words) {
+        return tell_command_of_gpshow(alloc, out, words);
     }
+    if let Some(words) = words_behind("gpshards", words) {
+        return tell_command_of_gpshards(alloc, out, words);
+    }
+    tell_command_of_gpredict(alloc, out, words)
 }
 
 fn tell_command_of_gpredict(
@@ -141,6 +147,18 @@ fn tell_command_of_gpshow(
 ) -> Result<(), AllocError> {
     match show_command_of(words) {
         Some(command) => tell(out, show_command_text(alloc, &command)?.as_str()),
+        None => tell(out, "no command"),
+    }
+}
+
+fn tell_command_of_gpshards(
+    alloc: Global,
+    out: &mut Vec<u8>,
+    words: &[String],
+) -> Result<(), AllocError> {
+    match shard_command_of(alloc, words)? {
+        Some(ShardCommand::Cut(cut)) => tell(out, cut_text(alloc, &cut)?.as_str()),
+        Some(ShardCommand::Merge(merge)) => tell_merge(out, &merge),
         None => tell(out, "no command"),
     }
 }
@@ -169,4 +187,23 @@ fn show_command_text(alloc: Global, command: &ShowCommand) -> Result<String, All
         most,
     } = *command;
     format!(in alloc; "{style:?} {folder} {window:?} {property:?} {instance:?} {most}")
+}
+
+fn cut_text(alloc: Global, command: &CutCommand) -> Result<String, AllocError> {
+    let CutCommand {
+        part,
+        parts,
+        folder,
+        out,
+    } = *command;
+    format!(in alloc; "Cut {part} {parts} {folder} {out}")
+}
+
+fn tell_merge(out: &mut Vec<u8>, command: &MergeCommand) -> Result<(), AllocError> {
+    out.extend_from_slice(b"Merge")?;
+    put_word(out, command.folder.as_bytes())?;
+    for part in command.outs.as_slice() {
+        put_word(out, part.as_bytes())?;
+    }
+    tell(out, "")
 }

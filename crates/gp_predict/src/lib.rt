@@ -41,12 +41,13 @@ mod top;
 mod verdict;
 mod writing;
 
+pub use content::{content_at, recording_at};
 pub use each_line::put_each_line;
 pub use finishing::{finish, put_reply};
-pub use listing::Listing;
+pub use listing::{Listing, properties_from};
 pub use outcome::Outcome;
-pub use refusal::Refusal;
-pub use reply::{Reply, words_refused};
+pub use refusal::{Refusal, reply_of, rule_word};
+pub use reply::{Reply, one_line, words_refused};
 pub use results::Tells;
 pub use stop::Stop;
 pub use submission::{Submission, submission_at};

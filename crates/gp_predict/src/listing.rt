@@ -79,7 +79,8 @@ fn properties_at<F: Folder>(
     properties_from(alloc, bytes.as_slice())
 }
 
-fn properties_from(alloc: Global, bytes: &[u8]) -> Result<Row<Property>, Stop>
+/// The properties that a text spells.
+pub fn properties_from(alloc: Global, bytes: &[u8]) -> Result<Row<Property>, Stop>
     requires { length bytes.now < 2 ^ 32 - 1 }
     ensures due { Gives refusal_of result (or_refused properties_refusal (properties_of bytes.now)) }
     ensures few { IfOk result (λ properties. length properties ≤ 64) }

@@ -145,7 +145,8 @@ fn report_refusal(alloc: Global, fault: ReportFault) -> Result<Reply, AllocError
     }
 }
 
-fn rule_word(rule: ReportRule) -> &'static str
+/// The word by which a rule of reports is told.
+pub fn rule_word(rule: ReportRule) -> &'static str
     ensures { result.now ≡ rule_word rule }
 {
     match rule {

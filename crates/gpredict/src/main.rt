@@ -11,9 +11,6 @@ use std::env;
 use std::io::{self, ErrorKind};
 use std::process::ExitCode;
 
-#[cfg(test)]
-mod tests;
-
 /// The status for want of memory, where there is none for the words.
 const NO_MEMORY: u8 = 6;
 

@@ -1,5 +1,5 @@
 // Each task once, and each again where memory may be wanting.
-use super::run_on;
+use crate::fixture::run_on;
 use std::alloc::AllocError;
 use std::sync::Wait;
 use std::test::Fail;

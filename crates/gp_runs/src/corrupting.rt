@@ -1,6 +1,6 @@
 // Whole runs of task check on reports that are spoilt: what chance has spoilt is accepted, rejected or refused in one line; what
 // means the same is accepted, and what lacks a line is not.
-use super::large::{is_accepted, large_folder, large_report, verdict_on};
+use crate::large::{is_accepted, large_folder, large_report, verdict_on};
 use gp_outside::{FreeGate, MemoryFolder};
 use std::alloc::{AllocError, Global};
 use std::sync::Wait;

@@ -1,5 +1,5 @@
 // Several runs on one recording of 600 events of four threads, which are compared with each other.
-use super::words_of;
+use crate::fixture::words_of;
 use gp_outside::{Folder, FreeGate, Gate, HoldGate, MemoryFolder, MemorySink};
 use gp_predict::run;
 use std::alloc::{AllocError, Global};

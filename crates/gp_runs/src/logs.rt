@@ -1,5 +1,5 @@
 // What a kept report has beside its text: the log of a budget that was spent.
-use super::run_on;
+use crate::fixture::run_on;
 use gp_derivation::{Turn, WorkerRecord};
 use gp_report::{Answer, Report};
 use std::alloc::AllocError;

@@ -1,6 +1,6 @@
 // Whole runs of task resume on the report of one impossible instance: where that still stands no worker is asked anything, which
 // only the kept report tells; where the recording has changed the instance is answered anew.
-use super::run_on;
+use crate::fixture::run_on;
 use gp_predict::Outcome;
 use gp_report::Report;
 use std::alloc::AllocError;

@@ -1,5 +1,5 @@
 // Whole runs of task link: which windows are linked, and that the schedules which link them replay from the recording's start.
-use super::{files_of, run_on, words_of};
+use crate::fixture::{files_of, run_on, words_of};
 use gp_base::Row;
 use gp_certificate::{Certificate, Step, check_certificate};
 use gp_clause::Query;

@@ -57,10 +57,10 @@ impl Book {
         self.ended = Some(ended);
     }
 
-    /// Goes on with the files that the last run left, and what it wrote as a report.
-    pub fn go_on(&mut self, alloc: Global) -> Result<(), AllocError> {
+    /// Goes on with the files that the last run left, and what it wrote as the file with this path, where one is named.
+    pub fn go_on(&mut self, alloc: Global, report: &str) -> Result<(), AllocError> {
         match self.ended.take() {
-            Some(ended) => give_back(alloc, &mut self.case, &ended),
+            Some(ended) => give_back(alloc, &mut self.case, &ended, report),
             None => Ok(()),
         }
     }

@@ -4,6 +4,7 @@ use gp_notified::NotifyReport;
 use gp_outside::{FreeGate, MemoryFolder, MemorySink};
 use gp_predict::{Outcome, run};
 use gp_report::Report;
+use gp_shards::shards;
 use gp_show::show;
 use std::alloc::{AllocError, Global};
 use std::sync::Wait;
@@ -86,8 +87,11 @@ fn run_program<R: AllocGlobal + Threads + Wait + Sync>(
     folder: &mut MemoryFolder,
     sink: &mut MemorySink,
 ) -> Outcome {
-    match words_behind("gpshow", words) {
-        Some(words) => show(rt, words, folder, sink),
+    if let Some(words) = words_behind("gpshow", words) {
+        return show(rt, words, folder, sink);
+    }
+    match words_behind("gpshards", words) {
+        Some(words) => shards(rt, words, folder, sink),
         None => run(rt, words, folder, sink, &FreeGate),
     }
 }
@@ -149,10 +153,18 @@ fn fingerprint(bytes: &[u8]) -> u64 {
     print
 }
 
-/// Gives a case the files that a run left, and what it wrote as `d/report`.
-pub fn give_back(alloc: Global, case: &mut Case, ended: &Ended) -> Result<(), AllocError> {
+/// Gives a case the files that a run left, and what it wrote as the file with this path, where one is named.
+pub fn give_back(
+    alloc: Global,
+    case: &mut Case,
+    ended: &Ended,
+    report: &str,
+) -> Result<(), AllocError> {
     for (path, bytes) in ended.files() {
         case.give(alloc, path.as_str(), bytes.as_slice())?;
     }
-    case.give(alloc, "d/report", ended.text())
+    if report.is_empty() {
+        return Ok(());
+    }
+    case.give(alloc, report, ended.text())
 }

@@ -26,6 +26,7 @@
 //     run                  runs the command: tells its status, what is kept (a report, links, deadlocks or a report with signals), its
 //                          text, the files that it wrote
 //     again A B C          the same with these words, on the files that the run before left, with its text as `d/report`
+//     keep PATH            what follows has the files that the run before left, with its text as this file; with no PATH the files alone
 //     sweep calls, puts    runs it with each call, or each put, that fails in turn
 //     kept                 prints the report that the last run kept
 //     replay               replays each schedule of that report

@@ -1,6 +1,6 @@
 // Whole runs: words, files and faults in; status, text and files out.
 use crate::book::Book;
-use crate::ended::{give_back, ran, tell};
+use crate::ended::{ran, tell};
 use crate::evidence::tell_refuted;
 use crate::kept::{tell_kept, tell_replayed};
 use crate::notified::tell_signals;
@@ -20,6 +20,7 @@ pub fn obeys<R: AllocGlobal + Print + Threads + Wait + Sync>(
     match verb {
         "run" => run_case(rt, book)?,
         "again" => run_again(rt, book, rest)?,
+        "keep" => book.go_on(rt.alloc(), rest)?,
         "sweep" => sweep(rt, book, rest)?,
         "refute" => tell_refuted(rt, book)?,
         "kept" => tell_kept(rt, book)?,
@@ -47,7 +48,7 @@ fn run_again<R: AllocGlobal + Print + Threads + Wait + Sync>(
     book: &mut Book,
     words: &str,
 ) -> io::Result<()> {
-    book.go_on(rt.alloc())?;
+    book.go_on(rt.alloc(), "d/report")?;
     book.case_mut().say(rt.alloc(), words)?;
     run_case(rt, book)
 }

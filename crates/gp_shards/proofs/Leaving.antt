@@ -1,0 +1,37 @@
+-- What a cut leaves, by how its writes ended.
+use Rattle.std.proofs.Common.{◌≡◌, ◌≢◌, refl, sym, subst, inl, inr, ℕ, List, arith}
+use Rattle.std.specs.Prelude.{◌⊎◌, Option, None, Some, Result, Ok}
+use Rattle.gp_files.specs.Writing.{WhereTold, files_at}
+use Rattle.gp_outside.specs.Folders.{File}
+use Rattle.gp_predict.specs.declared.reply.Reply.{Reply}
+use Rattle.gp_predict.specs.Making as making
+use Rattle.gp_words.specs.Sharding.{CutForm}
+use Rattle.gp_shards.specs.declared.cutting.Cutting.{Cutting}
+use Rattle.gp_shards.specs.Cutting.{cutting_at}
+use Rattle.gp_shards.specs.Leaving.{IsLeft, LeavesPart, made_in}
+
+-- a cut whose files were to be written is not refused
+pub unrefused : (status : ℕ) → (status ≡ 0) ⊎ (status ≡ 4) ⊎ (status ≡ 5) ⊎ (status ≡ 6) → status ≢ 3
+unrefused status (inl zero) three = omega (arith, zero, three)
+unrefused status (inr (inl four)) three = omega (arith, four, three)
+unrefused status (inr (inr (inl five))) three = omega (arith, five, three)
+unrefused status (inr (inr (inr six))) three = omega (arith, six, three)
+
+left_from : (made : List File) (status : ℕ) (before after : List File) → status ≢ 3 → making.IsLeft made status before after → IsLeft made status before after
+left_from made status before after other left =
+    record { all = left.all; refused = λ three. absurd (other three); failed = λ four. inr (left.failed four); others = left.others }
+
+-- the files were written, or some of them
+pub files_left : (cut : CutForm) (cutting : Cutting) (status : ℕ) (middle before after : Option (List File)) → status ≢ 3 → middle ≡ before
+    → ((told : List File) → before ≡ Some told → cutting_at told cut ≡ Ok cutting) → making.LeavesMade (files_at cut.out cutting.files) status middle after
+    → WhereTold before after (LeavesPart cut status)
+files_left cut cutting status middle None after other same came left =
+    subst (λ (old : Option (List File)). making.LeavesMade (files_at cut.out cutting.files) status old after) same left
+files_left cut cutting status middle (Some told) after other same came left =
+    let moved : making.LeavesMade (files_at cut.out cutting.files) status (Some told) after =
+    subst (λ (old : Option (List File)). making.LeavesMade (files_at cut.out cutting.files) status old after) same left in (
+      moved.0,
+      moved.1,
+      subst (λ (due : Result Cutting Reply). IsLeft (made_in cut.out due) status told moved.0) (sym (came told refl))
+          (left_from (files_at cut.out cutting.files) status told moved.0 other moved.2),
+    )

@@ -1,0 +1,10 @@
+pub mod AbsentText
+pub mod Asked
+pub mod CutOut
+pub mod Fitting
+pub mod Leaving
+pub mod Merged
+pub mod Named
+pub mod Ran
+pub mod Row
+pub mod Walking

@@ -1,0 +1,11 @@
+pub mod Cutting
+pub mod Due
+pub mod Finishing
+pub mod Folders
+pub mod Headline
+pub mod Leaving
+pub mod Merging
+pub mod PartFolders
+pub mod Refusing
+pub mod Run
+pub mod Stage

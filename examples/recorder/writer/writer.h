@@ -1,0 +1,189 @@
+/* What the files of the writer share: it runs the program, reads the log of the run, and writes the folder.
+ *
+ * The log is gone through three times. First it is found which granules two threads touch and one of them writes; then
+ * these are made into cells, and what is known of each is collected; then the events are made. */
+#ifndef WRITER_H
+#define WRITER_H
+
+#include <stdbool.h>
+#include <stddef.h>
+#include <stdint.h>
+#include <stdio.h>
+
+#include "../format.h"
+
+enum { MOST_NAME = 32, MOST_EVENTS = 2048, MOST_WINDOWS = 4096, MOST_TRACE = 2097152, MOST_MANIFEST = 1048576 };
+enum { STATUS_RECORDED, STATUS_NOT_WELL, STATUS_WORDS, STATUS_NOTHING, STATUS_LEFT_OUT };
+
+/* ---- Words of the command ---- */
+
+struct words {
+    uint64_t seed, last, schedule, seconds, alike;
+    uint32_t per, switch_every, log_mib;
+    bool strict;
+    const char *props, *from, *folder;
+    char **program;
+};
+
+struct words read_words(int count, char **given);
+
+/* ---- Telling, and memory that grows ---- */
+
+void tell(const char *format, ...) __attribute__((format(printf, 1, 2)));
+/* As `tell`, of something that is left out and that an answer may miss. */
+void tell_left(const char *format, ...) __attribute__((format(printf, 1, 2)));
+bool is_anything_left(void);
+_Noreturn void fail(int status, const char *format, ...) __attribute__((format(printf, 2, 3)));
+/* The same array with room for one more element behind `count`. */
+void *room_for(void *array, size_t count, size_t size);
+
+#define ADD(array, count, ...) ((array) = room_for(array, count, sizeof *(array)), (array)[(count)++] = (__VA_ARGS__))
+
+/* ---- The run ---- */
+
+struct ending {
+    bool started;
+    int status, signal;
+};
+
+struct ending run_program(const struct words *words, const char *log);
+
+/* ---- The log ---- */
+
+struct log {
+    const struct log_head *head;
+    const struct record *records;
+    uint64_t count;
+};
+
+bool map_log(const char *path, struct log *log);
+const char *word_at(const struct log *log, uint32_t word);
+const struct record *behind(const struct log *log, const struct record *record);
+bool is_synchronisation(const struct record *record);
+
+/* ---- Objects: what lies where, as the log goes on ---- */
+
+enum object_kind { SYMBOL, HEAP, LOCAL, OTHER };
+
+struct place {
+    enum object_kind kind;
+    uint64_t object, offset;
+};
+
+void forget_objects(void);
+void note_object(const struct log *log, const struct record *record);
+struct place place_of(uint64_t address);
+const char *symbol_name(uint64_t object);
+
+/* ---- Names ---- */
+
+/* Numbers and memory that stand at one place have names of their own. */
+enum name_use { OF_MEMORY, OF_NUMBER };
+
+uint32_t name_of_place(struct place place, uint32_t generation, enum name_use use);
+uint32_t name_of_word(const char *word);
+uint32_t name_of_descriptor(uint64_t descriptor);
+const char *name_text(uint32_t name);
+uint32_t name_count(void);
+
+/* ---- Cells ---- */
+
+struct cell {
+    struct place place;
+    uint32_t generation, accesses;
+    uint64_t threads, signature;
+    int64_t known, found; /* at the first change that is not recorded */
+    uint8_t size;
+    bool written, changed, kept;
+};
+
+/* One cell's part in an access. */
+struct part {
+    uint32_t cell;
+    int64_t old, new;
+    bool fresh; /* the first one in this stretch of the recording: what was found is what the stretch begins with */
+};
+
+struct access {
+    struct part parts[GRANULE];
+    unsigned count;
+};
+
+void find_cells(const struct log *log, uint64_t alike);
+void begin_walk(void);
+/* Takes the walk over the cells past a record; its parts, where it is an access to granules that matter. */
+struct access walk(const struct record *record);
+/* The cells that a FREE record ends, to be asked for before the walk goes past it. */
+size_t cells_of_block(const struct record *record, uint32_t **cells);
+struct cell *cell_at(uint32_t cell);
+void tell_cells(void);
+/* How many accesses in the log are to cells that no two threads touch, or nobody writes. */
+uint64_t unshared_accesses(void);
+bool is_shared_descriptor(uint64_t descriptor);
+
+/* ---- Events ---- */
+
+enum event_kind { AN_EXIT, A_READ, A_WRITE, AN_ACQUIRE, A_RELEASE, AN_RACQUIRE, AN_RRELEASE, A_START, A_JOIN, AN_OPERATION,
+                  A_BEGIN, AN_END, A_SET, A_PAUSE, A_STRETCH };
+
+/* The last three are no events: a variable's value at the beginning of its window; nothing is wanted from here on; it is
+ * again, in a new window. */
+struct event {
+    uint8_t kind, thread, objects;
+    bool ends_unit;
+    uint32_t name; /* or the thread of a start or a join */
+    int64_t value; /* or, of an operation, where its objects are */
+};
+
+struct events {
+    struct event *list;
+    uint64_t count;
+    uint32_t *objects;
+    uint64_t object_count;
+    unsigned threads;
+    uint64_t surplus; /* events for which there was no room */
+};
+
+struct events make_events(const struct log *log);
+/* Without the rounds of loops that read what they read before, and change nothing; how many events these had. */
+uint64_t fold_loops(struct events *events);
+/* Without what lies in pauses, and before the first operation of a name, where one is given; false where there is none. */
+bool keep_wanted(struct events *events, const char *from);
+/* Without what lies before event `first`. */
+void keep_last(struct events *events, uint64_t first);
+void tell_used(const struct events *events);
+void tell_wrong_locks(void);
+bool is_event(const struct event *event);
+int print_event(char *to, size_t room, const struct events *events, const struct event *event);
+
+/* ---- Windows: [begin, end) of the events ---- */
+
+struct window {
+    uint64_t begin, end;
+    uint32_t size;
+};
+
+struct windows {
+    struct window *list;
+    uint64_t count;
+};
+
+struct windows cut_windows(const struct events *events, uint32_t per);
+
+/* ---- The folder ---- */
+
+struct folder {
+    char **texts; /* of each thread's trace, and at 0 of the manifest's values */
+    uint64_t *sizes;
+    uint64_t windows, events, cut;
+    uint32_t largest;
+    bool shared;
+};
+
+struct folder make_folder(const struct events *events, const struct windows *windows);
+/* The first event that cannot happen in the recorded order, told; true where all can. */
+bool replays(const struct events *events, const struct windows *windows, uint64_t count);
+void write_folder(const struct words *words, const struct folder *folder, const struct events *events,
+                  const struct windows *windows);
+
+#endif

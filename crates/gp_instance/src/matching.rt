@@ -1,4 +1,4 @@
-ghost use Rattle.std.specs.Prelude.{◌≡◌, ◌↔◌, [], length, IsTrue};
+ghost use Rattle.std.specs.Prelude.{◌≡◌, ◌↔◌, ◌+◌, ◌<◌, [], length, None, IfSome, IsTrue};
 ghost use Rattle.std.specs.List.{list_all};
 ghost use Rattle.gp_property.specs.Atoms.{atom_count};
 ghost use Rattle.gp_instance.specs.Matches.{all_before, begins_with_group, follow, groups_of, is_before, is_before_all, matches_events, place_of, stands_together};
@@ -12,14 +12,25 @@ use gp_window::{EventId, Schedule, contains_event};
 pub fn is_one_for_each(property: &Property, instance: &Instance) -> bool
     ensures { IsTrue result ↔ (length instance.now.events ≡ atom_count property.now.pattern) }
 {
-    let mut left = instance.events.len();
-    for step in property.pattern() {
+    match left_after(instance.events.len(), property.pattern()) {
+        Some(left) => left == 0,
+        None => false,
+    }
+}
+
+/// How many of so many events are left after one for each atom of a pattern, where there are enough.
+fn left_after(events: usize, pattern: &[PatternStep]) -> Option<usize>
+    ensures enough { IfSome result (λ left. left + atom_count pattern.now ≡ events) }
+    ensures short { result ≡ None → events < atom_count pattern.now }
+{
+    let mut left = events;
+    for step in pattern {
         if step.atoms.len() > left {
-            return false;
+            return None;
         }
         left -= step.atoms.len();
     }
-    left == 0
+    Some(left)
 }
 
 /// Whether a schedule matches an instance: all its events are in the schedule, each event of a step

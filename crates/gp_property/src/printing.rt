@@ -193,9 +193,9 @@ fn put_atom(text: &mut Vec<u8>, atom: &Atom) -> Result<(), AllocError>
 fn put_mark(text: &mut Vec<u8>, mark: u8, number: Option<u8>) -> Result<(), AllocError>
     ensures { OnOk result (text.new.items ≡ text.old.items ++ mark_word mark number) }
 {
-    if let Some(number) = number {
-        text.push(mark)?;
-        print_u64(text, u64::from(number))?;
-    }
-    Ok(())
+    let Some(number) = number else {
+        return Ok(());
+    };
+    text.push(mark)?;
+    print_u64(text, u64::from(number))
 }

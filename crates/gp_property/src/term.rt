@@ -1,5 +1,5 @@
 ghost use Rattle.std.specs.Prelude.{◌≡◌, IfOk};
-ghost use Rattle.gp_property.specs.Term.{term_of, terms_of, thread_of, value_of};
+ghost use Rattle.gp_property.specs.Term.{is_with, named_term, param_with, term_of, terms_of, thread_of, value_of};
 
 use crate::property::{Term, ThreadTerm, ValueTerm};
 use gp_base::Row;
@@ -13,9 +13,36 @@ pub fn term_of(word: &[u8]) -> Option<Term>
     if word == b"*".as_slice() {
         return Some(Term::Any);
     }
+    named_term(word)
+}
+
+// A parameter after its `$`, else a name.
+fn named_term(word: &[u8]) -> Option<Term>
+    ensures { result ≡ named_term word.now }
+{
     match word {
-        [b'$', name @ ..] => Some(Term::Param(Name::of(name)?)),
-        _ => Some(Term::Is(Name::of(word)?)),
+        [b'$', name @ ..] => param_with(Name::of(name)),
+        _ => is_with(Name::of(word)),
+    }
+}
+
+// The parameter of this name.
+fn param_with(name: Option<Name>) -> Option<Term>
+    ensures { result ≡ param_with name }
+{
+    match name {
+        Some(name) => Some(Term::Param(name)),
+        None => None,
+    }
+}
+
+// This very name.
+fn is_with(name: Option<Name>) -> Option<Term>
+    ensures { result ≡ is_with name }
+{
+    match name {
+        Some(name) => Some(Term::Is(name)),
+        None => None,
     }
 }
 

@@ -1,5 +1,6 @@
-ghost use Rattle.std.specs.Prelude.{◌≡◌, IfOk};
-ghost use Rattle.gp_trace.specs.Event.{alone, at_most_four, did, entry_of, event_of, name_alone, name_and_objects, name_and_value, names_of, number_alone, shared_of};
+ghost use Rattle.std.specs.Prelude.{◌≡◌, IfOk, codes, false};
+ghost use Rattle.std.specs.Str.{bytes_eq};
+ghost use Rattle.gp_trace.specs.Event.{alone, at_most_four, both, did, entry_of, event_of, name_alone, name_and_objects, name_and_value, names_of, number_alone, shared_of};
 
 use crate::event::Event;
 use crate::operation::Operation;
@@ -76,7 +77,25 @@ fn event_of(
         Ok(name_alone(words).map(|lock| Event::Acquire(lock)))
     } else if keyword == b"release".as_slice() {
         Ok(name_alone(words).map(|lock| Event::Release(lock)))
-    } else if keyword == b"start".as_slice() {
+    } else {
+        event_of_other(alloc, format, keyword, words)
+    }
+}
+
+// The event of a keyword that is none of `read`, `write`, `acquire` and `release`.
+fn event_of_other(
+    alloc: Global,
+    format: u32,
+    keyword: &[u8],
+    words: Words,
+) -> Result<Option<Event>, AllocError>
+    requires no_read { bytes_eq keyword.now (codes "read") ≡ false }
+    requires no_write { bytes_eq keyword.now (codes "write") ≡ false }
+    requires no_acquire { bytes_eq keyword.now (codes "acquire") ≡ false }
+    requires no_release { bytes_eq keyword.now (codes "release") ≡ false }
+    ensures { IfOk result (λ event. event ≡ event_of format keyword.now words.entry) }
+{
+    if keyword == b"start".as_slice() {
         Ok(number_alone(words).map(|thread| Event::Start(thread)))
     } else if keyword == b"join".as_slice() {
         Ok(number_alone(words).map(|thread| Event::Join(thread)))
@@ -131,12 +150,20 @@ fn name_and_value(words: Words) -> Option<(Name, i64)>
     ensures { result ≡ name_and_value words.entry }
 {
     let mut words = words;
-    let name = words.next()?;
-    let value = words.next()?;
-    if words.next().is_some() {
-        return None;
+    match (words.next(), words.next(), words.next()) {
+        (Some(name), Some(value), None) => both(Name::of(name), read_i64(value)),
+        _ => None,
     }
-    Some((Name::of(name)?, read_i64(value)?))
+}
+
+// The name and the value, where both are there.
+fn both(name: Option<Name>, value: Option<i64>) -> Option<(Name, i64)>
+    ensures { result ≡ both name value }
+{
+    match (name, value) {
+        (Some(name), Some(value)) => Some((name, value)),
+        _ => None,
+    }
 }
 
 fn name_and_objects(alloc: Global, words: Words) -> Result<Option<Operation>, AllocError>

@@ -1,6 +1,6 @@
 ghost use Rattle.std.specs.Prelude.{◌≡◌, ◌≢◌, ◌<◌, ◌≤◌, ◌-◌, ◌^◌, true, [], All, drop, length, map, slice_get, Some, Ok, Err, IfSome, IfOk, IfErr, OnOk, option_copied};
 ghost use Rattle.std.specs.List.Sorted.{IsStrictlySortedBy};
-ghost use Rattle.gp_window.specs.Manifest.{epochs_of, field_of, format_of, manifest_of, manifest_of_text, roots_of, start_value, threads_of, value_of, values_after, values_from, values_of, with_roots, with_threads, with_value};
+ghost use Rattle.gp_window.specs.Manifest.{epochs_of, field_of, format_of, manifest_of, manifest_of_text, roots_of, start_value, threads_of, value_of, value_with, values_after, values_from, values_of, with_roots, with_threads, with_value};
 ghost use Rattle.gp_window.specs.ManifestFaults.{IsDueFault, PutGives};
 ghost use Rattle.gp_window.specs.ManifestForm.{IsInside, IsManifest, place_cmp, place_of};
 ghost use Rattle.gp_text.specs.Numbers.{number_after};
@@ -340,12 +340,26 @@ fn value_of(epochs: u32, words: &[Word]) -> Option<StartValue>
 {
     match words {
         [keyword, window, name, value] if keyword.as_bytes() == b"value".as_slice() => {
-            Some(StartValue {
-                window: between(1, epochs, read_u32(window.as_bytes()))?,
-                variable: Name::of(name.as_bytes())?,
-                value: read_i64(value.as_bytes())?,
-            })
+            value_with(
+                between(1, epochs, read_u32(window.as_bytes())),
+                Name::of(name.as_bytes()),
+                read_i64(value.as_bytes()),
+            )
         }
+        _ => None,
+    }
+}
+
+// The value of a variable at the beginning of a window, where all three are there.
+fn value_with(window: Option<u32>, variable: Option<Name>, value: Option<i64>) -> Option<StartValue>
+    ensures { result ≡ value_with window variable value }
+{
+    match (window, variable, value) {
+        (Some(window), Some(variable), Some(value)) => Some(StartValue {
+            window,
+            variable,
+            value,
+        }),
         _ => None,
     }
 }

@@ -30,6 +30,23 @@ pub fn tight(
     ensures tight { IfOk result (λ left. IsTight problem.now.edges (problem.now.kinds ++ query.now.locals) (named (logged problem.now log.now) step.hints) left.clause) }
 {
     let mut tester = Tester::new(alloc, problem, query.locals.as_slice())?;
+    tightened_step(&mut tester, problem, log, step)
+}
+
+// The same by a tester.
+fn tightened_step(
+    tester: &mut Tester,
+    problem: &Problem,
+    log: &[LogEntry],
+    step: Step,
+) -> Result<Step, AllocError>
+    requires within { All (NamesBelow (length tester.old.kinds)) (named (logged problem.now log.now) step.hints) }
+    requires passes { Passes tester.old.edges tester.old.kinds (named (logged problem.now log.now) step.hints) step.clause }
+    ensures hints { IfOk result (λ left. left.hints ≡ step.hints) }
+    ensures some { IfOk result (λ left. All (Contains step.clause) left.clause) }
+    ensures passes { IfOk result (λ left. Passes tester.old.edges tester.old.kinds (named (logged problem.now log.now) step.hints) left.clause) }
+    ensures tight { IfOk result (λ left. IsTight tester.old.edges tester.old.kinds (named (logged problem.now log.now) step.hints) left.clause) }
+{
     let Step { clause, hints } = step;
     let clause = tester.tighten(problem, log, hints.as_slice(), clause)?;
     Ok(Step { clause, hints })

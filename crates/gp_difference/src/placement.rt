@@ -47,10 +47,8 @@ impl Placement {
     {
         let points = places.len();
         let labels = places.clone()?;
-        let mut via = Vec::new(alloc);
-        via.resize(points, 0)?;
-        let mut walk = Vec::new(alloc);
-        walk.resize(points, 0)?;
+        let via = zeros(alloc, points)?;
+        let walk = zeros(alloc, points)?;
         Ok(Placement {
             places,
             labels,
@@ -212,6 +210,15 @@ impl Placement {
         make_anew(&self.places, &mut self.labels);
         self.places.copy_from_slice(&self.labels);
     }
+}
+
+/// So many zeros.
+fn zeros(alloc: Global, count: usize) -> Result<Vec<usize>, AllocError>
+    ensures { IfOk result (λ numbers. numbers.items ≡ replicate count 0) }
+{
+    let mut numbers = Vec::new(alloc);
+    numbers.resize(count, 0)?;
+    Ok(numbers)
 }
 
 /// Copies the numbers at the points, where alone the lists differ, and takes back the falls of these points.

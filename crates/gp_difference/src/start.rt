@@ -71,12 +71,22 @@ fn linked(alloc: Global, points: usize, edges: &[Edge]) -> Result<Bounds, AllocE
     ensures { IfOk result (λ bounds. AreBoundsOf points bounds) }
 {
     let mut bounds = Bounds::new(alloc, points)?;
+    link_all(edges, &mut bounds)?;
+    Ok(bounds)
+}
+
+/// Adds the edges to the bounds.
+fn link_all(edges: &[Edge], bounds: &mut Bounds) -> Result<(), AllocError>
+    requires within { All (IsEdgeOf bounds.old.points) edges.now }
+    requires bounds { AreBoundsOf bounds.old.points bounds.old }
+    ensures { AreBoundsOf bounds.old.points bounds.new }
+{
     for &edge in edges {
         let room = bounds.room();
         bounds.reserve(room.saturating_add(1))?;
         bounds.push(Bound { edge, tag: None });
     }
-    Ok(bounds)
+    Ok(())
 }
 
 /// Counts for each point the edges below zero that begin at it.

@@ -3,7 +3,7 @@ use Rattle.std.proofs.Common.{◌≡◌, refl, sym, ◌∙◌, ap, subst, ℕ, �
 use Rattle.std.specs.Prelude.{slice_set}
 use Rattle.std.specs.List.{slice_range}
 use Rattle.std.proofs.lemmas.Bool.{cases_lt}
-use Rattle.std.proofs.lemmas.List.{take-append-le, drop-append-le, length-drop, length-append, length_push, get_or_append_left, get_or_push, get_or_default, map-set, take_all}
+use Rattle.std.proofs.lemmas.List.{take-append-le, drop-append-le, length-drop, length-append, length-map, length_push, get_or_append_left, get_or_push, get_or_default, map-set, take_all}
 use Rattle.std.proofs.Math.Seq.{drop-append_seam}
 use Rattle.gp_clause.specs.declared.lit.Lit.{Lit}
 use Rattle.gp_clause.specs.Clause.{IsRising}
@@ -77,6 +77,28 @@ stored_get : (literals : List Lit) (ranges : List Range) (number : ℕ) → get_
 stored_get literals [] number = refl
 stored_get literals (r ∷ ranges) zero = refl
 stored_get literals (r ∷ ranges) (suc number) = stored_get literals ranges number
+
+-- a number below the clauses' count has a range
+pub range_within : (literals : List Lit) (ranges : List Range) (list : List Stored) (number : ℕ) → stored literals ranges ≡ list → number < length list → number < length ranges
+range_within literals ranges list number view within =
+    omega (arith, within, ap (λ (xs : List Stored). length xs) view, length-map ranges (stored_at literals))
+
+-- the range that is read under a number
+pub range_read : (literals now : List Lit) (ranges : List Range) (list : List Stored) (number : ℕ) (range : Range) → stored literals ranges ≡ list → number < length list
+    → range ≡ get_or ranges number range → now ≡ literals → AreRanges literals ranges → IsRange now range
+range_read literals now ranges list number range view below is same ranged =
+    let within : number < length ranges = range_within literals ranges list number view below in
+    subst (λ (xs : List Lit). IsRange xs range) (sym same)
+    (subst (λ (r : Range). IsRange literals r) (sym (is ∙ get_or_default ranges number range no_range within)) (ranged number within))
+
+-- the clause that lies in it
+pub clause_read : (literals now : List Lit) (ranges : List Range) (list : List Stored) (number : ℕ) (range : Range) → stored literals ranges ≡ list → number < length list
+    → range ≡ get_or ranges number range → now ≡ literals → slice_range now range.start range.end ≡ clause_at list number
+clause_read literals now ranges list number range view below is same =
+    ap (λ (xs : List Lit). slice_range xs range.start range.end) same
+    ∙ ap (λ (r : Range). slice_range literals r.start r.end) (is ∙ get_or_default ranges number range no_range (range_within literals ranges list number view below))
+    ∙ sym (ap (λ (x : Stored). x.clause) (stored_get literals ranges number))
+    ∙ ap (λ (xs : List Stored). clause_at xs number) view
 
 -- a clause that is detached keeps its range
 pub detached : (literals : List Lit) (ranges : List Range) (number : ℕ) (range : Range) → number < length ranges → range ≡ get_or ranges number range

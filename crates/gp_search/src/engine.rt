@@ -1,4 +1,4 @@
-ghost use Rattle.std.specs.Prelude.{◌≡◌, [], IfOk, length};
+ghost use Rattle.std.specs.Prelude.{◌≡◌, [], IfOk, OnOk, length};
 ghost use Rattle.gp_clause.specs.Problem.{IsValidProblem};
 ghost use Rattle.gp_clause.specs.Edge.{IsSolvable};
 ghost use Rattle.gp_search.specs.Inside.{IsIdle, IsGraphOf};
@@ -73,10 +73,20 @@ fn attached(alloc: Global, problem: &Problem) -> Result<Solver, AllocError>
     ensures { IfOk result (λ solver. solver ≡ of_clauses (length problem.now.kinds) problem.now.clauses) }
 {
     let mut solver = Solver::new(alloc, problem.kinds.len() as u32)?;
+    attach_all(&mut solver, problem)?;
+    Ok(solver)
+}
+
+// Attaches the clauses of a problem to a solver that has no more than its variables.
+fn attach_all(solver: &mut Solver, problem: &Problem) -> Result<(), AllocError>
+    requires valid { IsValidProblem problem.now }
+    requires bare { solver.old ≡ of_clauses (length problem.now.kinds) [] }
+    ensures { OnOk result (solver.new ≡ of_clauses (length problem.now.kinds) problem.now.clauses) }
+{
     for clause in problem.clauses.as_slice() {
         solver.attach(clause)?;
     }
-    Ok(solver)
+    Ok(())
 }
 
 // A graph with the points and the edges of a problem.

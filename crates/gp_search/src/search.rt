@@ -63,7 +63,16 @@ impl<'a> Search<'a> {
         ensures { result ≡ self.entry.log }
     {
         let Search { engine, .. } = self;
-        let Engine { log, .. } = engine;
+        let Engine {
+            solver,
+            graph,
+            log,
+            tester,
+            ..
+        } = engine;
+        drop(solver);
+        drop(graph);
+        drop(tester);
         Row::from_vec(log)
     }
 

@@ -1,4 +1,4 @@
-ghost use Rattle.std.specs.Prelude.{◌≡◌, ◌≤◌, ◌<◌, None, All, IfOk, MatchOption, length, []};
+ghost use Rattle.std.specs.Prelude.{◌≡◌, ◌+◌, ◌≤◌, ◌<◌, None, All, IfOk, OnOk, MatchOption, length, []};
 ghost use Rattle.gp_tickets.specs.Hand.{drew, joined, told_none, unused, WasTold};
 ghost use Rattle.gp_tickets.specs.Tickets.{hand_of, IsDrawerOf, IsUnused};
 
@@ -37,15 +37,29 @@ impl Tickets {
         ensures unused { IfOk result (λ all. All (IsUnused self.now) all.items) }
     {
         let mut all = Vec::new(alloc);
+        self.split_off(&mut seat, &mut all)?;
+        all.push(Drawer { seat, told: false })?;
+        Ok(all)
+    }
+
+    // Splits the seat of the whole crew off for each drawer but one.
+    fn split_off(&self, seat: &mut Seat<u8, Hand>, all: &mut Vec<Drawer>) -> Result<(), AllocError>
+        requires crew { 1 ≤ self.now.crew }
+        requires seat { (seat.old.table_id ≡ self.now.table.shared.table_id) × (seat.old.me ≡ (unused self.now.count self.now.crew self.now.crew, [])) }
+        requires none { all.old.items ≡ [] }
+        ensures same { OnOk result (seat.new.table_id ≡ self.now.table.shared.table_id) }
+        ensures seat { OnOk result (seat.new.me ≡ (unused self.now.count self.now.crew 1, [])) }
+        ensures len { OnOk result (length all.new.items + 1 ≡ self.now.crew) }
+        ensures unused { OnOk result (All (IsUnused self.now) all.new.items) }
+    {
         'parts: for _ in 0..self.crew - 1 {
-            let one = self.table.shared.split_seat::<HandOver>(&mut seat);
+            let one = self.table.shared.split_seat::<HandOver>(seat);
             all.push(Drawer {
                 seat: one,
                 told: false,
             })?;
         }
-        all.push(Drawer { seat, told: false })?;
-        Ok(all)
+        Ok(())
     }
 
     /// The next number, by one atomic step; None where none is left, or this drawer was told so before. Takes no memory

@@ -42,9 +42,10 @@ impl<'a> Worker<'a> {
         ensures number { IfOk result (λ worker. worker.number ≡ number) }
         ensures fresh { IfOk result IsFresh }
     {
+        let search = Search::new(alloc, problem)?;
         Ok(Worker {
             number,
-            search: Search::new(alloc, problem)?,
+            search,
             turns: Vec::new(alloc),
         })
     }
@@ -143,10 +144,17 @@ pub(crate) fn work<G: Gate, M: BoundedMail>(
         return Ok(Worked::idle(alloc, drawer));
     };
     let mut worker = Worker::new(alloc, load.problem, number)?;
-    let made = answer_drawn(alloc, load, &mut worker, &mut drawer, mail, first)?;
-    let record = worker.into_record();
-    let drawn = Drawn { made, drawer };
-    Ok(Worked { drawn, record })
+    match answer_drawn(alloc, load, &mut worker, &mut drawer, mail, first) {
+        Ok(made) => {
+            let record = worker.into_record();
+            let drawn = Drawn { made, drawer };
+            Ok(Worked { drawn, record })
+        }
+        Err(error) => {
+            drop(worker);
+            Err(error)
+        }
+    }
 }
 
 impl Worked {

@@ -1,5 +1,6 @@
-use Rattle.std.proofs.Common.{◌≡◌, ◌≢◌, ℕ, ℤ, ◌+ℤ◌, ◌<ℤ◌, List, [], length, replicate, refl, sym, ap, subst, ◌∙◌, w64, to_z, of_z, arith}
+use Rattle.std.proofs.Common.{◌≡◌, ◌≢◌, ℕ, ℤ, ◌<◌, ◌+ℤ◌, ◌<ℤ◌, List, [], length, replicate, refl, sym, ap, subst, ◌∙◌, w64, to_z, of_z, arith}
 use Rattle.std.proofs.lemmas.Int.{ints}
+use Rattle.std.proofs.lemmas.List.{length-replicate}
 use Rattle.gp_clause.specs.declared.edge.Edge.{Edge}
 use Rattle.gp_difference.specs.declared.bound.Bound.{Bound}
 use Rattle.gp_difference.specs.Places.{place_at}
@@ -28,6 +29,65 @@ sum_at : (bounds : List Bound) (new : Edge) (places : List ℤ) (place : ℤ) �
 sum_at bounds new places place input at =
     sum_is place new.c (omega (arith, ints, at, input.bottom new.b)) (omega (arith, ints, at, input.top new.b)) input.new_edge.low input.new_edge.high
     ∙ ap (λ l. l +ℤ new.c) at
+
+-- a point that may fall in a run that begins
+record MayFall (p : PlacementForm) (v : ℕ) : Type 0 where
+  places : v < length p.places
+  labels : v < length p.labels
+  via : v < length p.via
+  falls : v < length p.falls
+  room : length p.fallen < length p.places
+
+may_fall : (p b : PlacementForm) (v : ℕ) → IsAtRest p → b ≡ record p { fallen = [] } → v < length p.places → MayFall b v
+may_fall p b v rest begun lt = subst (λ (r : PlacementForm). MayFall r v) (sym begun) (record {
+  places = lt;
+  labels = subst (λ (ls : List ℤ). v < length ls) (sym rest.labels_rest) lt;
+  via = omega (arith, rest.via_size);
+  falls = subst (λ (fs : List ℤ). v < length fs) (sym rest.falls_rest) (rw length-replicate lt);
+  room = omega arith;
+})
+
+pub place-requires : goal.place-requires
+place-requires c = c.requires.input.new_edge.second
+
+pub place-requires-2 : goal.place-requires-2
+place-requires-2 c = c.requires.input.new_edge.first
+
+pub fall-requires-clause-places : goal.fall-requires-clause-places
+fall-requires-clause-places c = (may_fall c.args.run.now c.begin.new.self c.args.new.a c.requires.rest c.begin.ensures c.requires.input.new_edge.first).places
+
+pub fall-requires-clause-labels : goal.fall-requires-clause-labels
+fall-requires-clause-labels c = (may_fall c.args.run.now c.begin.new.self c.args.new.a c.requires.rest c.begin.ensures c.requires.input.new_edge.first).labels
+
+pub fall-requires-clause-via : goal.fall-requires-clause-via
+fall-requires-clause-via c = (may_fall c.args.run.now c.begin.new.self c.args.new.a c.requires.rest c.begin.ensures c.requires.input.new_edge.first).via
+
+pub fall-requires-clause-falls : goal.fall-requires-clause-falls
+fall-requires-clause-falls c = (may_fall c.args.run.now c.begin.new.self c.args.new.a c.requires.rest c.begin.ensures c.requires.input.new_edge.first).falls
+
+pub fall-requires-clause-room : goal.fall-requires-clause-room
+fall-requires-clause-room c = (may_fall c.args.run.now c.begin.new.self c.args.new.a c.requires.rest c.begin.ensures c.requires.input.new_edge.first).room
+
+pub fall-requires-clause-top : goal.fall-requires-clause-top
+fall-requires-clause-top c = rw c.begin.ensures (c.requires.input.top c.args.new.a)
+
+pub lower-requires-clause-input : goal.lower-requires-clause-input
+lower-requires-clause-input c = rw (c.fall.ensures, c.begin.ensures) c.requires.input
+
+pub lower-requires-clause-points : goal.lower-requires-clause-points
+lower-requires-clause-points c = rw (c.fall.ensures, c.begin.ensures) c.requires.points
+
+pub keep-requires : goal.keep-requires
+keep-requires c = c.in-None.ensures.gives.1
+
+pub trace-count-requires-clause-size : goal.trace-count-requires-clause-size
+trace-count-requires-clause-size c = rw (c.in-Some.ensures.stays.same_walk, c.in-Some.ensures.stays.same_places, c.fall.ensures, c.begin.ensures) c.requires.rest.walk_size
+
+pub trace-count-requires-clause-input : goal.trace-count-requires-clause-input
+trace-count-requires-clause-input c = rw (c.in-Some.ensures.stays.same_places, c.fall.ensures, c.begin.ensures) c.requires.input
+
+pub trace-count-requires-clause-closing : goal.trace-count-requires-clause-closing
+trace-count-requires-clause-closing c = c.in-Some.ensures.gives
 
 pub returns-then-place-label : goal.returns-then-place-label
 returns-then-place-label c =

@@ -1,7 +1,7 @@
 use Rattle.std.proofs.Common.{◌≡◌, ◌-◌, length, [], All}
 use Rattle.gp_tickets.specs.Tickets.{IsUnused}
 use Rattle.gp_tickets.specs.Hand.{unused}
-use Rattle.gp_tickets.proofs.tickets.Tickets.cut.Given as goal
+use Rattle.gp_tickets.proofs.tickets.Tickets.split_off.Given as goal
 
 abbrev pub invariant-parts : goal.invariant-parts
 invariant-parts l = record {

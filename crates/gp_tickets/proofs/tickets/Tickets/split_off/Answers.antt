@@ -1,7 +1,7 @@
 -- As long as it stands for several drawers, one can be handed over.
 use Rattle.std.proofs.Common.{◌≡◌, ◌-◌, ap, arith}
 use Rattle.gp_tickets.proofs.Steps.{splits}
-use Rattle.gp_tickets.proofs.tickets.Tickets.cut.Goals as goal
+use Rattle.gp_tickets.proofs.tickets.Tickets.split_off.Goals as goal
 
 pub split_seat-one-requires : goal.split_seat-one-requires
 split_seat-one-requires c =

@@ -1,5 +1,0 @@
-use Rattle.gp_difference.specs.Start.{AreBoundsOf}
-use Rattle.gp_difference.proofs.start.linked.Given as goal
-
-abbrev pub invariant-loop-edge : goal.invariant-loop-edge
-invariant-loop-edge l = AreBoundsOf l.points l.bounds

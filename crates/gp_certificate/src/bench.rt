@@ -58,27 +58,34 @@ impl Bench {
         let mut kinds = Vec::from_slice(alloc, problem.kinds.as_slice())?;
         kinds.extend_from_slice(locals)?;
         let count = kinds.len();
-        let assignment = Assignment::new(alloc, count)?;
-        let places = Places::new(
-            alloc,
-            problem.points,
-            problem.edges.as_slice(),
-            count as u32,
-        )?;
+        let mut assignment = Assignment::new(alloc, count)?;
+        let edges = problem.edges.as_slice();
+        let mut places = Places::new(alloc, problem.points, edges, count as u32)?;
         let mut loaded = Loaded::new(alloc);
-        loaded.widen(2 * count)?;
         let mut assumed = ClauseList::new(alloc);
-        assumed.reserve(count, count + 1)?;
-        let levels = Vec::with_capacity(alloc, count + 1)?;
-        Ok(Bench {
-            kinds,
-            lasting: problem.kinds.len(),
-            assignment,
-            places,
-            loaded,
-            assumed,
-            levels,
-        })
+        let mut levels = Vec::new(alloc);
+        match make_room(
+            &mut assignment,
+            &mut places,
+            &mut loaded,
+            &mut assumed,
+            &mut levels,
+            count,
+        ) {
+            Ok(()) => Ok(Bench {
+                kinds,
+                lasting: problem.kinds.len(),
+                assignment,
+                places,
+                loaded,
+                assumed,
+                levels,
+            }),
+            Err(error) => {
+                drop((assignment, places, loaded, assumed));
+                Err(error)
+            }
+        }
     }
 
     /// Changes the locals, of which the loaded clauses have none. After want of memory there are none.

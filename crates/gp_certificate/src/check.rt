@@ -29,7 +29,9 @@ pub fn check_certificate(
     ensures { IfOk result (λ passes. IsTrue passes ↔ PassesOver problem.now shared.now query.now certificate.now) }
 {
     let mut judge = Judge::new(alloc, problem)?;
-    match judge.first_to_fail(problem, shared, query, certificate)? {
+    let first = judge.first_to_fail(problem, shared, query, certificate);
+    drop(judge);
+    match first? {
         None => Ok(true),
         Some(_) => Ok(false),
     }
@@ -45,7 +47,9 @@ pub fn check_shared(
     ensures { IfOk result (λ first. MatchOption first (SharedPasses problem.now shared.now) (FirstFails problem.now shared.now)) }
 {
     let mut judge = Judge::new(alloc, problem)?;
-    judge.first_shared_to_fail(problem, shared)
+    let first = judge.first_shared_to_fail(problem, shared);
+    drop(judge);
+    first
 }
 
 // The first of some own steps that fails, by a bench for the steps with hints and one with all base clauses loaded, where

@@ -1,4 +1,4 @@
-ghost use Rattle.std.specs.Prelude.{◌≡◌, ◌+◌, ◌<◌, ◌^◌, [], ◌++◌, length, IfOk, MatchOption, All};
+ghost use Rattle.std.specs.Prelude.{◌≡◌, ◌+◌, ◌<◌, ◌^◌, [], ◌++◌, length, IfOk, OnOk, MatchOption, All};
 ghost use Rattle.gp_clause.specs.Clause.{NamesBelow};
 ghost use Rattle.gp_clause.specs.Problem.{IsValidKind, IsValidProblem, IsValidQuery};
 ghost use Rattle.gp_certificate.specs.Bench.{HasTested};
@@ -40,8 +40,13 @@ impl Judge {
         ensures { IfOk result (λ judge. judge ≡ problem.now) }
     {
         let hinted = Bench::new(alloc, problem, &[])?;
-        let all = all_loaded(alloc, problem)?;
-        Ok(Judge { hinted, all })
+        match all_loaded(alloc, problem) {
+            Ok(all) => Ok(Judge { hinted, all }),
+            Err(error) => {
+                drop(hinted);
+                Err(error)
+            }
+        }
     }
 
     /// The first own step of a certificate that fails over a shared list, or none where all pass. The clauses of the list
@@ -105,10 +110,25 @@ fn all_loaded(alloc: Global, problem: &Problem) -> Result<Bench, AllocError>
     ensures { IfOk result (λ bench. bench ≡ record { points = problem.now.points; edges = problem.now.edges; lasting = problem.now.kinds; kinds = problem.now.kinds; loaded = problem.now.clauses; assumed = [] }) }
 {
     let mut bench = Bench::new(alloc, problem, &[])?;
-    for clause in problem.clauses.as_slice() {
+    match load_all(&mut bench, problem.clauses.as_slice()) {
+        Ok(()) => Ok(bench),
+        Err(error) => {
+            drop(bench);
+            Err(error)
+        }
+    }
+}
+
+// Loads more clauses.
+fn load_all(bench: &mut Bench, clauses: &[Clause]) -> Result<(), AllocError>
+    requires within { All (NamesBelow (length bench.old.kinds)) clauses.now }
+    requires nothing { bench.old.assumed ≡ [] }
+    ensures { OnOk result (bench.new ≡ record bench.old { loaded = bench.old.loaded ++ clauses.now }) }
+{
+    for clause in clauses {
         bench.load(clause.lits())?;
     }
-    Ok(bench)
+    Ok(())
 }
 
 // The first of some own steps that fails, with these locals, by a bench without clauses and one with all base clauses.

@@ -1,4 +1,5 @@
 ghost use Rattle.std.specs.Prelude.{◌≡◌, ◌+◌, ◌<◌, ◌≤◌, IfOk, length};
+ghost use Rattle.gp_window.specs.Windows.{all_windows};
 ghost use Rattle.gp_checker.specs.Checked.{IsChecked};
 ghost use Rattle.gp_checker.specs.Finds.{FindsAt};
 ghost use Rattle.gp_checker.specs.Reasons.{wrong_count};
@@ -21,6 +22,23 @@ pub fn check_report(
     ensures { IfOk result (IsChecked recording.now properties.now report.now) }
 {
     let mut left = Windows::new(alloc, recording)?;
+    let checked = check_windows(alloc, &mut left, recording, properties, report);
+    drop(left);
+    checked
+}
+
+// Checks a report on all windows of a recording.
+fn check_windows(
+    alloc: Global,
+    left: &mut Windows,
+    recording: &Recording,
+    properties: &[Property],
+    report: &Report,
+) -> Result<Checked, AllocError>
+    requires few { length properties.now ≤ 64 }
+    requires all { left.old ≡ all_windows recording.now }
+    ensures { IfOk result (IsChecked recording.now properties.now report.now) }
+{
     while let Some(window) = left.next(alloc)? {
         if let Some(failure) = check_at(alloc, window, properties, report)? {
             return Ok(Checked::Rejected(failure));
@@ -41,6 +59,7 @@ fn check_at(
 {
     let number = window.number();
     let Some(told) = report.windows().get(number as usize - 1) else {
+        drop(window);
         return Ok(Some(wrong_count(number)));
     };
     if let Some(failure) = check_window(alloc, window, properties, report.budget(), told)? {

@@ -25,7 +25,11 @@ pub(crate) fn check_window(
     ensures { IfOk result (FindsWindow properties.now budget window told.now) }
 {
     match base(alloc, window) {
-        Ok(encoded) => check_answers(alloc, &encoded, properties, budget, told),
+        Ok(encoded) => {
+            let found = check_answers(alloc, &encoded, properties, budget, told);
+            drop(encoded);
+            found
+        }
         Err(BaseFault::TooLarge { events, clauses }) => {
             Ok(check_size(&told.body, events, clauses))
         }
@@ -95,9 +99,20 @@ fn check_records(
     ensures { IfOk result (FindsBody (record { window = encoded.now; budget = budget; shared = shared.now }) properties.now (Answers records.now)) }
 {
     let mut judge = Judge::new(alloc, encoded.problem())?;
-    if let Some(place) = judge.first_shared_to_fail(encoded.problem(), shared)? {
-        return Ok(Some(Failure::of(Reason::BadSharedStep, place)));
+    match judge.first_shared_to_fail(encoded.problem(), shared) {
+        Ok(None) => {
+            let mut checker = Checker::new(encoded, budget, shared, judge);
+            let found = checker.check_properties(alloc, properties, records);
+            drop(checker);
+            found
+        }
+        Ok(Some(place)) => {
+            drop(judge);
+            Ok(Some(Failure::of(Reason::BadSharedStep, place)))
+        }
+        Err(error) => {
+            drop(judge);
+            Err(error)
+        }
     }
-    let mut checker = Checker::new(encoded, budget, shared, judge);
-    checker.check_properties(alloc, properties, records)
 }

@@ -10,14 +10,14 @@ use Rattle.gp_checker.specs.Finds.{FindsBody, FindsProperties}
 use Rattle.gp_checker.proofs.Finds.{body_found}
 use Rattle.gp_checker.proofs.window.check_records.Goals as goal
 
-pub returns : goal.returns
-returns c =
+pub returns-in-Ok-None : goal.returns-in-Ok-None
+returns-in-Ok-None c =
     let properties = c.args.properties.now in
     let records = c.args.records.now in
     let shared = c.args.shared.now in
     let problem : Problem = c.problem-2.result.now in
     let basis : Basis = record { window = c.args.encoded.now; budget = c.args.budget; shared = c.args.shared.now } in
-    let passes = MatchOption-at_none (SharedPasses problem shared) (FirstFails problem shared) c.in_default.is c.in_ok-place.ensures.first in
+    let passes = MatchOption-at_none (SharedPasses problem shared) (FirstFails problem shared) c.in-Ok-None.field-0-is c.in-Ok-None.ensures.first in
     let shares = subst (λ (base : Problem). SharedPasses base c.args.shared.now) c.problem-2.ensures.problem passes in
-    IfOk-weaker c.check_properties.result (FindsProperties c.new-checker.result properties records) (FindsBody basis properties (Answers records))
-    (λ (found : Option Failure) finds. body_found basis properties records shares found (subst (λ (own : Basis). FindsProperties own properties records found) c.new-checker.ensures finds)) c.check_properties.ensures.found
+    IfOk-weaker c.check_properties-found.result (FindsProperties c.new-checker.result properties records) (FindsBody basis properties (Answers records))
+    (λ (found : Option Failure) finds. body_found basis properties records shares found (subst (λ (own : Basis). FindsProperties own properties records found) c.new-checker.ensures finds)) c.check_properties-found.ensures.found

@@ -22,8 +22,8 @@ returns-in-Ok c =
     let is = is_encoded window encoded (sym due) in
     let Finds : WindowForm → Option Failure → Result WindowForm BaseFault → Type 0 = λ w found due.
     MatchOption found (AcceptsBody w budget properties told.shared due told.body) (λ (failure : Failure). FailsBody w budget properties told.shared failure due told.body) in
-    IfOk-weaker c.check_answers.result (λ (found : Option Failure). Finds encoded found (Ok encoded)) (λ (found : Option Failure). Finds window found (base_due window))
-    (λ found finds. subst (Finds window found) (sym (is_due window is.encodable)) (subst (λ (w : WindowForm). Finds w found (Ok w)) is.same finds)) c.check_answers.ensures
+    IfOk-weaker c.check_answers-found.result (λ (found : Option Failure). Finds encoded found (Ok encoded)) (λ (found : Option Failure). Finds window found (base_due window))
+    (λ found finds. subst (Finds window found) (sym (is_due window is.encodable)) (subst (λ (w : WindowForm). Finds w found (Ok w)) is.same finds)) c.check_answers-found.ensures
 
 pub returns-in-Err-TooLarge : goal.returns-in-Err-TooLarge
 returns-in-Err-TooLarge c =

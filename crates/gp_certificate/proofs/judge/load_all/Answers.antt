@@ -2,7 +2,7 @@ use Rattle.std.proofs.Common.{◌≤◌, List, sym, subst}
 use Rattle.gp_base.specs.CountLaws.{once_from_rising}
 use Rattle.gp_clause.specs.declared.lit.Lit.{Lit}
 use Rattle.gp_clause.specs.Clause.{occurrences}
-use Rattle.gp_certificate.proofs.judge.all_loaded.Goals as goal
+use Rattle.gp_certificate.proofs.judge.load_all.Goals as goal
 
 pub load-requires-clause-once : goal.load-requires-clause-once
 load-requires-clause-once c = λ variable.

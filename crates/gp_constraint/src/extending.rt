@@ -1,10 +1,11 @@
-ghost use Rattle.std.specs.Prelude.{◌≡◌, ◌≢◌, ◌+◌, ◌≤◌, ◌<◌, Err, IfOk, MatchResult, length, position};
+ghost use Rattle.std.specs.Prelude.{◌≡◌, ◌≢◌, ◌+◌, ◌≤◌, ◌<◌, ◌++◌, Err, IfOk, OnOk, MatchResult, length, map, position};
 ghost use Rattle.gp_constraint.specs.Base.{clauses_of};
 ghost use Rattle.gp_constraint.specs.Encoded.{IsSmall, point_in};
 ghost use Rattle.gp_constraint.specs.Extending.{extended_due, extended_of, with_further};
+ghost use Rattle.gp_constraint.specs.Numbering.{names_of, numbered};
 ghost use Rattle.gp_constraint.specs.Points.{points_of};
 ghost use Rattle.gp_constraint.specs.Signed.{AreSigned};
-ghost use Rattle.gp_constraint.specs.Symbols.{symbol_eq};
+ghost use Rattle.gp_constraint.specs.Symbols.{kind_of, symbol_eq};
 
 use crate::encoded::Encoded;
 use crate::family::Family;
@@ -77,8 +78,13 @@ pub fn extended<F: Family>(
 ) -> Result<ExtendedProblem, BaseFault>
     ensures { result ≢ Err BaseFault.Memory → result ≡ extended_due encoded (F.clauses family.now encoded) }
 {
-    let more = further(alloc, &encoded, family)?;
-    Ok(extend(alloc, encoded, more.clauses())?)
+    match further(alloc, &encoded, family) {
+        Ok(more) => Ok(extend(alloc, encoded, more.clauses())?),
+        Err(fault) => {
+            drop(encoded);
+            Err(fault)
+        }
+    }
 }
 
 /// The clauses of a family, behind those that are encoded; or the fault that is due.
@@ -123,9 +129,18 @@ fn added<F: Family>(alloc: Global, encoded: &Encoded, family: &F) -> Result<Limi
 {
     let mut more = LimitedClauses::behind(alloc, count_of(encoded))?;
     let points = points_of(alloc, encoded)?;
-    family.add(encoded.window(), &points, &mut more)?;
-    let _ = more.clauses();
-    Ok(more)
+    let added = family.add(encoded.window(), &points, &mut more);
+    drop(points);
+    match added {
+        Ok(()) => {
+            let _ = more.clauses();
+            Ok(more)
+        }
+        Err(full) => {
+            drop(more);
+            Err(full)
+        }
+    }
 }
 
 /// Clauses by their variables, behind those that are encoded.
@@ -144,7 +159,7 @@ fn extend(
 fn with_further(
     alloc: Global,
     window: Window,
-    problem: Problem,
+    mut problem: Problem,
     mut names: Names,
     sizes: Row<u32>,
     more: &[Row<SymbolicLit>],
@@ -153,24 +168,34 @@ fn with_further(
     requires signed { AreSigned more.now }
     ensures { IfOk result (λ extended. extended ≡ with_further window problem names sizes more.now) }
 {
-    let Problem {
-        points,
-        kinds: _,
-        edges,
-        mut clauses,
-    } = problem;
-    number_onto(alloc, &mut clauses, &mut names, more)?;
-    let kinds = kinds_of(alloc, names.as_slice())?;
-    let problem = Problem {
-        points,
-        kinds,
-        edges,
-        clauses,
-    };
-    Ok(ExtendedProblem {
+    let put = put_further(alloc, &mut problem, &mut names, more);
+    let extended = ExtendedProblem {
         window,
         problem,
         names,
         sizes,
-    })
+    };
+    match put {
+        Ok(()) => Ok(extended),
+        Err(error) => {
+            drop(extended);
+            Err(error)
+        }
+    }
+}
+
+/// Puts clauses behind those of a problem, by their variables, with the kinds of all variables.
+pub(crate) fn put_further(
+    alloc: Global,
+    problem: &mut Problem,
+    names: &mut Names,
+    more: &[Row<SymbolicLit>],
+) -> Result<(), AllocError>
+    requires { AreSigned more.now }
+    ensures problem { OnOk result (problem.new ≡ record { points = problem.old.points; kinds = map kind_of (names_of names.old more.now); edges = problem.old.edges; clauses = problem.old.clauses ++ numbered names.old more.now }) }
+    ensures names { OnOk result (names.new ≡ names_of names.old more.now) }
+{
+    number_onto(alloc, &mut problem.clauses, names, more)?;
+    problem.kinds = kinds_of(alloc, names.as_slice())?;
+    Ok(())
 }

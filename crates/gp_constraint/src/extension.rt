@@ -1,14 +1,13 @@
-ghost use Rattle.std.specs.Prelude.{◌≡◌, ◌≢◌, Err, IfOk};
+ghost use Rattle.std.specs.Prelude.{◌≡◌, ◌≢◌, [], Err, IfOk};
 ghost use Rattle.gp_constraint.specs.Extension.{extension_due, extension_of};
 ghost use Rattle.gp_constraint.specs.Numbering.{number_of};
 ghost use Rattle.gp_constraint.specs.Signed.{AreSigned};
 
 use crate::encoded::Encoded;
-use crate::extending::further;
+use crate::extending::{further, put_further};
 use crate::family::Family;
 use crate::fault::BaseFault;
-use crate::naming::{Names, kinds_of};
-use crate::numbering::number_onto;
+use crate::naming::Names;
 use crate::symbol::{Symbol, SymbolicLit};
 use gp_base::Row;
 use gp_clause::{Clause, Edge, Problem};
@@ -66,19 +65,31 @@ fn beside(
     requires { AreSigned more.now }
     ensures { IfOk result (λ extension. extension ≡ extension_of encoded.now more.now) }
 {
-    let problem = encoded.problem();
     let mut names = encoded.names().copy(alloc)?;
-    let mut clauses = copied_clauses(alloc, problem.clauses.as_slice())?;
-    number_onto(alloc, &mut clauses, &mut names, more)?;
-    let kinds = kinds_of(alloc, names.as_slice())?;
+    let mut problem = copied(alloc, encoded.problem())?;
+    let put = put_further(alloc, &mut problem, &mut names, more);
+    let extension = Extension { problem, names };
+    match put {
+        Ok(()) => Ok(extension),
+        Err(error) => {
+            drop(extension);
+            Err(error)
+        }
+    }
+}
+
+/// A copy of a problem, still without the kinds of its variables.
+fn copied(alloc: Global, problem: &Problem) -> Result<Problem, AllocError>
+    ensures { IfOk result (λ copy. copy ≡ record { points = problem.now.points; kinds = []; edges = problem.now.edges; clauses = problem.now.clauses }) }
+{
+    let clauses = copied_clauses(alloc, problem.clauses.as_slice())?;
     let edges = copied_edges(alloc, problem.edges.as_slice())?;
-    let problem = Problem {
+    Ok(Problem {
         points: problem.points,
-        kinds,
+        kinds: Row::new(alloc),
         edges,
         clauses,
-    };
-    Ok(Extension { problem, names })
+    })
 }
 
 fn copied_clauses(alloc: Global, clauses: &[Clause]) -> Result<Row<Clause>, AllocError>

@@ -6,6 +6,7 @@ ghost use Rattle.gp_constraint.specs.Numbering.{numbered_lit};
 ghost use Rattle.gp_constraint.specs.Points.{number_in, points_of};
 ghost use Rattle.gp_constraint.specs.QueryNames.{AreMentioned, all_names};
 ghost use Rattle.gp_constraint.specs.Query.{executed_lits, holds, order_lit, ordered, orders_from, pattern_lits, query_names, query_of, side, sides_of, span_lit, spans_in};
+ghost use Rattle.gp_constraint.specs.Symbols.{kind_of};
 
 use crate::encoded::Encoded;
 use crate::naming::kinds_of;
@@ -32,7 +33,20 @@ pub fn query(
     let ids = instance.events.as_slice();
     let lits = pattern_lits(alloc, encoded, property, ids)?;
     let names = query_names(alloc, encoded, property, ids, lits.as_slice())?;
-    let assumed = assumed(alloc, &names, encoded, ids, lits.as_slice())?;
+    numbered_query(alloc, &names, encoded, ids, lits.as_slice())
+}
+
+/// The query of events and literals by the numbers of its symbols.
+fn numbered_query(
+    alloc: Global,
+    names: &QueryNames<'_>,
+    encoded: &Encoded,
+    ids: &[EventId],
+    lits: &[SymbolicLit],
+) -> Result<Query, AllocError>
+    ensures { IfOk result (λ query. query ≡ record { locals = map kind_of names.now.own; assumed = map (numbered_lit (all_names names.now)) (executed_lits encoded.now ids.now ++ lits.now) }) }
+{
+    let assumed = assumed(alloc, names, encoded, ids, lits)?;
     let locals = kinds_of(alloc, names.own())?;
     Ok(Query { locals, assumed })
 }

@@ -1,7 +1,11 @@
-ghost use Rattle.std.specs.Prelude.{◌≡◌, ◌≢◌, ◌≤◌, Err, IfOk, IfSome, MatchResult, length};
+ghost use Rattle.std.specs.Prelude.{◌≡◌, ◌≢◌, ◌≤◌, Err, IfOk, IfSome, MatchResult, OnOk, flat_map, length, map};
 ghost use Rattle.gp_constraint.specs.Base.{all_families, clauses_of};
 ghost use Rattle.gp_constraint.specs.Encoded.{IsBase, base_due};
+ghost use Rattle.gp_constraint.specs.Numbering.{names_of, numbered};
 ghost use Rattle.gp_constraint.specs.Points.{points_of};
+ghost use Rattle.gp_constraint.specs.ProgramOrder.{edge_to};
+ghost use Rattle.gp_constraint.specs.Signed.{AreSigned};
+ghost use Rattle.gp_constraint.specs.Symbols.{kind_of};
 
 use crate::encoded::{Encoded, Parts};
 use crate::families::all_families;
@@ -22,8 +26,13 @@ use std::alloc::{AllocError, Global};
 pub fn base(alloc: Global, window: Window) -> Result<Encoded, BaseFault>
     ensures { result ≢ Err BaseFault.Memory → result ≡ base_due window }
 {
-    let parts = parts(alloc, &window)?;
-    Ok(Encoded::new(window, parts))
+    match parts(alloc, &window) {
+        Ok(parts) => Ok(Encoded::new(window, parts)),
+        Err(fault) => {
+            drop(window);
+            Err(fault)
+        }
+    }
 }
 
 fn parts(alloc: Global, window: &Window) -> Result<Parts, BaseFault>
@@ -38,11 +47,16 @@ fn parts(alloc: Global, window: &Window) -> Result<Parts, BaseFault>
     let points = Points::of(alloc, window)?;
     match all_families(alloc, window, &points) {
         Ok(clauses) => Ok(encode(alloc, window, points.into_row(), clauses.as_slice())?),
-        Err(Full::TooMany) => Err(BaseFault::TooLarge {
-            events,
-            clauses: MOST_CLAUSES as u64 + 1,
-        }),
-        Err(Full::Memory) => Err(BaseFault::Memory),
+        Err(full) => {
+            drop(points);
+            match full {
+                Full::TooMany => Err(BaseFault::TooLarge {
+                    events,
+                    clauses: MOST_CLAUSES as u64 + 1,
+                }),
+                Full::Memory => Err(BaseFault::Memory),
+            }
+        }
     }
 }
 
@@ -72,21 +86,36 @@ fn encode(
 {
     gp_window::windows_are_formed();
     let sizes = sizes_of(alloc, window.segments())?;
-    let count = points.as_slice().len() as u32;
-    let mut names = Names::of_points(alloc, count)?;
-    let clauses = number_clauses(alloc, &mut names, clauses)?;
-    let kinds = kinds_of(alloc, names.as_slice())?;
-    let edges = edges(alloc, points.as_slice())?;
-    let problem = Problem {
-        points: count,
-        kinds,
-        edges,
-        clauses,
-    };
+    let events = points.as_slice();
+    let mut names = Names::of_points(alloc, events.len() as u32)?;
+    let problem = problem_of(alloc, events, &mut names, clauses)?;
     Ok(Parts {
         points,
         names,
         sizes,
         problem,
+    })
+}
+
+/// The problem of points and clauses, whose symbols are numbered behind the names.
+fn problem_of(
+    alloc: Global,
+    points: &[Point],
+    names: &mut Names,
+    clauses: &[Row<SymbolicLit>],
+) -> Result<Problem, AllocError>
+    requires few { length points.now ≤ 2048 }
+    requires signed { AreSigned clauses.now }
+    ensures problem { IfOk result (λ problem. problem ≡ record { points = length points.now; kinds = map kind_of (names_of names.old clauses.now); edges = flat_map edge_to points.now; clauses = numbered names.old clauses.now }) }
+    ensures names { OnOk result (names.new ≡ names_of names.old clauses.now) }
+{
+    let clauses = number_clauses(alloc, names, clauses)?;
+    let kinds = kinds_of(alloc, names.as_slice())?;
+    let edges = edges(alloc, points)?;
+    Ok(Problem {
+        points: points.len() as u32,
+        kinds,
+        edges,
+        clauses,
     })
 }

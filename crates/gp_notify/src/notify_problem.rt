@@ -5,7 +5,7 @@ ghost use Rattle.gp_constraint.specs.Encoded.{IsEncodable};
 ghost use Rattle.gp_notify.specs.declared.fault.NotifyFault.TheVariants.{Unpaired};
 ghost use Rattle.gp_notify.specs.CallTables.{AreCallTables};
 ghost use Rattle.gp_notify.specs.Extended.{extended_of, new_size, old_size};
-ghost use Rattle.gp_notify.specs.NotifyProblem.{IsKept, due_where, notify_due, paired_due};
+ghost use Rattle.gp_notify.specs.NotifyProblem.{IsKept, IsNotifyProblem, due_where, notify_due, paired_due};
 ghost use Rattle.gp_notify.specs.Signals.{signals_of, unpaired};
 
 use crate::call_tables::CallTables;
@@ -86,16 +86,56 @@ impl NotifyProblem {
 pub fn extend(alloc: Global, encoded: Encoded) -> Result<NotifyProblem, NotifyFault>
     ensures { result ≢ Err NotifyFault.Memory → result ≡ notify_due encoded }
 {
+    match parts_of(alloc, &encoded) {
+        Ok(parts) => {
+            let (tables, extension) = parts;
+            Ok(NotifyProblem {
+                encoded,
+                tables,
+                extension,
+            })
+        }
+        Err(fault) => {
+            drop(encoded);
+            Err(fault)
+        }
+    }
+}
+
+/// The tables of a window each of whose wakes has a sleep, and the problem with signals.
+fn parts_of(
+    alloc: Global,
+    encoded: &Encoded,
+) -> Result<(CallTables, Option<Extension>), NotifyFault>
+    ensures made { IfOk result (λ parts. IsNotifyProblem encoded.now parts.0.wakes parts.0.notifies parts.0.wakers parts.0.signals parts.1) }
+    ensures fault { (fault : _) → result ≡ Err fault → fault ≢ NotifyFault.Memory → notify_due encoded.now ≡ Err fault }
+{
     let tables = CallTables::of(alloc, encoded.window(), encoded.points())?;
-    if let Some(wake) = unpaired_in(&encoded, &tables) {
+    match paired_extension(alloc, encoded, &tables) {
+        Ok(extension) => Ok((tables, extension)),
+        Err(fault) => {
+            drop(tables);
+            Err(fault)
+        }
+    }
+}
+
+/// The problem with signals, of a window each of whose wakes has a sleep.
+fn paired_extension(
+    alloc: Global,
+    encoded: &Encoded,
+    tables: &CallTables,
+) -> Result<Option<Extension>, NotifyFault>
+    requires { AreCallTables encoded.now tables.now.wakes tables.now.notifies tables.now.wakers tables.now.signals }
+    ensures paired { IfOk result (λ _. unpaired encoded.now ≡ None) }
+    ensures kept { IfOk result (IsKept encoded.now) }
+    ensures fits { IfOk result (λ _. length (clauses_of encoded.now) + length (signals_of encoded.now) ≤ 500000) }
+    ensures fault { (fault : _) → result ≡ Err fault → fault ≢ NotifyFault.Memory → notify_due encoded.now ≡ Err fault }
+{
+    if let Some(wake) = unpaired_in(encoded, tables) {
         return Err(NotifyFault::Unpaired(wake));
     }
-    let extension = extension_of(alloc, &encoded, &tables)?;
-    Ok(NotifyProblem {
-        encoded,
-        tables,
-        extension,
-    })
+    extension_of(alloc, encoded, tables)
 }
 
 /// The event of the first wake without a sleep.

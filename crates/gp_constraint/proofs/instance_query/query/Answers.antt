@@ -1,9 +1,10 @@
-use Rattle.std.proofs.Common.{◌∙◌, ap, List, ◌++◌}
+use Rattle.std.proofs.Common.{◌≡◌, ◌∙◌, refl, ap, List, ◌++◌}
 use Rattle.std.specs.Prelude.{map}
+use Rattle.std.proofs.lemmas.Result.{IfOk-weaker}
+use Rattle.gp_clause.specs.declared.problem.Query.{Query}
 use Rattle.gp_property.specs.PropertyForm.{PropertyForm}
 use Rattle.gp_window.specs.declared.schedule.EventId.{EventId}
 use Rattle.gp_window.specs.WindowForm.{WindowForm}
-use Rattle.gp_constraint.specs.declared.symbol.Symbol.{Symbol}
 use Rattle.gp_constraint.specs.declared.symbol.SymbolicLit.{SymbolicLit}
 use Rattle.gp_constraint.specs.Numbering.{numbered_lit}
 use Rattle.gp_constraint.specs.Query.{executed_lits, query_of}
@@ -22,7 +23,12 @@ returns c =
     let ids : List EventId = c.as_slice-ids.result.now in
     let lits : List SymbolicLit = c.in_ok-lits.lits in
     let names : QueryNamesForm = c.in_ok-names.names in
-    query_is window property ids names lits c.in_ok-locals.locals c.in_ok-assumed.assumed (c.in_ok-names.ensures.base, c.in_ok-names.ensures.all) c.in_ok-lits.ensures
-    (c.in_ok-locals.ensures ∙ ap (λ (ns : List Symbol). map kind_of ns) c.own.ensures)
-    (c.in_ok-assumed.ensures ∙ ap (λ (ls : List SymbolicLit). map (numbered_lit (all_names names)) (executed_lits window ids ++ ls)) c.as_slice-2.ensures)
-    ∙ ap (λ (es : List EventId). query_of window property es) c.as_slice-ids.ensures
+    let given : List SymbolicLit = c.as_slice-2.result.now in
+    IfOk-weaker c.numbered_query.result
+    (λ (query : Query). query ≡ record { locals = map kind_of names.own; assumed = map (numbered_lit (all_names names)) (executed_lits window ids ++ given) })
+    (λ (query : Query). query ≡ query_of window property c.args.instance.now.events)
+    (λ query is. is
+    ∙ query_is window property ids names given (map kind_of names.own) (map (numbered_lit (all_names names)) (executed_lits window ids ++ given))
+    (c.in_ok-names.ensures.base, c.in_ok-names.ensures.all) (c.as_slice-2.ensures ∙ c.in_ok-lits.ensures) refl refl
+    ∙ ap (λ (es : List EventId). query_of window property es) c.as_slice-ids.ensures)
+    c.numbered_query.ensures

@@ -36,6 +36,10 @@ module _ {Subject Shown : Type 0} (question : QuestionForm Subject Shown) (count
   within_from r first (suc number) least last can =
       (one_within r first least (omega (arith, last)) can, within_from r (first + 1) number (omega arith) (omega (arith, last)) can)
 
+  -- no window of a run asks too much
+  pub run_within : (r : RecordingForm) (run : Run) (windows : List WindowForm) → CanBeAnalysed question r count budget → IsRun r.manifest.epochs run → windows ≡ run_windows r run → AllByRecursion (CanBeAnswered question budget) windows
+  run_within r run windows can is all = subst (AllByRecursion (CanBeAnswered question budget)) (sym all) (within_from r run.first run.count is.first is.last can)
+
 module _ {Subject Shown : Type 0} (question : QuestionForm Subject Shown) (telling : Telling) (count budget : ℕ) where
   -- the windows of a run are recorded but for those that are left, none of which asks too much
   pub record AreRecorded (all left : List WindowForm) (records : List (WindowRecordOf Shown)) : Type 0 where
@@ -43,12 +47,8 @@ module _ {Subject Shown : Type 0} (question : QuestionForm Subject Shown) (telli
     pub completes : (more : List (WindowRecordOf Shown)) → RecordEachAs question telling count budget left more → RecordEachAs question telling count budget all (records ++ more)
 
   -- at first none is
-  pub none_recorded : (r : RecordingForm) (run : Run) (left : List WindowForm) (records : List (WindowRecordOf Shown)) → CanBeAnalysed question r count budget → IsRun r.manifest.epochs run → left ≡ run_windows r run → records ≡ []
-      → AreRecorded (run_windows r run) left records
-  none_recorded r run left records can is all none =
-      subst (λ (ws : List WindowForm). AreRecorded (run_windows r run) ws records) (sym all)
-      (subst (AreRecorded (run_windows r run) (run_windows r run)) (sym none)
-      (record { within = within_from question count budget r run.first run.count is.first is.last can; completes = λ more each. each }))
+  pub none_recorded : (all : List WindowForm) (records : List (WindowRecordOf Shown)) → AllByRecursion (CanBeAnswered question budget) all → records ≡ [] → AreRecorded all all records
+  none_recorded all records within none = subst (AreRecorded all all) (sym none) (record { within = within; completes = λ more each. each })
 
   -- the next one can be answered
   pub next_within : (all before left : List WindowForm) (window : WindowForm) (records : List (WindowRecordOf Shown)) → before ≡ window ∷ left → AreRecorded all before records → CanBeAnswered question budget window

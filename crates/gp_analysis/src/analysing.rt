@@ -1,5 +1,6 @@
 ghost use Rattle.std.specs.Prelude.{◌≡◌, ◌*◌, ◌≤◌, IfOk};
-ghost use Rattle.gp_analysis.specs.Recorded.{CanBeAnalysed, CompactEach, RecordEach};
+ghost use Rattle.std.specs.List.{AllByRecursion};
+ghost use Rattle.gp_analysis.specs.Recorded.{CanBeAnalysed, CanBeAnswered, CompactEach, RecordEach};
 ghost use Rattle.gp_analysis.specs.Runs.{IsRun, run_windows};
 ghost use Rattle.gp_analysis.specs.Telling.{RecordEachAs};
 ghost use Rattle.gp_analysis.specs.Tickets.{asked_total};
@@ -121,10 +122,28 @@ fn recorded_run<R: Threads + Wait + Sync, G: Gate + Sync, Q: Question>(
     ensures { IfOk result (λ records.
         RecordEachAs (Q.form task.now.question.now) task.now.telling task.now.workers task.now.budget (run_windows recording.now run) records.items) }
 {
-    let mut records = Vec::new(alloc);
     let mut windows = Windows::from(alloc, recording, run.first, run.count)?;
+    let records = recorded_left(rt, alloc, &mut windows, task);
+    drop(windows);
+    records
+}
+
+// What is recorded of the windows that are still to come, in order.
+fn recorded_left<R: Threads + Wait + Sync, G: Gate + Sync, Q: Question>(
+    rt: &R,
+    alloc: Global,
+    windows: &mut Windows<'_>,
+    task: &Instructions<'_, Q, G>,
+) -> Result<Vec<WindowRecordOf<Q::Shown>>, AllocError>
+    requires workers { (1 ≤ task.now.workers) × (task.now.workers ≤ 16) }
+    requires can { AllByRecursion (CanBeAnswered (Q.form task.now.question.now) task.now.budget) windows.old }
+    ensures { IfOk result (λ records.
+        RecordEachAs (Q.form task.now.question.now) task.now.telling task.now.workers task.now.budget windows.old records.items) }
+{
+    let mut records = Vec::new(alloc);
     while let Some(window) = windows.next(alloc)? {
-        let (own, _) = window_record(rt, alloc, window, task, Order::SideBySide)?;
+        let (own, next) = window_record(rt, alloc, window, task, Order::SideBySide)?;
+        drop(next);
         records.push(own)?;
     }
     Ok(records)

@@ -1,4 +1,4 @@
-ghost use Rattle.std.specs.Prelude.{◌≡◌, ◌+◌, ◌*◌, ◌≤◌, IfOk, map, nat_lt, sum};
+ghost use Rattle.std.specs.Prelude.{◌≡◌, ◌+◌, ◌*◌, ◌≤◌, IfOk, map, nat_lt, sum, sum_by};
 ghost use Rattle.std.specs.List.{AllByRecursion};
 ghost use Rattle.gp_analysis.specs.Question.{ListsAsks};
 ghost use Rattle.gp_analysis.specs.Runs.{IsRun, PartAll, run_count};
@@ -9,6 +9,7 @@ use crate::question::{EncodeFault, Question};
 use crate::runs::{Run, runs_of};
 use gp_base::Row;
 use gp_instance::{Instance, InstancesFault};
+use gp_report::AnswerOf;
 use gp_window::{Recording, Window, Windows};
 use rayon::prelude::*;
 use std::alloc::{AllocError, Global};
@@ -136,8 +137,22 @@ fn run_count<Q: Question>(
     requires { IsRun recording.now.manifest.epochs run }
     ensures { IfOk result (λ count. count ≡ run_count (Q.form question.now) counted recording.now run) }
 {
-    let mut count = 0;
     let mut windows = Windows::from(alloc, recording, run.first, run.count)?;
+    let count = windows_count(alloc, &mut windows, question, counted);
+    drop(windows);
+    count
+}
+
+// How many asks there are in the windows that are still to come.
+fn windows_count<Q: Question>(
+    alloc: Global,
+    windows: &mut Windows<'_>,
+    question: &Q,
+    counted: Counted,
+) -> Result<u64, AllocError>
+    ensures { IfOk result (λ count. count ≡ sum_by (window_count (Q.form question.now) counted) windows.old) }
+{
+    let mut count = 0;
     while let Some(window) = windows.next(alloc)? {
         count = added(count, window_count(alloc, window, question, counted)?)?;
     }
@@ -281,9 +296,19 @@ fn tickets_of<Q: Question>(
     requires { Q.lists question.now (Q.window_in encoded.now) subject.now ask.now.events }
     ensures { IfOk result (λ count. count ≡ tickets_of ((Q.form question.now).given (Q.window_in encoded.now) subject.now ask.now.events)) }
 {
-    match question.given(alloc, encoded, subject, ask)? {
-        None => Ok(1),
-        Some(_) => Ok(0),
+    let given = question.given(alloc, encoded, subject, ask)?;
+    let tickets = tickets_by(&given);
+    drop(given);
+    Ok(tickets)
+}
+
+// One ticket, or none where there is an answer already.
+fn tickets_by<S>(given: &Option<AnswerOf<S>>) -> u64
+    ensures { result ≡ tickets_of given.now }
+{
+    match given {
+        None => 1,
+        Some(_) => 0,
     }
 }
 

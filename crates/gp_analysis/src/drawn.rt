@@ -54,15 +54,39 @@ fn recorded_as_drawn<R: Threads + Wait + Sync, G: Gate + Sync, Q: Question>(
     ensures numbers { IfOk result (λ made. numbers_of made.items ≡ (hand_of drawer.new).drawn) }
     ensures records { IfOk result (λ made. All (RecordsOwn (Q.form task.now.question.now) task.now.telling recording.now task.now.workers task.now.budget) made.items) }
 {
-    let mut made = Vec::new(alloc);
     let mut ahead = WindowsAhead::new(alloc, recording)?;
+    let made = recorded_ahead(rt, alloc, recording, task, tickets, drawer, &mut ahead);
+    drop(ahead);
+    made
+}
+
+// The same, of windows that are taken as they are drawn.
+fn recorded_ahead<'a, R: Threads + Wait + Sync, G: Gate + Sync, Q: Question>(
+    rt: &R,
+    alloc: Global,
+    recording: &'a Recording,
+    task: &Instructions<'_, Q, G>,
+    tickets: &Tickets,
+    drawer: &mut Drawer,
+    ahead: &mut WindowsAhead<'a>,
+) -> Result<Vec<Made<WindowRecordOf<Q::Shown>>>, AllocError>
+    requires can { CanBeAnalysed (Q.form task.now.question.now) recording.now task.now.workers task.now.budget }
+    requires count { tickets.now.count ≡ recording.now.manifest.epochs }
+    requires drawer { IsUnused tickets.now drawer.old }
+    requires ahead { AreAhead recording.now ahead.old }
+    ensures drawer { IfOk result (λ made. IsSingle tickets.now 1 drawer.new) }
+    ensures numbers { IfOk result (λ made. numbers_of made.items ≡ (hand_of drawer.new).drawn) }
+    ensures records { IfOk result (λ made. All (RecordsOwn (Q.form task.now.question.now) task.now.telling recording.now task.now.workers task.now.budget) made.items) }
+{
+    let mut made = Vec::new(alloc);
     let mut order = Order::InTurn(Post::none(alloc));
     while let Some(number) = tickets.draw(drawer) {
         let k = window_number(recording, number);
-        let (value, next) = recorded_next(rt, alloc, recording, task, &mut ahead, k, order)?;
+        let (value, next) = recorded_next(rt, alloc, recording, task, ahead, k, order)?;
         order = next;
         made.push(Made { number, value })?;
     }
+    drop(order);
     Ok(made)
 }
 

@@ -113,11 +113,15 @@ fn answer_of<Q: Question>(
     ensures { IfOk result (RecordsAnswer (Q.form question.now) certifying.now.source.records.now (steps_by certifying.now.moved) (Q.window_in encoded.now) subject.now ask.now.events answer) }
 {
     match answer {
-        WorkAnswer::Model(valuation) => Ok(AnswerOf::Found(question.shown(
-            alloc, encoded, subject, ask, &valuation,
-        )?)),
+        WorkAnswer::Model(valuation) => {
+            let shown = question.shown(alloc, encoded, subject, ask, &valuation);
+            drop(valuation);
+            Ok(AnswerOf::Found(shown?))
+        }
         WorkAnswer::Refuted { worker, last } => {
-            let certificate = certifying.source.certificate(alloc, worker, &last)?;
+            let made = certifying.source.certificate(alloc, worker, &last);
+            drop(last);
+            let certificate = made?;
             let told = told(alloc, &certifying.moved, certificate)?;
             Ok(AnswerOf::Impossible(told))
         }

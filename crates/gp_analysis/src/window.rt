@@ -92,21 +92,32 @@ fn answered_record<R: Threads + Wait + Sync, G: Gate + Sync, Q: Question>(
     let number = question.window_of(encoded).number();
     let Listing { listed, queries } = listing_of(alloc, question, encoded)?;
     let problem = question.problem(encoded);
-    let (done, next) = work(rt, alloc, problem, queries.as_slice(), task, order)?;
+    let worked = work(rt, alloc, problem, queries.as_slice(), task, order);
+    drop(queries);
+    let (done, next) = worked?;
     let WindowWork {
         answers,
         records,
-        ..
+        passes,
     } = done;
-    let told = told_subjects(alloc, encoded, task, listed, answers, records.as_slice())?;
-    let Told { shared, body } = told;
-    let own = WindowRecordOf {
-        number,
-        shared,
-        body: WindowBodyOf::Answers(body),
-        records,
-    };
-    Ok((own, next))
+    drop(passes);
+    match told_subjects(alloc, encoded, task, listed, answers, records.as_slice()) {
+        Ok(told) => {
+            let Told { shared, body } = told;
+            let own = WindowRecordOf {
+                number,
+                shared,
+                body: WindowBodyOf::Answers(body),
+                records,
+            };
+            Ok((own, next))
+        }
+        Err(error) => {
+            drop(records);
+            drop(next);
+            Err(error)
+        }
+    }
 }
 
 // What the workers answer to these queries, and the order for the next window.

@@ -91,12 +91,52 @@ fn linked_as_drawn(
     ensures numbers { IfOk result (λ made. numbers_of made.items ≡ (hand_of drawer.new).drawn) }
     ensures answers { IfOk result (λ made. All (AnswersOwn recording.now budget) made.items) }
 {
-    let mut made = Vec::new(alloc);
     let mut windows = WindowsAhead::new(alloc, recording)?;
-    let mut nexts = WindowsAhead::new(alloc, recording)?;
+    match WindowsAhead::new(alloc, recording) {
+        Ok(mut nexts) => {
+            let made = linked_ahead(
+                alloc,
+                recording,
+                budget,
+                tickets,
+                drawer,
+                &mut windows,
+                &mut nexts,
+            );
+            drop(nexts);
+            drop(windows);
+            made
+        }
+        Err(error) => {
+            drop(windows);
+            Err(error)
+        }
+    }
+}
+
+// The same by two walks over the windows, one for the windows themselves and one for those that follow them.
+fn linked_ahead<'a>(
+    alloc: Global,
+    recording: &'a Recording,
+    budget: u64,
+    tickets: &Tickets,
+    drawer: &mut Drawer,
+    windows: &mut WindowsAhead<'a>,
+    nexts: &mut WindowsAhead<'a>,
+) -> Result<Vec<Made<LinkAnswer>>, AllocError>
+    requires count { suc tickets.now.count ≡ recording.now.manifest.epochs }
+    requires budget { (1 ≤ budget) × (budget ≤ 1000000) }
+    requires drawer { IsUnused tickets.now drawer.old }
+    requires windows { AreAhead recording.now windows.old }
+    requires nexts { AreAhead recording.now nexts.old }
+    ensures drawer { IfOk result (λ made. IsSingle tickets.now 1 drawer.new) }
+    ensures numbers { IfOk result (λ made. numbers_of made.items ≡ (hand_of drawer.new).drawn) }
+    ensures answers { IfOk result (λ made. All (AnswersOwn recording.now budget) made.items) }
+{
+    let mut made = Vec::new(alloc);
     while let Some(number) = tickets.draw(drawer) {
         let k = window_number(recording, number);
-        let value = link_next(alloc, recording, &mut windows, &mut nexts, k, budget)?;
+        let value = link_next(alloc, recording, windows, nexts, k, budget)?;
         made.push(Made { number, value })?;
     }
     Ok(made)
@@ -130,8 +170,17 @@ fn link_next<'a>(
     ensures answers { IfOk result (AnswersNext recording.now budget k) }
 {
     let window = windows.window(alloc, recording, k)?;
-    let next = nexts.window(alloc, recording, k + 1)?;
-    link_window(alloc, window, &next, budget)
+    match nexts.window(alloc, recording, k + 1) {
+        Ok(next) => {
+            let answer = link_window(alloc, window, &next, budget);
+            drop(next);
+            answer
+        }
+        Err(error) => {
+            drop(window);
+            Err(error)
+        }
+    }
 }
 
 // All that was drawn of a recording. One drawer takes in the others.

@@ -32,7 +32,11 @@ pub fn link_window(
     ensures { IfOk result (AnswersLink window next.now budget) }
 {
     match problem_of(alloc, window, next) {
-        Ok(extended) => answer_to(alloc, &extended, next, budget),
+        Ok(extended) => {
+            let answer = answer_to(alloc, &extended, next, budget);
+            drop(extended);
+            answer
+        }
         Err(fault) => answer_of(fault),
     }
 }
@@ -72,12 +76,14 @@ fn answer_to(
     let Asked { answer, own } = asked;
     match answer {
         WorkAnswer::Model(valuation) => {
-            let schedule = executed_events(alloc, window, &valuation)?;
-            Ok(LinkAnswer::Linked(schedule))
+            let schedule = executed_events(alloc, window, &valuation);
+            drop((valuation, own));
+            Ok(LinkAnswer::Linked(schedule?))
         }
         WorkAnswer::Refuted { worker, last } => {
-            let certificate = certificate_of(alloc, problem, &own, worker, &last)?;
-            Ok(LinkAnswer::Unlinkable(certificate))
+            let certificate = certificate_of(alloc, problem, &own, worker, &last);
+            drop((own, last));
+            Ok(LinkAnswer::Unlinkable(certificate?))
         }
         WorkAnswer::Spent { from, to, .. } => Ok(undecided(own, from, to)),
     }

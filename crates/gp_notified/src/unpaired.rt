@@ -23,11 +23,27 @@ pub(crate) fn unpaired_of(
     requires { AreRecordsOf recording.now records.now }
     ensures { IfOk result (λ unpaired. unpaired ≡ unpaired_of recording.now) }
 {
-    let mut unpaired = Row::new(alloc);
     let mut windows = WindowsAhead::new(alloc, recording)?;
+    let unpaired = unpaired_ahead(alloc, recording, records, &mut windows);
+    drop(windows);
+    unpaired
+}
+
+/// The same by a walk over the windows.
+fn unpaired_ahead<'a>(
+    alloc: Global,
+    recording: &'a Recording,
+    records: &[WindowRecordOf<Paired>],
+    windows: &mut WindowsAhead<'a>,
+) -> Result<Row<Unpaired>, AllocError>
+    requires records { AreRecordsOf recording.now records.now }
+    requires ahead { AreAhead recording.now windows.old }
+    ensures { IfOk result (λ unpaired. unpaired ≡ unpaired_of recording.now) }
+{
+    let mut unpaired = Row::new(alloc);
     let mut left = records;
     while let Some((own, more)) = left.split_first() {
-        add_unpaired(alloc, recording, &mut windows, own, &mut unpaired)?;
+        add_unpaired(alloc, recording, windows, own, &mut unpaired)?;
         left = more;
     }
     Ok(unpaired)
@@ -77,6 +93,10 @@ fn push_unpaired(
             wake,
         }),
         Err(NotifyFault::Memory) => Err(AllocError),
-        Ok(_) | Err(NotifyFault::TooLarge { .. }) => Ok(()),
+        Err(NotifyFault::TooLarge { .. }) => Ok(()),
+        Ok(extended) => {
+            drop(extended);
+            Ok(())
+        }
     }
 }

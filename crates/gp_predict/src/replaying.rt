@@ -83,7 +83,9 @@ fn verdict_on(alloc: Global, recording: &Recording, read: &WindowSchedule) -> Re
     ensures memory { OnErr result (result ≡ Err Stop.Memory) }
 {
     let window = cut(alloc, recording, read.window)?;
-    match replay(alloc, &window, &read.schedule) {
+    let replayed = replay(alloc, &window, &read.schedule);
+    drop(window);
+    match replayed {
         Ok(_) => Ok(feasible(alloc, read.schedule.events.len())?),
         Err(ReplayFault::Stuck { place, rule }) => Ok(stuck(alloc, place, rule)?),
         Err(ReplayFault::Memory) => Err(Stop::Memory),

@@ -1,5 +1,6 @@
 ghost use Rattle.std.specs.Prelude.{◌≡◌, ◌≤◌, IfOk, OnOk, OnErr, Err, flat_map, length};
 ghost use Rattle.gp_outside.specs.Faults.{Rose};
+ghost use Rattle.gp_window.specs.Windows.{all_windows};
 ghost use Rattle.gp_outside.specs.Sinks.{Appends, AppendsFront};
 ghost use Rattle.gp_predict.specs.Listing.{all_lines, answer_of_listing, total_count, window_count, window_lines};
 ghost use Rattle.gp_predict.specs.Telling.{text_of};
@@ -45,12 +46,34 @@ fn put_windows<S: Sink>(
     ensures err { OnErr result (AppendsFront (S.written sink.old) (S.written sink.new) (flat_map (λ line. line) (all_lines recording.now properties.now))) }
     ensures failed { result ≡ Err PutFault.Failed → Rose (S.faults sink.old) (S.faults sink.new) }
 {
+    let mut windows = Windows::new(alloc, recording)?;
+    let total = put_each_window(alloc, sink, recording, properties, &mut windows);
+    drop(windows);
+    total
+}
+
+/// The same by a walk over all windows.
+fn put_each_window<S: Sink>(
+    alloc: Global,
+    sink: &mut S,
+    recording: &Recording,
+    properties: &[Property],
+    windows: &mut Windows,
+) -> Result<u64, PutFault>
+    requires few { length properties.now ≤ 64 }
+    requires all { windows.old ≡ all_windows recording.now }
+    ensures later { S.faults sink.old ≤ S.faults sink.new }
+    ensures total { IfOk result (λ total. total ≡ total_count recording.now properties.now) }
+    ensures ok { OnOk result (Appends (S.written sink.old) (S.written sink.new) (flat_map (λ line. line) (all_lines recording.now properties.now))) }
+    ensures err { OnErr result (AppendsFront (S.written sink.old) (S.written sink.new) (flat_map (λ line. line) (all_lines recording.now properties.now))) }
+    ensures failed { result ≡ Err PutFault.Failed → Rose (S.faults sink.old) (S.faults sink.new) }
+{
     recording.keeps_rules();
     let mut total = 0u64;
-    let mut windows = Windows::new(alloc, recording)?;
     while let Some(window) = windows.next(alloc)? {
-        let count = put_window(alloc, sink, &window, properties)?;
-        total += count;
+        let put = put_window(alloc, sink, &window, properties);
+        drop(window);
+        total += put?;
     }
     Ok(total)
 }

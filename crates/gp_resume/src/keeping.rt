@@ -44,7 +44,9 @@ fn keep_of<'a>(
     ensures { IfOk result (IsKeptOf (Some told.now) encoded.now properties.now) }
 {
     let mut test = Test::new(alloc, encoded, told.shared.as_slice())?;
-    kept_by(alloc, &mut test, properties, told)
+    let kept = kept_by(alloc, &mut test, properties, told);
+    drop(test);
+    kept
 }
 
 // The same, by the test of the old record.

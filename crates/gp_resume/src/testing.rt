@@ -47,13 +47,18 @@ impl<'e, 'a> Test<'e, 'a> {
     {
         let problem = encoded.problem();
         let mut judge = Judge::new(alloc, problem)?;
-        let passes = shared_passes(&mut judge, problem, shared)?;
-        Ok(Test {
-            encoded,
-            shared,
-            passes,
-            judge,
-        })
+        match shared_passes(&mut judge, problem, shared) {
+            Ok(passes) => Ok(Test {
+                encoded,
+                shared,
+                passes,
+                judge,
+            }),
+            Err(error) => {
+                drop(judge);
+                Err(error)
+            }
+        }
     }
 
     pub(crate) fn window(&self) -> &Window
@@ -113,7 +118,9 @@ impl<'e, 'a> Test<'e, 'a> {
         problems_are_valid();
         let query = query(alloc, self.encoded, property, instance)?;
         let problem = self.encoded.problem();
-        refutes_over(&mut self.judge, problem, self.shared, &query, certificate)
+        let told = refutes_over(&mut self.judge, problem, self.shared, &query, certificate);
+        drop(query);
+        told
     }
 }
 
@@ -131,7 +138,10 @@ fn is_shown(
     property.keeps_rules();
     atoms_kept();
     match replay(alloc, window, schedule) {
-        Ok(_end) => Ok(matches(property, instance, schedule)),
+        Ok(end) => {
+            drop(end);
+            Ok(matches(property, instance, schedule))
+        }
         Err(ReplayFault::Stuck { .. }) => Ok(false),
         Err(ReplayFault::Memory) => Err(AllocError),
     }

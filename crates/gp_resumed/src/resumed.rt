@@ -105,7 +105,10 @@ impl<'a, N: Naming> Question for Resumed<'a, N> {
                 kept,
                 naming: PhantomData,
             }),
-            Err(AllocError) => Err(EncodeFault::Memory),
+            Err(AllocError) => {
+                drop(encoded);
+                Err(EncodeFault::Memory)
+            }
         }
     }
 

@@ -14,8 +14,8 @@ use Rattle.gp_analysis.proofs.Evidence.{CanAnswer}
 use Rattle.gp_analysis.proofs.Fitting.{is_recorded}
 use Rattle.gp_analysis.proofs.window.answered_record.Goals as goal
 
-pub work-requires-clause-asked : goal.work-requires-clause-asked
-work-requires-clause-asked g c _ _ =
+pub work-worked-requires-clause-asked : goal.work-worked-requires-clause-asked
+work-worked-requires-clause-asked g c _ _ =
     let task = c.args.task.now in
     let question = g.Q.Question.form task.question.now in
     let lists = g.Q.Question.lists task.question.now in
@@ -34,17 +34,17 @@ told_subjects-requires-clause-answers g c =
     (subst (λ (qs : List Query). AnswerEach (question.problem window) task.budget done.records 0 qs done.answers) queries
     (subst (λ (p : Problem). AnswerEach p task.budget done.records 0 c.as_slice.result.now done.answers) c.problem-problem.ensures c.in_ok-done.ensures.work.answers))
 
-pub returns-clause-records : goal.returns-clause-records
-returns-clause-records g c =
+pub returns-in-Ok-clause-records : goal.returns-in-Ok-clause-records
+returns-in-Ok-clause-records g c =
     let task = c.args.task.now in
     let question = g.Q.Question.form task.question.now in
     let lists = g.Q.Question.lists task.question.now in
     let window = g.Q.Question.window_in c.args.encoded.now in
     let done = c.in_ok-done.done in
     let can : CanAnswer question lists window = record { lawful = c.laws.ensures; formed = subst IsWindow c.window_of.ensures c.number-number.ensures.window; fits = c.requires.fits; refuted = c.refuted_means.ensures; alone = c.shares_nothing.ensures; raises = c.raised_refutes.ensures } in
-    let tells : TellsAll question task.telling window (known_of question window task.budget done.records) c.in_ok-told.told.shared c.in_ok-told.told.body =
-    subst (λ (workers : List WorkerRecord). TellsAll question task.telling window (known_of question window task.budget workers) c.in_ok-told.told.shared c.in_ok-told.told.body) c.as_slice-2.ensures c.in_ok-told.ensures in
-    recorded_as question window task.workers task.budget c.number-number.result done.records task.telling c.in_ok-told.told.shared c.in_ok-told.told.body c.requires.fits
+    let tells : TellsAll question task.telling window (known_of question window task.budget done.records) c.in-Ok.told.shared c.in-Ok.told.body =
+    subst (λ (workers : List WorkerRecord). TellsAll question task.telling window (known_of question window task.budget workers) c.in-Ok.told.shared c.in-Ok.told.body) c.as_slice-2.ensures c.in-Ok.ensures in
+    recorded_as question window task.workers task.budget c.number-number.result done.records task.telling c.in-Ok.told.shared c.in-Ok.told.body c.requires.fits
     (λ told answers. is_recorded question lists window can task.workers task.budget c.number-number.result c.requires.workers.1 c.problem-problem.result.now c.as_slice.result.now done (question.shared window) told
     (c.number-number.ensures.value ∙ ap (λ (w : WindowForm). w.number) c.window_of.ensures) c.problem-problem.ensures (c.as_slice.ensures.value ∙ c.in_ok-listed.ensures.queries) c.in_ok-done.ensures.work c.in_ok-done.ensures.shared refl answers)
     tells

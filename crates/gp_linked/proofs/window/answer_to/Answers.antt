@@ -27,16 +27,16 @@ returns-in_ok-schedule-in-Model c =
     let told = subst (λ (a : WorkAnswer). IsAnswerTo c.problem-problem.result.now nothing_asked c.args.budget (own ∷ []) 0 a) c.in-Model.is c.in_ok-asked.ensures.answers in
     let meets = subst (λ (p : Problem). Meets p nothing_asked c.in-Model.valuation) (c.problem-problem.ensures ∙ c.requires.problem) told in
     let is : IsWindow window = subst IsWindow c.window-window.ensures c.comes_from_recording.ensures in
-    let order = subst (λ (w : WindowForm). IsByPlace w c.in-Model.valuation c.in_ok-schedule-in-Model.schedule.events) c.window-window.ensures c.in_ok-schedule-in-Model.ensures in
-    c.links_are_answered.ensures.links window c.args.next.now nothing_asked c.in-Model.valuation c.in_ok-schedule-in-Model.schedule.events is c.comes_from_recording-2.ensures meets order
+    let order = subst (λ (w : WindowForm). IsByPlace w c.in-Model.valuation c.in_ok-schedule-in-Model.field-0.events) c.window-window.ensures c.in_ok-schedule-in-Model.ensures in
+    c.links_are_answered.ensures.links window c.args.next.now nothing_asked c.in-Model.valuation c.in_ok-schedule-in-Model.field-0.events is c.comes_from_recording-2.ensures meets order
 
-pub certificate_of-requires-clause-few : goal.certificate_of-requires-clause-few
-certificate_of-requires-clause-few c =
+pub certificate_of-certificate-requires-clause-few : goal.certificate_of-certificate-requires-clause-few
+certificate_of-certificate-requires-clause-few c =
     let next : WindowForm = c.args.next.now in
     subst (λ (p : Problem). length p.clauses ≤ 500000) (sym (c.problem-problem.ensures ∙ c.requires.problem)) (few_clauses c.extensions_mean.ensures c.args.extended.now.window next c.requires.sized)
 
-pub certificate_of-requires-clause-refuted : goal.certificate_of-requires-clause-refuted
-certificate_of-requires-clause-refuted c =
+pub certificate_of-certificate-requires-clause-refuted : goal.certificate_of-certificate-requires-clause-refuted
+certificate_of-certificate-requires-clause-refuted c =
     let own = c.in_ok-asked.asked.own in
     subst (λ (a : WorkAnswer). IsAnswerTo c.problem-problem.result.now nothing_asked c.args.budget (own ∷ []) 0 a) c.in-Refuted.is c.in_ok-asked.ensures.answers
 
@@ -44,7 +44,7 @@ pub returns-in_ok-certificate-in-Refuted : goal.returns-in_ok-certificate-in-Ref
 returns-in_ok-certificate-in-Refuted c =
     let window : WindowForm = c.args.extended.now.window in
     let next : WindowForm = c.args.next.now in
-    let certificate = c.in_ok-certificate-in-Refuted.certificate in
+    let certificate = c.in_ok-certificate-in-Refuted.field-0 in
     let refutes : Refutes (link_problem_of window next) nothing_asked certificate =
     subst (λ (p : Problem). Refutes p nothing_asked certificate) (c.problem-problem.ensures ∙ c.requires.problem) c.in_ok-certificate-in-Refuted.ensures in
     let is : IsWindow window = subst IsWindow c.window-window.ensures c.comes_from_recording.ensures in (

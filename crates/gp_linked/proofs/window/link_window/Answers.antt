@@ -12,15 +12,15 @@ use Rattle.gp_linked.specs.Due.{IsSized, sized_due}
 use Rattle.gp_linked.proofs.Due.{fault_apart, is_due}
 use Rattle.gp_linked.proofs.window.link_window.Goals as goal
 
-pub answer_to-requires-clause-problem : goal.answer_to-requires-clause-problem
-answer_to-requires-clause-problem c =
+pub answer_to-answer-requires-clause-problem : goal.answer_to-answer-requires-clause-problem
+answer_to-answer-requires-clause-problem c =
     let next : WindowForm = c.args.next.now in
     let due : ◌≡◌ {A = Result ExtendedForm LinkFault} (Ok c.in-Ok.extended) (sized_due c.args.window next) = c.in-Ok.ensures (λ e. cc) in
     let own = is_due c.args.window next c.in-Ok.extended (sym due) in
     ap (λ (form : ExtendedForm). form.problem) own.same ∙ ap (λ (w : WindowForm). link_problem_of w next) (sym (ap (λ (form : ExtendedForm). form.window) own.same))
 
-pub answer_to-requires-clause-sized : goal.answer_to-requires-clause-sized
-answer_to-requires-clause-sized c =
+pub answer_to-answer-requires-clause-sized : goal.answer_to-answer-requires-clause-sized
+answer_to-answer-requires-clause-sized c =
     let next : WindowForm = c.args.next.now in
     let due : ◌≡◌ {A = Result ExtendedForm LinkFault} (Ok c.in-Ok.extended) (sized_due c.args.window next) = c.in-Ok.ensures (λ e. cc) in
     let own = is_due c.args.window next c.in-Ok.extended (sym due) in
@@ -31,9 +31,9 @@ returns-in-Ok c =
     let next : WindowForm = c.args.next.now in
     let due : ◌≡◌ {A = Result ExtendedForm LinkFault} (Ok c.in-Ok.extended) (sized_due c.args.window next) = c.in-Ok.ensures (λ e. cc) in
     let own = is_due c.args.window next c.in-Ok.extended (sym due) in
-    let answer : IfOk c.answer_to.result (λ (link : LinkAnswer). IsAnswer c.args.window next c.args.budget link) =
-    subst (λ (w : WindowForm). IfOk c.answer_to.result (λ (link : LinkAnswer). IsAnswer w next c.args.budget link)) (ap (λ (form : ExtendedForm). form.window) own.same) c.answer_to.ensures in
-    subst (λ (d : Result ExtendedForm LinkFault). IfOk c.answer_to.result (λ (link : LinkAnswer). AnswersBy c.args.window next c.args.budget d link)) due answer
+    let answer : IfOk c.answer_to-answer.result (λ (link : LinkAnswer). IsAnswer c.args.window next c.args.budget link) =
+    subst (λ (w : WindowForm). IfOk c.answer_to-answer.result (λ (link : LinkAnswer). IsAnswer w next c.args.budget link)) (ap (λ (form : ExtendedForm). form.window) own.same) c.answer_to-answer.ensures in
+    subst (λ (d : Result ExtendedForm LinkFault). IfOk c.answer_to-answer.result (λ (link : LinkAnswer). AnswersBy c.args.window next c.args.budget d link)) due answer
 
 pub returns-in-Err : goal.returns-in-Err
 returns-in-Err c =

@@ -26,8 +26,8 @@ returns-then-not-self-clause-refuted c =
     (not_refuted refutations_decided (base_of window) shared (query_of window property ids) certificate fails)
 
 -- src/testing.rt:116:9
-pub refutes_over-requires-clause-asked : goal.refutes_over-requires-clause-asked
-refutes_over-requires-clause-asked c =
+pub refutes_over-told-requires-clause-asked : goal.refutes_over-told-requires-clause-asked
+refutes_over-told-requires-clause-asked c =
     let window = c.self.inside.encoded.now in
     let property = c.args.property.now in
     let ids = c.args.instance.now.events in
@@ -38,8 +38,8 @@ refutes_over-requires-clause-asked c =
     (subst (λ (query : Query). IsValidQuery (base_of window) query) (sym c.in_ok-query.ensures) valid)
 
 -- src/testing.rt:116:9
-pub refutes_over-requires-clause-shared : goal.refutes_over-requires-clause-shared
-refutes_over-requires-clause-shared c =
+pub refutes_over-told-requires-clause-shared : goal.refutes_over-told-requires-clause-shared
+refutes_over-told-requires-clause-shared c =
     let window = c.self.inside.encoded.now in
     let shared = c.self.inside.shared.now in
     subst (λ (problem : Problem). SharedPasses problem shared) (sym c.problem-problem.ensures.problem)
@@ -53,10 +53,10 @@ returns-clause-refuted c =
     let property = c.args.property.now in
     let ids = c.args.instance.now.events in
     let certificate = c.args.certificate.now in
-    IfOk-weaker c.refutes_over.result (λ (told : Bool). told ≡ refutes_over c.problem-problem.result.now shared c.in_ok-query.query certificate)
+    IfOk-weaker c.refutes_over-told.result (λ (told : Bool). told ≡ refutes_over c.problem-problem.result.now shared c.in_ok-query.query certificate)
     (λ (told : Bool). told ≡ refutes_over (base_of c.args.self.now.window) c.args.self.now.shared (query_of c.args.self.now.window property ids) certificate)
     (λ told is.
     subst (λ (test : TestForm). told ≡ refutes_over (base_of test.window) test.shared (query_of test.window property ids) certificate) c.self.view_is
     (is ∙ ap (λ (problem : Problem). refutes_over problem shared c.in_ok-query.query certificate) c.problem-problem.ensures.problem
     ∙ ap (λ (query : Query). refutes_over (base_of window) shared query certificate) c.in_ok-query.ensures))
-    c.refutes_over.ensures.refutes
+    c.refutes_over-told.ensures.refutes

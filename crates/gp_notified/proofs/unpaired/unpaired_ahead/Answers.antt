@@ -1,6 +1,6 @@
 -- One record after another is looked at, until none is left.
 use Rattle.gp_notified.proofs.Gathered.{all_found, first_of}
-use Rattle.gp_notified.proofs.unpaired.unpaired_of.Goals as goal
+use Rattle.gp_notified.proofs.unpaired.unpaired_ahead.Goals as goal
 
 pub add_unpaired-requires-clause-own : goal.add_unpaired-requires-clause-own
 add_unpaired-requires-clause-own c =

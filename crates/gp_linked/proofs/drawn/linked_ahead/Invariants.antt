@@ -3,7 +3,7 @@ use Rattle.gp_tickets.specs.Drawn.{numbers_of}
 use Rattle.gp_tickets.specs.Tickets.{IsSingle, hand_of}
 use Rattle.gp_window.specs.Ahead.{AreAhead}
 use Rattle.gp_linked.specs.Drawn.{AnswersOwn}
-use Rattle.gp_linked.proofs.drawn.linked_as_drawn.Given as goal
+use Rattle.gp_linked.proofs.drawn.linked_ahead.Given as goal
 
 abbrev pub decreases-loop-number : goal.decreases-loop-number
 decreases-loop-number l = l.tickets.count - length (hand_of l.drawer).drawn

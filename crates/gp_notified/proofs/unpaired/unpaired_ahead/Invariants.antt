@@ -1,7 +1,7 @@
 use Rattle.std.proofs.Common.{length}
 use Rattle.gp_window.specs.Ahead.{AreAhead}
 use Rattle.gp_notified.proofs.Gathered.{IsUnderWay}
-use Rattle.gp_notified.proofs.unpaired.unpaired_of.Given as goal
+use Rattle.gp_notified.proofs.unpaired.unpaired_ahead.Given as goal
 
 abbrev pub decreases-loop-own : goal.decreases-loop-own
 decreases-loop-own l = length l.left

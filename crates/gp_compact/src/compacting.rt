@@ -39,10 +39,23 @@ fn compact_windows(
 ) -> Result<Row<WindowRecord>, AllocError>
     ensures { IfOk result (λ made. made ≡ compacted_windows (all_windows recording.now) records) }
 {
-    let mut made = Vec::new(alloc);
     let mut windows = Windows::new(alloc, recording)?;
+    let made = compact_over(alloc, &mut windows, records);
+    drop(windows);
+    made
+}
+
+// The records of the windows that are to come.
+fn compact_over(
+    alloc: Global,
+    windows: &mut Windows,
+    records: Row<WindowRecord>,
+) -> Result<Row<WindowRecord>, AllocError>
+    ensures { IfOk result (λ made. made ≡ compacted_windows windows.old records) }
+{
+    let mut made = Vec::new(alloc);
     for told in records.into_vec() {
-        made.push(compact_next(alloc, &mut windows, told)?)?;
+        made.push(compact_next(alloc, windows, told)?)?;
     }
     Ok(Row::from_vec(made))
 }
@@ -56,9 +69,13 @@ fn compact_next(
     ensures made { IfOk result (λ made. made ≡ compacted_next windows.old told) }
     ensures left { IfOk result (λ made. windows.new ≡ drop 1 windows.old) }
 {
-    match windows.next(alloc)? {
-        Some(window) => compact_window(alloc, window, told),
-        None => Ok(told),
+    match windows.next(alloc) {
+        Ok(Some(window)) => compact_window(alloc, window, told),
+        Ok(None) => Ok(told),
+        Err(error) => {
+            drop(told);
+            Err(error)
+        }
     }
 }
 
@@ -70,9 +87,16 @@ fn compact_window(
     ensures { IfOk result (λ made. made ≡ compacted_window window told) }
 {
     match base(alloc, window) {
-        Ok(encoded) => compact_encoded(alloc, &encoded, told),
+        Ok(encoded) => {
+            let made = compact_encoded(alloc, &encoded, told);
+            drop(encoded);
+            made
+        }
         Err(BaseFault::TooLarge { .. }) => Ok(told),
-        Err(BaseFault::Memory) => Err(AllocError),
+        Err(BaseFault::Memory) => {
+            drop(told);
+            Err(AllocError)
+        }
     }
 }
 

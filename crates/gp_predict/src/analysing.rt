@@ -58,7 +58,9 @@ pub fn analysed<R: AllocGlobal + Threads + Wait + Sync, F: Folder, G: Gate + Syn
     ensures { IsStage result (λ files. CameTo (told_by of_report result) (either_expected (as_analysis (analysing_at files directory.now asked)))) (F.files folder.old) (F.files folder.new) (F.faults folder.old) (F.faults folder.new) }
 {
     let listing = listing_at(rt, folder, directory)?;
-    analysis_of(rt, &listing, asked, gate)
+    let told = analysis_of(rt, &listing, asked, gate);
+    drop(listing);
+    told
 }
 
 /// The report of what would be listed, where that is not too much work.

@@ -52,6 +52,7 @@ fn compact_form(alloc: Global, submission: Submission) -> Result<CompactForm, Al
     ensures { IfOk result (λ form. Means (Compacted submission) (of_compact_form form)) }
 {
     let Submission { listing, report } = submission;
-    let report = compact(alloc, &listing.recording, report)?;
-    Ok(CompactForm { report })
+    let compacted = compact(alloc, &listing.recording, report);
+    drop(listing);
+    Ok(CompactForm { report: compacted? })
 }

@@ -60,7 +60,9 @@ pub fn deadlocks_at<R: AllocGlobal + Threads + Wait + Sync, F: Folder, G: Gate +
     ensures { IsStage result (λ files. CameTo (told_by of_deadlocks result) (either_expected (as_deadlocks (deadlocks_at files directory.now asked)))) (F.files folder.old) (F.files folder.new) (F.faults folder.old) (F.faults folder.new) }
 {
     let recording = recording_at(rt, folder, directory)?;
-    deadlocks_of(rt, &recording, asked, gate)
+    let told = deadlocks_of(rt, &recording, asked, gate);
+    drop(recording);
+    told
 }
 
 /// The deadlocks of a recording, where that is not too much work.

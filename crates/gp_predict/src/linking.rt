@@ -68,7 +68,9 @@ pub fn linked<R: AllocGlobal + Threads + Sync, F: Folder>(
     ensures { IsStage result (λ files. CameTo (told_by of_links result) (either_expected (as_linking (linking_at files directory.now asked.budget)))) (F.files folder.old) (F.files folder.new) (F.faults folder.old) (F.faults folder.new) }
 {
     let recording = recording_at(rt, folder, directory)?;
-    links_of(rt, &recording, asked)
+    let told = links_of(rt, &recording, asked);
+    drop(recording);
+    told
 }
 
 /// The links of a recording, where that is not too much work.

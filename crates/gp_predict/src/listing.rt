@@ -58,11 +58,16 @@ pub fn listing_at<R: AllocGlobal + Threads + Sync, F: Folder>(
     ensures limit { stops_at_limit result ≡ false }
 {
     let recording = recording_at(rt, folder, directory)?;
-    let properties = properties_at(rt.alloc(), folder, directory)?;
-    Ok(Listing {
-        recording,
-        properties,
-    })
+    match properties_at(rt.alloc(), folder, directory) {
+        Ok(properties) => Ok(Listing {
+            recording,
+            properties,
+        }),
+        Err(stop) => {
+            drop(recording);
+            Err(stop)
+        }
+    }
 }
 
 fn properties_at<F: Folder>(

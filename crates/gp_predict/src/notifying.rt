@@ -69,7 +69,9 @@ pub fn notified<R: AllocGlobal + Threads + Wait + Sync, F: Folder, G: Gate + Syn
     ensures { IsStage result (λ files. CameTo (told_by of_notified result) (either_expected (as_notifying (notifying_at files directory.now asked)))) (F.files folder.old) (F.files folder.new) (F.faults folder.old) (F.faults folder.new) }
 {
     let listing = listing_at(rt, folder, directory)?;
-    notifying_of(rt, &listing, asked, gate)
+    let told = notifying_of(rt, &listing, asked, gate);
+    drop(listing);
+    told
 }
 
 /// The report of what would be listed, where that is not too much work.

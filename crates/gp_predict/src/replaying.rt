@@ -44,8 +44,17 @@ fn replay_at<R: AllocGlobal + Threads + Sync, F: Folder>(
 {
     let recording = recording_at(rt, folder, directory)?;
     let epochs = recording.manifest().epochs();
-    let read = schedule_at(rt.alloc(), folder, directory, epochs)?;
-    verdict_on(rt.alloc(), &recording, &read)
+    match schedule_at(rt.alloc(), folder, directory, epochs) {
+        Ok(read) => {
+            let told = verdict_on(rt.alloc(), &recording, &read);
+            drop((recording, read));
+            told
+        }
+        Err(stop) => {
+            drop(recording);
+            Err(stop)
+        }
+    }
 }
 
 fn schedule_at<F: Folder>(

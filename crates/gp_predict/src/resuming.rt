@@ -32,7 +32,9 @@ pub fn resumed<R: AllocGlobal + Threads + Wait + Sync, F: Folder, G: Gate + Sync
     ensures { IsStage result (λ files. CameTo (told_by of_report result) (either_expected (as_resumption (resuming_at files directory.now asked)))) (F.files folder.old) (F.files folder.new) (F.faults folder.old) (F.faults folder.new) }
 {
     let submission = submission_at(rt, folder, directory)?;
-    resumption_of(rt, &submission, asked, gate)
+    let told = resumption_of(rt, &submission, asked, gate);
+    drop(submission);
+    told
 }
 
 /// The report of what was submitted, where what is not kept is not too much work.

@@ -36,8 +36,13 @@ pub fn submission_at<R: AllocGlobal + Threads + Sync, F: Folder>(
     ensures limit { stops_at_limit result ≡ false }
 {
     let listing = listing_at(rt, folder, directory)?;
-    let report = report_at(rt.alloc(), folder, directory)?;
-    Ok(Submission { listing, report })
+    match report_at(rt.alloc(), folder, directory) {
+        Ok(report) => Ok(Submission { listing, report }),
+        Err(stop) => {
+            drop(listing);
+            Err(stop)
+        }
+    }
 }
 
 fn report_at<F: Folder>(alloc: Global, folder: &mut F, directory: &str) -> Result<Report, Stop>

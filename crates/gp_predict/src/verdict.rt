@@ -27,7 +27,9 @@ pub fn checked<R: AllocGlobal + Threads + Sync, F: Folder>(
     ensures { IsStage result (λ files. CameTo (told_by of_answer result) (either_expected (as_verdict (submission_at files directory.now)))) (F.files folder.old) (F.files folder.new) (F.faults folder.old) (F.faults folder.new) }
 {
     let submission = submission_at(rt, folder, directory)?;
-    Ok(verdict_of(rt.alloc(), &submission)?)
+    let told = verdict_of(rt.alloc(), &submission);
+    drop(submission);
+    Ok(told?)
 }
 
 /// The verdict on a report.

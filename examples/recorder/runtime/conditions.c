@@ -50,7 +50,7 @@ static int destroy(struct thread *me, pthread_cond_t *condition) {
 
 CALL(pthread_cond_destroy, (pthread_cond_t * condition), (condition), destroy(me, condition))
 
-/* ---- The conditions of C11, which are those of pthreads in glibc ---- */
+/* ---- The conditions of <threads.h>, which are those of pthreads in glibc ---- */
 
 static int as_thrd(int failed) {
     if (failed == ETIMEDOUT) return thrd_timedout;

@@ -114,7 +114,7 @@ TIMED(pthread_rwlock_timedwrlock, pthread_rwlock_t, writer_by(me, lock, BY_LIMIT
 CLOCKED(pthread_rwlock_clockrdlock, pthread_rwlock_t, reader_by(me, lock, BY_CLOCK))
 CLOCKED(pthread_rwlock_clockwrlock, pthread_rwlock_t, writer_by(me, lock, BY_CLOCK))
 
-/* ---- The mutexes of C11, which are those of pthreads in glibc ---- */
+/* ---- The mutexes of <threads.h>, which are those of pthreads in glibc ---- */
 
 static int as_thrd(int failed) {
     if (failed == EBUSY) return thrd_busy;

@@ -195,7 +195,7 @@ API int pthread_detach(pthread_t handle) {
     LEAVE_WITH(me, REAL(pthread_detach)(handle));
 }
 
-/* ---- The threads of C11, which glibc builds on the same handles ---- */
+/* ---- The threads of <threads.h>, which glibc builds on the same handles ---- */
 
 struct start {
     thrd_start_t function;

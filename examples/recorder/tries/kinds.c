@@ -1,4 +1,4 @@
-/* C11 threads and locks, locks with a time limit, a semaphore that is tried, and a read of a 128-bit number. */
+/* The threads and locks of <threads.h>, locks with a time limit, a semaphore that is tried, and a read of a 128-bit number. */
 #include <errno.h>
 #include <pthread.h>
 #include <semaphore.h>

@@ -23,7 +23,7 @@ const MOST_WORK: u64 = 1_000_000;
 
 // Which asks are counted: all that are listed, or those alone that have a ticket, since their window is not left out and they
 // have no answer already.
-#[derive(Clone, Copy, Debug)]
+#[derive(Clone, Copy)]
 pub(crate) enum Counted {
     Listed,
     Asked,

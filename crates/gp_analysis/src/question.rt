@@ -14,21 +14,21 @@ use gp_window::Window;
 use std::alloc::{AllocError, Global};
 
 /// A window of so many events, of which so many constraints were counted, is too large.
-#[derive(Debug, Drop)]
+#[derive(Drop)]
 pub struct TooLarge {
     pub events: u64,
     pub clauses: u64,
 }
 
 /// Why a window is left out: its constraints are too large, by these numbers; or the question is not asked of it.
-#[derive(Debug, Drop)]
+#[derive(Drop)]
 pub enum LeftOut {
     TooLarge(TooLarge),
     Unasked,
 }
 
 /// Why a window has no constraints.
-#[derive(Debug, Drop)]
+#[derive(Drop)]
 pub enum EncodeFault {
     LeftOut(LeftOut),
     Memory,

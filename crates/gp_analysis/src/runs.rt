@@ -4,7 +4,7 @@ ghost use Rattle.gp_analysis.specs.Runs.{PartAll};
 use std::alloc::{AllocError, Global};
 
 // Neighbouring windows: the number of the first, and how many they are.
-#[derive(Clone, Copy, Debug)]
+#[derive(Clone, Copy)]
 pub(crate) struct Run {
     pub(crate) first: u32,
     pub(crate) count: u32,

@@ -1,7 +1,7 @@
 use gp_workers::Post;
 
 // How the certificates of a window are told.
-#[derive(Clone, Copy, Debug)]
+#[derive(Clone, Copy)]
 pub(crate) enum Telling {
     // Each with all of its steps.
     Whole,

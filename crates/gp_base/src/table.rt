@@ -10,7 +10,7 @@ use std::collections::btree_map::Iter;
 use std::marker::Model;
 
 /// A finite map, which contracts see as the list of its entries in the order of their keys.
-#[derive(Debug, Drop)]
+#[derive(Drop)]
 pub struct Table<K: Ord, V> {
     map: BTreeMap<K, V>,
 }

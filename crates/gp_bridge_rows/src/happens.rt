@@ -7,7 +7,7 @@ use gp_constraint::{Family, Full, LimitedClauses, Point, Points, Symbol, execute
 use gp_window::{EventId, Window};
 
 /// An event is to be executed. The clauses name a symbol of their own, which is free.
-#[derive(Clone, Copy, Debug)]
+#[derive(Clone, Copy)]
 pub struct Happens {
     pub event: EventId,
 }

@@ -20,7 +20,7 @@ pub(crate) enum Standing {
 
 // The value of each variable that has one, and the literals that are true in the order in which they became so. The first
 // ones were gone through.
-#[derive(Debug, Drop)]
+#[derive(Drop)]
 pub(crate) struct Assignment {
     values: Vec<Option<bool>>,
     trail: Vec<Lit>,

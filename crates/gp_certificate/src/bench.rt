@@ -25,7 +25,7 @@ use std::marker::Model;
 /// level, and taken back; what was derived for the outer levels stays. The first kinds are those of a problem.
 // For each loaded clause it is counted how many of its literals did not fall; a clause is looked at where its count falls to one
 // or none. A level that is taken back raises the counts again that it lowered.
-#[derive(Debug, Drop)]
+#[derive(Drop)]
 pub struct Bench {
     kinds: Vec<Kind>,
     lasting: usize,

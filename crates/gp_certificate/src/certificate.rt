@@ -7,7 +7,7 @@ use gp_clause::{
 };
 
 /// Steps, each of which may use the base clauses and the steps before it.
-#[derive(Debug, Drop)]
+#[derive(Drop)]
 pub struct Certificate {
     pub steps: Row<Step>,
 }

@@ -6,7 +6,7 @@ use std::alloc::{AllocError, Global};
 use std::marker::Model;
 
 // Lists of literals, one behind another in one vector.
-#[derive(Debug, Drop)]
+#[derive(Drop)]
 pub(crate) struct ClauseList {
     lits: Vec<Lit>,
     ends: Vec<usize>,

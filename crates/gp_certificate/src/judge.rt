@@ -16,7 +16,7 @@ use std::marker::Model;
 /// Tests the certificates of a problem, as which contracts see it. It loads the problem's clauses once; the test of a
 /// certificate costs what its hints and its locals are, with all clauses for each step without hints, and what it loaded
 /// is taken back, also after want of memory.
-#[derive(Debug, Drop)]
+#[derive(Drop)]
 pub struct Judge {
     hinted: Bench,
     all: Bench,

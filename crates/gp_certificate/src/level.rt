@@ -3,7 +3,7 @@ ghost use Rattle.gp_certificate.specs.Lost.{is_lost};
 
 // What a bench had when a level of assumptions was made: how many literals were true, how many of them it had gone through,
 // and how many bounds it kept. And whether all that is assumed up to this level is refuted.
-#[derive(Clone, Copy, Debug, Drop)]
+#[derive(Clone, Copy, Drop)]
 pub(crate) struct Level {
     pub(crate) trail: usize,
     pub(crate) cursor: usize,

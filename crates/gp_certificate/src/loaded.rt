@@ -10,7 +10,7 @@ use std::marker::Model;
 
 // The clauses of a bench, and for each of them how many of its literals may still be true. The row of a literal lists the
 // numbers of the clauses in which it stands.
-#[derive(Debug, Drop)]
+#[derive(Drop)]
 pub(crate) struct Loaded {
     clauses: ClauseList,
     rows: Vec<Vec<u32>>,

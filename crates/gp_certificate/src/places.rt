@@ -12,7 +12,7 @@ use std::alloc::{AllocError, Global};
 
 // Fixed edges, and a graph that tells whether bounds close a negative cycle with them. Where they hold one themselves
 // the graph has none of them.
-#[derive(Debug, Drop)]
+#[derive(Drop)]
 pub(crate) struct Places {
     edges: Row<Edge>,
     graph: Graph,

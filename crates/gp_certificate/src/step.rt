@@ -6,7 +6,7 @@ use gp_clause::{Clause, bounds_mean, derived_means, keeping_leaves_no_cycle, tru
 /// A clause, and the numbers of the clauses that it was derived from: a number below that of the base clauses names a
 /// base clause, and a greater one an earlier step, or in a log an earlier entry. In a certificate a step without hints
 /// may use every clause before it, but not the steps that the certificates of a window share.
-#[derive(Debug, Drop)]
+#[derive(Drop)]
 pub struct Step {
     pub clause: Clause,
     pub hints: Row<u32>,

@@ -2,7 +2,7 @@ ghost use Rattle.std.specs.Prelude.{◌≡◌};
 ghost use Rattle.gp_checker.specs.Reasons.{number_of};
 
 /// Why a report is rejected, in the order in which the reasons are told.
-#[derive(Clone, Copy, Debug, PartialEq, Eq)]
+#[derive(Clone, Copy, PartialEq, Eq)]
 pub enum Reason {
     /// There are not as many windows as epochs.
     WindowCount,
@@ -48,7 +48,7 @@ impl Reason {
 
 /// The first failure of a report. Windows are numbered from 1, properties and instances from 0; what a reason does not use
 /// is 0.
-#[derive(Clone, Copy, Debug, PartialEq, Eq)]
+#[derive(Clone, Copy, PartialEq, Eq)]
 pub struct Failure {
     pub window: u32,
     pub property: u32,
@@ -73,7 +73,7 @@ impl Failure {
 }
 
 /// What checking a report says.
-#[derive(Clone, Copy, Debug, PartialEq, Eq)]
+#[derive(Clone, Copy, PartialEq, Eq)]
 pub enum Checked {
     Accepted,
     Rejected(Failure),

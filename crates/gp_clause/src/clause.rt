@@ -16,7 +16,7 @@ use thiserror::Error;
 pub struct BadClause;
 
 /// Literals in order of their variables, none of which stands twice. It is true where one of them is.
-#[derive(Debug, Drop)]
+#[derive(Drop)]
 pub struct Clause {
     lits: Vec<Lit>,
 }

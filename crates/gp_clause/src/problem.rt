@@ -5,7 +5,7 @@ use crate::lit::Lit;
 use gp_base::Row;
 
 /// Points are the numbers below `points`, and variables are the places of `kinds`.
-#[derive(Debug, Drop)]
+#[derive(Drop)]
 pub struct Problem {
     pub points: u32,
     pub kinds: Row<Kind>,
@@ -14,7 +14,7 @@ pub struct Problem {
 }
 
 /// A question to a problem. The locals are variables that are numbered after those of the problem.
-#[derive(Debug, Drop)]
+#[derive(Drop)]
 pub struct Query {
     pub locals: Row<Kind>,
     pub assumed: Row<Lit>,

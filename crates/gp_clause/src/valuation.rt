@@ -4,7 +4,7 @@ use gp_base::Row;
 
 /// An answer: a truth value for each variable, and a place for each point. Places may tie where no variable tells two
 /// points apart.
-#[derive(Debug, Drop)]
+#[derive(Drop)]
 pub struct Valuation {
     pub truth: Row<bool>,
     pub places: Row<i64>,

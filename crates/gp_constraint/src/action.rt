@@ -5,7 +5,7 @@ use gp_text::Name;
 use gp_trace::{Event, LockUse};
 
 /// What an event does to a variable, to a lock or to a thread.
-#[derive(Debug, Clone, Copy)]
+#[derive(Clone, Copy)]
 pub enum Action {
     Read(Name, i64),
     Write(Name, i64),

@@ -17,7 +17,7 @@ use gp_window::Window;
 use std::alloc::{AllocError, Global};
 
 /// What a clause of a window is about.
-#[derive(Clone, Copy, Debug)]
+#[derive(Clone, Copy)]
 pub enum BaseFamily {
     /// A thread does its events in order: none is executed unless the one before it is.
     ProgramOrder,

@@ -30,7 +30,7 @@ impl From<AllocError> for BaseFault {
 }
 
 /// Why a clause is not added.
-#[derive(Clone, Copy, Debug, PartialEq, Eq)]
+#[derive(Clone, Copy, PartialEq, Eq)]
 pub enum Full {
     /// There are 500,000 clauses already.
     TooMany,

@@ -3,7 +3,7 @@ use gp_text::Name;
 use gp_trace::LockMode;
 
 /// What a thread does while it holds a lock.
-#[derive(Debug, Clone, Copy)]
+#[derive(Clone, Copy)]
 pub struct Section {
     /// The event that takes the lock.
     pub begin: Point,

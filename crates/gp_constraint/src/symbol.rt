@@ -1,5 +1,5 @@
 /// What a variable stands for, of points by their numbers.
-#[derive(Debug, Clone, Copy, PartialEq, Eq, Hash)]
+#[derive(Clone, Copy, PartialEq, Eq, Hash)]
 pub enum Symbol {
     /// The event is executed.
     Executed(u32),
@@ -20,7 +20,7 @@ pub enum Symbol {
 }
 
 /// A symbol, or its negation.
-#[derive(Debug, Clone, Copy)]
+#[derive(Clone, Copy)]
 pub struct SymbolicLit {
     pub symbol: Symbol,
     pub positive: bool,

@@ -8,7 +8,7 @@ use gp_base::Row;
 use std::alloc::{AllocError, Global};
 
 /// A literal of a clause, before constants are taken out.
-#[derive(Debug, Clone, Copy)]
+#[derive(Clone, Copy)]
 pub enum Term {
     Always,
     Never,

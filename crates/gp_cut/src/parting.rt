@@ -7,7 +7,7 @@ use gp_trace::{Event, LocalTrace};
 use gp_window::Recording;
 
 /// Neighbouring windows of a recording: how many windows are before them, and how many they are.
-#[derive(Clone, Copy, Debug, PartialEq, Eq)]
+#[derive(Clone, Copy, PartialEq, Eq)]
 pub struct Part {
     pub before: u32,
     pub count: u32,

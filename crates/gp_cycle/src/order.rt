@@ -4,7 +4,7 @@ ghost use Rattle.gp_cycle.specs.Cycle.{leads};
 use gp_window::EventId;
 
 /// That one event is before another.
-#[derive(Clone, Copy, Debug)]
+#[derive(Clone, Copy)]
 pub struct Order {
     pub one: EventId,
     pub other: EventId,

@@ -5,7 +5,7 @@ use gp_clause::Clause;
 use std::sync::Arc;
 
 /// A clause that one search passes to another over the same problem, with its sender's number and a certificate of it.
-#[derive(Debug, Drop)]
+#[derive(Drop)]
 pub struct SharedClause {
     pub sender: u32,
     pub clause: Clause,

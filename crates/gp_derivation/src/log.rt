@@ -4,7 +4,7 @@ use gp_certificate::{Certificate, Step, certificate_follows, passing_follows};
 use std::sync::Arc;
 
 /// Where an entry comes from: the search learned it, or took it from another with its certificate.
-#[derive(Debug, Drop)]
+#[derive(Drop)]
 pub enum Origin {
     Learned,
     Taken {
@@ -14,7 +14,7 @@ pub enum Origin {
 }
 
 /// A step of a search. A taken one has no hints.
-#[derive(Debug, Drop)]
+#[derive(Drop)]
 pub struct LogEntry {
     pub step: Step,
     pub origin: Origin,

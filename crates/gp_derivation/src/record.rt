@@ -5,7 +5,7 @@ use gp_base::Row;
 
 /// A turn of a worker at the query with this ticket: the entries `begins..learned` of its log were taken in it, and
 /// `learned..ends` were learned.
-#[derive(Debug, Clone, Copy, PartialEq, Eq)]
+#[derive(Clone, Copy, PartialEq, Eq)]
 pub struct Turn {
     pub ticket: u64,
     pub begins: u32,
@@ -14,21 +14,21 @@ pub struct Turn {
 }
 
 /// What became of a clause at another worker's inbox.
-#[derive(Debug, Clone, Copy, PartialEq, Eq)]
+#[derive(Clone, Copy, PartialEq, Eq)]
 pub enum Sent {
     Pushed,
     Full,
 }
 
 /// The place of an entry that was offered, and one answer for each other worker, by number.
-#[derive(Debug, Drop)]
+#[derive(Drop)]
 pub struct Offered {
     pub entry: u32,
     pub sent: Row<Sent>,
 }
 
 /// What one worker did.
-#[derive(Debug, Drop)]
+#[derive(Drop)]
 pub struct WorkerRecord {
     pub log: Row<LogEntry>,
     pub turns: Row<Turn>,

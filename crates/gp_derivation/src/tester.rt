@@ -14,7 +14,7 @@ use std::alloc::{AllocError, Global};
 use std::marker::Model;
 
 /// Makes clauses tight. It is made once for a problem, keeps what it needs over all tries, and takes back what a try did.
-#[derive(Debug, Drop)]
+#[derive(Drop)]
 pub struct Tester {
     bench: Bench,
 }

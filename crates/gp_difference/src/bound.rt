@@ -1,7 +1,7 @@
 use gp_clause::Edge;
 
 /// An edge that a graph keeps, with the tag that it was asserted under. A fixed edge has no tag.
-#[derive(Debug, Clone, Copy, PartialEq, Eq)]
+#[derive(Clone, Copy, PartialEq, Eq)]
 pub struct Bound {
     pub edge: Edge,
     pub tag: Option<u32>,

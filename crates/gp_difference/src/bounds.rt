@@ -9,7 +9,7 @@ use std::marker::Model;
 
 /// Bounds in the order in which they came. The bounds out of a point, those with it as second point, are linked by
 /// number, the newest first, so that the last bound is taken back by one write.
-#[derive(Debug, Drop)]
+#[derive(Drop)]
 pub struct Bounds {
     bounds: Vec<Bound>,
     links: Vec<usize>,

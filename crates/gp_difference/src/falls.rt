@@ -9,7 +9,7 @@ use std::mem::replace;
 /// A number for each point, with the point of the greatest one found at once. The points whose numbers are above zero
 /// stand first in an order of all: a binary heap with positions, as for Dijkstra's algorithm with decrease-key. Below
 /// spot k are spots 2 * k + 1 and 2 * k + 2, and the order tells the spot of a point whose number is written.
-#[derive(Debug, Drop)]
+#[derive(Drop)]
 pub struct Falls {
     numbers: Vec<i64>,
     order: Order,

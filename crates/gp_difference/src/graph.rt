@@ -16,7 +16,7 @@ const FRESH: i64 = -(1 << 28);
 
 /// A graph of difference constraints: points with a place each, fixed edges, and bounds that are kept on top of them
 /// and taken back in the reverse of the order in which they came.
-#[derive(Debug, Drop)]
+#[derive(Drop)]
 pub struct Graph {
     fixed: usize,
     room: usize,

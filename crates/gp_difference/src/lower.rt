@@ -9,7 +9,7 @@ use gp_clause::Edge;
 
 /// What trying a new bound found: places that keep it, lower labels, or a walk of so many bounds that closes a
 /// negative cycle with it.
-#[derive(Debug, Clone, Copy, PartialEq, Eq)]
+#[derive(Clone, Copy, PartialEq, Eq)]
 pub enum Tried {
     Unchanged,
     Lowered,

@@ -6,7 +6,7 @@ use std::alloc::{AllocError, Global};
 use std::marker::Model;
 
 /// All points, each once, in an order, and the spot of each in it.
-#[derive(Debug, Drop)]
+#[derive(Drop)]
 pub struct Order {
     points: Vec<u32>,
     spots: Vec<u32>,

@@ -12,7 +12,7 @@ use std::marker::Model;
 
 /// The places of a graph's points, and the buffers in which they are moved. A run lowers labels, and lists the points
 /// that fell; then it either keeps the labels as places or restores them, at these points alone.
-#[derive(Debug, Drop)]
+#[derive(Drop)]
 pub struct Placement {
     places: Vec<i64>,
     labels: Vec<i64>,

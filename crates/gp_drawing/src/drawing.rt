@@ -4,7 +4,7 @@ use gp_trace::LockMode;
 use gp_window::EventId;
 
 /// A story as a picture, with rows by number, from 0.
-#[derive(Debug, Drop)]
+#[derive(Drop)]
 pub struct Drawing {
     /// A row for each part of the story.
     pub rows: Row<DrawnRow>,
@@ -13,7 +13,7 @@ pub struct Drawing {
 }
 
 /// What a row tells.
-#[derive(Clone, Copy, Debug)]
+#[derive(Clone, Copy)]
 pub enum DrawnRow {
     /// One event, and whether it is one of the instance's.
     One(EventId, bool),
@@ -22,7 +22,7 @@ pub enum DrawnRow {
 }
 
 /// A run: how many events it has, and its ends.
-#[derive(Clone, Copy, Debug)]
+#[derive(Clone, Copy)]
 pub struct Span {
     pub events: u64,
     pub first: EventId,
@@ -30,7 +30,7 @@ pub struct Span {
 }
 
 /// A lock that a thread holds.
-#[derive(Clone, Copy, Debug)]
+#[derive(Clone, Copy)]
 pub struct Bar {
     pub thread: u32,
     pub lock: Name,
@@ -42,7 +42,7 @@ pub struct Bar {
 }
 
 /// From the row of an event to that of a later one.
-#[derive(Clone, Copy, Debug)]
+#[derive(Clone, Copy)]
 pub struct Arrow {
     pub from: u32,
     pub to: u32,
@@ -50,7 +50,7 @@ pub struct Arrow {
 }
 
 /// What the later event of an arrow has from the earlier one.
-#[derive(Clone, Copy, Debug, PartialEq, Eq)]
+#[derive(Clone, Copy, PartialEq, Eq)]
 pub enum ArrowKind {
     /// The value that it reads.
     Read,

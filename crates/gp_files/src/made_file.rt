@@ -6,7 +6,7 @@ use gp_window::FileName;
 use std::marker::Model;
 
 /// A file that is made for a folder: which one of the folder it is, and its text.
-#[derive(Debug, Drop)]
+#[derive(Drop)]
 pub struct MadeFile {
     name: FileName,
     text: Row<u8>,

@@ -10,7 +10,7 @@ use gp_window::EventId;
 use std::alloc::AllocError;
 
 /// An event that was chosen for an atom, with what the events of later atoms are tested against.
-#[derive(Debug, Drop)]
+#[derive(Drop)]
 pub struct Chosen {
     pub step: usize,
     pub thread_var: Name,

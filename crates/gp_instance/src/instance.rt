@@ -14,7 +14,7 @@ use thiserror::Error;
 pub const MOST_INSTANCES: usize = 10_000;
 
 /// An instance of a property in a window.
-#[derive(Debug, Drop)]
+#[derive(Drop)]
 pub struct Instance {
     /// The number of the property in its file, from 0.
     pub property: u32,

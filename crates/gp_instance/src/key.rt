@@ -13,7 +13,7 @@ use std::cmp::Ordering;
 use std::marker::Model;
 
 /// What an event and its partner have in common, as a row of numbers.
-#[derive(Debug, Drop)]
+#[derive(Drop)]
 pub struct Key {
     numbers: Row<usize>,
 }

@@ -9,14 +9,14 @@ use gp_property::{PatternAtom, Term};
 use std::alloc::{AllocError, Global};
 
 /// Which of two atoms, the first of which comes earlier in the pattern.
-#[derive(Clone, Copy, Debug)]
+#[derive(Clone, Copy)]
 pub enum Side {
     First,
     Second,
 }
 
 /// What two atoms want of their events.
-#[derive(Debug, Drop)]
+#[derive(Drop)]
 pub struct Link {
     /// They have one thread variable.
     pub same_thread: bool,

@@ -5,7 +5,7 @@ ghost use Rattle.gp_window.specs.Ids.{is_less};
 use gp_window::EventId;
 
 /// The first and the last of some events, by thread and then index.
-#[derive(Clone, Copy, Debug)]
+#[derive(Clone, Copy)]
 pub struct Span {
     pub first: EventId,
     pub last: EventId,

@@ -4,7 +4,7 @@ use gp_derivation::LogEntry;
 use gp_window::Schedule;
 
 /// Whether a window is linked to the next.
-#[derive(Debug, Drop)]
+#[derive(Drop)]
 pub enum LinkAnswer {
     /// This schedule links the two.
     Linked(Schedule),
@@ -25,7 +25,7 @@ pub enum LinkAnswer {
 }
 
 /// An answer for each window of a recording but the last, in order, with the budget of each.
-#[derive(Debug, Drop)]
+#[derive(Drop)]
 pub struct LinkReport {
     pub budget: u64,
     pub links: Row<LinkAnswer>,

@@ -5,7 +5,7 @@ use crate::answer::LinkAnswer;
 use std::alloc::AllocError;
 
 // How many windows are linked, unlinkable, undecided and too large.
-#[derive(Clone, Copy, Debug)]
+#[derive(Clone, Copy)]
 pub(crate) struct Tally {
     pub(crate) linked: u64,
     pub(crate) unlinkable: u64,

@@ -5,7 +5,7 @@ ghost use Rattle.gp_make.specs.Run.{windows_of};
 pub(crate) const WINDOW: u32 = 200;
 
 /// The three numbers that determine a recording.
-#[derive(Clone, Copy, Debug, PartialEq, Eq)]
+#[derive(Clone, Copy, PartialEq, Eq)]
 pub struct Recipe {
     /// The first state of the generator.
     pub seed: u64,

@@ -9,7 +9,7 @@ use gp_report::{Report, WindowRecord};
 use std::alloc::{AllocError, Global};
 
 /// A part of a recording, and the report on what was cut out for it: the stage is its window 1.
-#[derive(Debug, Drop)]
+#[derive(Drop)]
 pub struct PartReport {
     pub part: Part,
     pub report: Report,

@@ -10,7 +10,7 @@ use gp_writer::{put_line, put_list};
 use std::alloc::{AllocError, Global};
 
 /// A schedule that shows an instance, and the signal of each of its wakes.
-#[derive(Debug, Drop)]
+#[derive(Drop)]
 pub struct Paired {
     pub schedule: Schedule,
     pub pairs: Row<Pair>,

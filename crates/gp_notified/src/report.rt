@@ -4,7 +4,7 @@ use gp_report::WindowRecordOf;
 use gp_window::EventId;
 
 /// A window that is left out, and the first wake of it before which its thread does not sleep.
-#[derive(Debug, Drop)]
+#[derive(Drop)]
 pub struct Unpaired {
     pub window: u32,
     pub wake: EventId,
@@ -12,7 +12,7 @@ pub struct Unpaired {
 
 /// What is answered for each window of a recording, in order, with the budget of each query, and the windows that are left out
 /// since a wake has no sleep. Such a window has a record without properties.
-#[derive(Debug, Drop)]
+#[derive(Drop)]
 pub struct NotifyReport {
     pub budget: u64,
     pub windows: Row<WindowRecordOf<Paired>>,

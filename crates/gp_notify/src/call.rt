@@ -1,7 +1,7 @@
 use gp_text::Name;
 
 /// What an operation on one object, a condition, does to it.
-#[derive(Debug, Clone, Copy)]
+#[derive(Clone, Copy)]
 pub enum Call {
     /// The thread begins to wait for a signal of the condition.
     Sleep(Name),

@@ -5,7 +5,7 @@ pub trait Gate {
 }
 
 /// A gate that holds nobody.
-#[derive(Debug, Clone, Copy)]
+#[derive(Clone, Copy)]
 pub struct FreeGate;
 
 impl Gate for FreeGate {

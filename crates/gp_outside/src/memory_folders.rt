@@ -10,7 +10,7 @@ use std::alloc::AllocError;
 use std::marker::Model;
 
 /// Files in memory, for tests. Calls are numbered from 1, and those that the script names fail.
-#[derive(Debug, Drop)]
+#[derive(Drop)]
 pub struct MemoryFolder {
     files: Vec<(String, Vec<u8>)>,
     failing: Vec<u64>,

@@ -3,7 +3,7 @@ ghost use Rattle.gp_overview.specs.Counting.{no_counts};
 ghost use Rattle.gp_overview.specs.Table.{numbers_of};
 
 /// How often a report has which answer.
-#[derive(Clone, Copy, Debug, PartialEq, Eq)]
+#[derive(Clone, Copy, PartialEq, Eq)]
 pub struct Counts {
     pub found: u64,
     pub impossible: u64,

@@ -23,7 +23,7 @@ use std::thread::Threads;
 const COMPACT: u32 = 2;
 
 /// What is asked of an analysis.
-#[derive(Clone, Copy, Debug)]
+#[derive(Clone, Copy)]
 pub struct Asked {
     /// How many workers answer the queries of a window, from 1 to 16.
     pub workers: u32,

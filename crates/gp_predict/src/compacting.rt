@@ -17,7 +17,7 @@ use std::alloc::{AllocError, Global};
 use std::thread::Threads;
 
 /// The compact form of a report. It is not kept, since no analysis was made.
-#[derive(Debug, Drop)]
+#[derive(Drop)]
 pub struct CompactForm {
     pub report: Report,
 }

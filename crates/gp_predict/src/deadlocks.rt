@@ -22,7 +22,7 @@ use std::sync::Wait;
 use std::thread::Threads;
 
 /// The report of an analysis for deadlocks.
-#[derive(Debug, Drop)]
+#[derive(Drop)]
 pub struct DeadlockReport {
     pub report: Report,
 }

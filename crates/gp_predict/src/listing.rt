@@ -28,7 +28,7 @@ use std::alloc::{AllocError, Global};
 use std::thread::Threads;
 
 /// A recording with its properties, each of which has instances in each window: what task list lists, and what a report answers.
-#[derive(Debug, Drop)]
+#[derive(Drop)]
 pub struct Listing {
     pub recording: Recording,
     pub properties: Row<Property>,
@@ -103,7 +103,7 @@ pub fn properties_from(alloc: Global, bytes: &[u8]) -> Result<Row<Property>, Sto
 }
 
 /// What is told of a window: its lines, and how many instances they tell.
-#[derive(Debug, Drop)]
+#[derive(Drop)]
 pub struct WindowLines {
     pub lines: Row<Row<u8>>,
     pub count: u64,

@@ -5,7 +5,7 @@ use gp_notified::NotifyReport;
 use gp_report::Report;
 
 /// What the program ends with.
-#[derive(Debug, Drop)]
+#[derive(Drop)]
 pub struct Outcome {
     /// 0 feasible, listed, accepted, made, all windows are linked, or answered and nothing is found; 1 stuck, rejected, some
     /// window is not linked, or something is found; 2 the words are refused, 3 an input file is refused, 4 the folder failed,

@@ -14,7 +14,7 @@ use std::alloc::{AllocError, Global};
 const REFUSED: u8 = 3;
 
 /// Why an input file, the recording as a whole, or what is asked of them is refused.
-#[derive(Clone, Copy, Debug)]
+#[derive(Clone, Copy)]
 pub enum Refusal {
     /// The bytes of an input file are not told.
     Content(ContentFault),

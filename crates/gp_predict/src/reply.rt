@@ -8,7 +8,7 @@ use gp_replay::Rule;
 use std::alloc::{AllocError, Global};
 
 /// A status, and the text that goes with it: its lines, each with its newline.
-#[derive(Debug, Drop)]
+#[derive(Drop)]
 pub struct Reply {
     pub status: u8,
     pub lines: Row<Row<u8>>,

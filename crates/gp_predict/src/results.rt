@@ -27,7 +27,7 @@ pub trait Tells {
 }
 
 /// A text that is made before it is written, with its status.
-#[derive(Debug, Drop)]
+#[derive(Drop)]
 pub struct Answer {
     pub reply: Reply,
     ghost few: { reply.status ≤ 1 },

@@ -2,7 +2,7 @@ use crate::refusal::Refusal;
 use std::alloc::AllocError;
 
 /// Why a stage, which reads the folder, gave nothing.
-#[derive(Clone, Copy, Debug)]
+#[derive(Clone, Copy)]
 pub enum Stop {
     /// An input file, the recording as a whole, or what is asked of them is refused.
     Refused(Refusal),

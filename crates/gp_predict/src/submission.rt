@@ -18,7 +18,7 @@ use std::alloc::Global;
 use std::thread::Threads;
 
 /// A report beside the recording and the properties that it is to answer.
-#[derive(Debug, Drop)]
+#[derive(Drop)]
 pub struct Submission {
     pub listing: Listing,
     pub report: Report,

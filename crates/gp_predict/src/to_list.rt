@@ -8,7 +8,7 @@ use gp_outside::{PutFault, Sink};
 use std::alloc::Global;
 
 /// What is to be listed. Its text is made window by window while it is written.
-#[derive(Debug, Drop)]
+#[derive(Drop)]
 pub struct ToList {
     pub listing: Listing,
     ghost few: { length listing.properties ≤ 64 },

@@ -7,7 +7,7 @@ use gp_text::Name;
 use std::alloc::{AllocError, Global};
 
 /// An atom of a pattern with its place there, and with what its event has to be like.
-#[derive(Debug, Drop)]
+#[derive(Drop)]
 pub struct PatternAtom {
     /// The number of its step, from 0.
     pub step: usize,

@@ -8,7 +8,7 @@ use gp_text::Word;
 use std::alloc::{AllocError, Global};
 
 /// A pattern of which some words are read.
-#[derive(Debug, Drop)]
+#[derive(Drop)]
 pub struct PatternDraft {
     /// The steps that are over.
     pub steps: Row<PatternStep>,

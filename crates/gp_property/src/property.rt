@@ -19,7 +19,7 @@ pub const MOST_ATOMS: usize = 6;
 pub const MOST_GROUPED: usize = 4;
 
 /// What stands for a name in the shape of an event.
-#[derive(Clone, Copy, Debug, PartialEq, Eq)]
+#[derive(Clone, Copy, PartialEq, Eq)]
 pub enum Term {
     /// This very name.
     Is(Name),
@@ -30,21 +30,21 @@ pub enum Term {
 }
 
 /// What stands for a value in the shape of an event.
-#[derive(Clone, Copy, Debug, PartialEq, Eq)]
+#[derive(Clone, Copy, PartialEq, Eq)]
 pub enum ValueTerm {
     Is(i64),
     Any,
 }
 
 /// What stands for a thread that is started or joined.
-#[derive(Clone, Copy, Debug, PartialEq, Eq)]
+#[derive(Clone, Copy, PartialEq, Eq)]
 pub enum ThreadTerm {
     Is(u32),
     Any,
 }
 
 /// What an event has to be like.
-#[derive(Debug, Drop)]
+#[derive(Drop)]
 pub enum Shape {
     Read(Term, ValueTerm),
     Write(Term, ValueTerm),
@@ -77,14 +77,14 @@ impl Clone for Shape {
 }
 
 /// A name for the events of a shape.
-#[derive(Debug, Drop)]
+#[derive(Drop)]
 pub struct EventDef {
     pub name: Name,
     pub shape: Shape,
 }
 
 /// One event of a pattern.
-#[derive(Debug, Drop)]
+#[derive(Drop)]
 pub struct Atom {
     /// The name of an event that the property defines.
     pub event: Name,
@@ -97,13 +97,13 @@ pub struct Atom {
 }
 
 /// One step of a pattern: an atom, or a group of 2 to 4 whose events come next to one another.
-#[derive(Debug, Drop)]
+#[derive(Drop)]
 pub struct PatternStep {
     pub atoms: Row<Atom>,
 }
 
 /// A pattern of events to look for: 1 to 6 atoms in steps of at most 4, whose events and regions fit.
-#[derive(Debug, Drop)]
+#[derive(Drop)]
 pub struct Property {
     name: Name,
     events: Row<EventDef>,

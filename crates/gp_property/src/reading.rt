@@ -17,7 +17,7 @@ use std::alloc::Global;
 use std::marker::Model;
 
 /// A property whose pattern is still due.
-#[derive(Debug, Drop)]
+#[derive(Drop)]
 pub struct Draft {
     name: Name,
     events: Row<EventDef>,
@@ -34,7 +34,7 @@ impl Model for Draft {
 }
 
 /// What the lines so far have told.
-#[derive(Debug, Drop)]
+#[derive(Drop)]
 pub struct Reading {
     pub done: Row<Property>,
     pub draft: Option<Draft>,

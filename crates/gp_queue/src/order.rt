@@ -6,7 +6,7 @@ use std::alloc::{AllocError, Global};
 use std::marker::Model;
 
 /// The numbers 0..n in an order. Contracts see that order, front first, as a list.
-#[derive(Debug, Drop)]
+#[derive(Drop)]
 pub struct LinkQueue {
     next: Vec<u32>,
     prev: Vec<u32>,

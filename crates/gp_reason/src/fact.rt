@@ -7,7 +7,7 @@ use gp_constraint::{Point, Symbol};
 use gp_window::EventId;
 
 /// What a literal says of the events of a window.
-#[derive(Clone, Copy, Debug)]
+#[derive(Clone, Copy)]
 pub enum Fact {
     /// The event is executed.
     Executed(EventId),

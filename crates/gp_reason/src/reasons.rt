@@ -4,7 +4,7 @@ use gp_constraint::BaseFamily;
 use gp_window::EventId;
 
 /// What a step rests on.
-#[derive(Debug, Drop)]
+#[derive(Drop)]
 pub enum Ground {
     /// A clause of the window, which says that one of these facts holds.
     Base(BaseFamily, Row<Fact>),
@@ -15,7 +15,7 @@ pub enum Ground {
 }
 
 /// A step of a reason: a clause that follows from its grounds.
-#[derive(Debug, Drop)]
+#[derive(Drop)]
 pub struct ReasonStep {
     /// The number by which the certificate cites it: the clauses of the window count first, from 0, then the steps that the
     /// certificates of the window share, and then the certificate's own.
@@ -30,7 +30,7 @@ pub struct ReasonStep {
 }
 
 /// Why an instance is impossible.
-#[derive(Debug, Drop)]
+#[derive(Drop)]
 pub struct Reason {
     /// What would have to hold, all of it, and cannot.
     pub assumed: Row<Fact>,

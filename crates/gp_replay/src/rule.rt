@@ -4,7 +4,7 @@ ghost use Rattle.gp_replay.specs.Rule.{number_of_rule};
 use std::alloc::AllocError;
 
 /// Why an event may not happen now. The rules are tested in this order.
-#[derive(Clone, Copy, Debug, PartialEq, Eq)]
+#[derive(Clone, Copy, PartialEq, Eq)]
 pub enum Rule {
     /// The event is not the next one of its thread.
     NotNext,
@@ -34,7 +34,7 @@ impl Rule {
 }
 
 /// Why a step was not made.
-#[derive(Clone, Copy, Debug, PartialEq, Eq)]
+#[derive(Clone, Copy, PartialEq, Eq)]
 pub enum StepFault {
     /// The event may not happen, by this rule.
     Broken(Rule),

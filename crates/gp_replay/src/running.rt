@@ -10,7 +10,7 @@ use std::alloc::{AllocError, Global};
 pub type ReplayEnd = State;
 
 /// Why a schedule was not replayed to its end.
-#[derive(Clone, Copy, Debug, PartialEq, Eq)]
+#[derive(Clone, Copy, PartialEq, Eq)]
 pub enum ReplayFault {
     /// The event at this place, from 0, is the first that may not happen, by this rule.
     Stuck { place: u64, rule: Rule },

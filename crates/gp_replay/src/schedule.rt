@@ -9,7 +9,7 @@ use std::alloc::{AllocError, Global};
 use thiserror::Error;
 
 /// A schedule, and the number of the window that it is for.
-#[derive(Debug, Drop)]
+#[derive(Drop)]
 pub struct WindowSchedule {
     pub window: u32,
     pub schedule: Schedule,

@@ -20,7 +20,7 @@ pub const MOST_ENTRIES: usize = 10_000;
 pub const MOST_EVENTS: usize = 6;
 
 /// What is answered to an ask of a window. The records say of what is shown no more than its type.
-#[derive(Debug, Drop)]
+#[derive(Drop)]
 pub enum AnswerOf<S> {
     /// What shows it.
     Found(S),
@@ -31,14 +31,14 @@ pub enum AnswerOf<S> {
 }
 
 /// The events of an ask and its answer.
-#[derive(Debug, Drop)]
+#[derive(Drop)]
 pub struct EntryOf<S> {
     pub events: Row<EventId>,
     pub answer: AnswerOf<S>,
 }
 
 /// What is answered for a property in a window.
-#[derive(Debug, Drop)]
+#[derive(Drop)]
 pub enum PropertyBodyOf<S> {
     /// There are more than 10,000 instances.
     TooMany,
@@ -59,14 +59,14 @@ impl<S> PropertyBodyOf<S> {
 }
 
 /// A property in a window.
-#[derive(Debug, Drop)]
+#[derive(Drop)]
 pub struct PropertyRecordOf<S> {
     pub name: Name,
     pub body: PropertyBodyOf<S>,
 }
 
 /// What is answered for a window.
-#[derive(Debug, Drop)]
+#[derive(Drop)]
 pub enum WindowBodyOf<S> {
     /// The window has so many events, of which more than 2,048 are too many, and so many clauses were counted.
     TooLarge { events: u64, clauses: u64 },
@@ -87,7 +87,7 @@ impl<S> WindowBodyOf<S> {
 }
 
 /// A window, the steps that its certificates share, and what each of its workers did.
-#[derive(Debug, Drop)]
+#[derive(Drop)]
 pub struct WindowRecordOf<S> {
     pub number: u32,
     pub shared: Row<Step>,

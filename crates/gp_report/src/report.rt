@@ -7,7 +7,7 @@ use gp_base::Row;
 use std::marker::Model;
 
 /// What an analysis answers for each window, in a form that a text can tell.
-#[derive(Debug, Drop)]
+#[derive(Drop)]
 pub struct Report {
     format: u32,
     budget: u64,

@@ -6,7 +6,7 @@ use crate::record::{AnswerOf, EntryOf, PropertyRecordOf, WindowRecordOf};
 use std::alloc::AllocError;
 
 // How many entries are found, impossible and undecided.
-#[derive(Clone, Copy, Debug)]
+#[derive(Clone, Copy)]
 pub(crate) struct Tally {
     pub(crate) found: u64,
     pub(crate) impossible: u64,

@@ -16,7 +16,7 @@ use gp_clause::{Clause, Lit};
 use std::alloc::AllocError;
 
 /// A clause that follows from a conflict and the clauses whose numbers are its hints, and the level to jump back to.
-#[derive(Debug, Drop)]
+#[derive(Drop)]
 pub struct Learned {
     pub clause: Clause,
     pub hints: Row<u32>,
@@ -25,14 +25,14 @@ pub struct Learned {
 
 // Where an analysis stops at a literal and does not replace it by its reason: at each decision, or below the present level
 // and at the first unique implication point.
-#[derive(Debug, Clone, Copy, PartialEq, Eq)]
+#[derive(Clone, Copy, PartialEq, Eq)]
 pub(crate) enum Stop {
     Decisions,
     FirstPoint,
 }
 
 // What a walk has found: the literals at which it stopped, and the clauses that it followed.
-#[derive(Debug, Drop)]
+#[derive(Drop)]
 pub(crate) struct Walk {
     pub(crate) lits: Vec<Lit>,
     pub(crate) hints: Vec<u32>,

@@ -1,6 +1,6 @@
 /// The assignment of a variable: its truth, its decision level, its place on the trail, and the number of the clause that
 /// forced it, which a decision does not have.
-#[derive(Debug, Clone, Copy, PartialEq, Eq)]
+#[derive(Clone, Copy, PartialEq, Eq)]
 pub struct Assigned {
     pub positive: bool,
     pub level: u32,

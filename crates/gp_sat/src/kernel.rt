@@ -19,7 +19,7 @@ use std::marker::Model;
 
 /// A solver without its watches. Variables are the numbers below `variables`, and clauses have the numbers 0, 1, 2 and so
 /// on in the order of `attach`.
-#[derive(Debug, Drop)]
+#[derive(Drop)]
 pub(crate) struct Kernel {
     pub(crate) values: Values,
     pub(crate) trail: Vec<Lit>,

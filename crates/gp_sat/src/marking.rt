@@ -7,7 +7,7 @@ use std::alloc::{AllocError, Global};
 use std::collections::BinaryHeap;
 
 /// What an analysis marks. A solver keeps it from one analysis to the next, and between them no variable is marked.
-#[derive(Debug, Drop)]
+#[derive(Drop)]
 pub(crate) struct Marking {
     // Whether each variable is marked.
     pub(crate) marks: Vec<bool>,

@@ -15,7 +15,7 @@ use gp_clause::Lit;
 
 // The literals that a clause watches first: none, where all are false, one alone, two that are not false, or one that is not
 // and the one of the highest level of the others, which are.
-#[derive(Debug, Clone, Copy, PartialEq, Eq)]
+#[derive(Clone, Copy, PartialEq, Eq)]
 pub enum Chosen {
     False,
     Lone(Lit),

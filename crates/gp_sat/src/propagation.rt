@@ -13,14 +13,14 @@ use crate::watches::Watches;
 use gp_clause::Lit;
 
 /// What a propagation came to: the trail is closed at the present level, or the clause of a number is false.
-#[derive(Debug, Clone, Copy, PartialEq, Eq)]
+#[derive(Clone, Copy, PartialEq, Eq)]
 pub enum Propagated {
     Quiet,
     False(u32),
 }
 
 // What one step of a propagation came to.
-#[derive(Debug, Clone, Copy, PartialEq, Eq)]
+#[derive(Clone, Copy, PartialEq, Eq)]
 pub(crate) enum Passed {
     Quiet,
     False(u32),

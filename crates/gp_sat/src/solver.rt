@@ -21,7 +21,7 @@ use std::marker::Model;
 /// A solver that watches two literals of each clause. Variables are the numbers below `variables`, and clauses have the
 /// numbers 0, 1, 2 and so on in the order of `attach`. Only `new`, `grow`, `attach` and the analyses take memory. An analysis
 /// visits only the literals that lead to its conflict, and costs a logarithm for each of them.
-#[derive(Debug, Drop)]
+#[derive(Drop)]
 pub struct Solver {
     kernel: Kernel,
     watches: Watches,

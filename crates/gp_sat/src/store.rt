@@ -7,7 +7,7 @@ use std::alloc::{AllocError, Global};
 use std::marker::Model;
 
 /// Where the literals of a clause lie in the array of all literals, and whether it is attached.
-#[derive(Debug, Clone, Copy, PartialEq, Eq, Drop)]
+#[derive(Clone, Copy, PartialEq, Eq, Drop)]
 pub struct Range {
     pub start: usize,
     pub end: usize,
@@ -16,7 +16,7 @@ pub struct Range {
 
 /// The clauses by number. The literals of all of them lie in one array, one clause behind the other. A clause is kept when
 /// it is no longer attached, since it may be the reason of a literal.
-#[derive(Debug, Drop)]
+#[derive(Drop)]
 pub struct Store {
     literals: Vec<Lit>,
     ranges: Vec<Range>,

@@ -6,7 +6,7 @@ use std::marker::Model;
 
 /// The assignment of each variable. The truth of a variable, which propagation reads at every literal, stands in a row of
 /// bytes beside it.
-#[derive(Debug, Drop)]
+#[derive(Drop)]
 pub(crate) struct Values {
     assigned: Vec<Option<Assigned>>,
     truths: Vec<Option<bool>>,

@@ -12,7 +12,7 @@ use crate::watches::{Watches, clause_of, partner_of};
 use gp_clause::Lit;
 
 // How a literal stands.
-#[derive(Debug, Clone, Copy, PartialEq, Eq)]
+#[derive(Clone, Copy, PartialEq, Eq)]
 pub enum Stand {
     True,
     False,
@@ -21,7 +21,7 @@ pub enum Stand {
 
 // What becomes of a slot whose literal fell: it is left out with its clause, it stays, it moves to another literal, or the
 // other literal of the clause is forced, or false too.
-#[derive(Debug, Clone, Copy, PartialEq, Eq)]
+#[derive(Clone, Copy, PartialEq, Eq)]
 pub enum Judged {
     Off,
     Holds,

@@ -10,7 +10,7 @@ use std::marker::Model;
 
 /// A slot of a clause in eight bytes: the literal that it watches, as twice its variable and one more where it is positive,
 /// and the next slot that watches the same, as one more than its number, or 0 for none.
-#[derive(Debug, Clone, Copy, PartialEq, Eq, Drop)]
+#[derive(Clone, Copy, PartialEq, Eq, Drop)]
 pub struct Packed {
     pub lit: u32,
     pub next: u32,
@@ -20,7 +20,7 @@ const NO_SLOT: Packed = Packed { lit: 0, next: 0 };
 
 /// The slots by the literals that they watch. The clause of a number has the slots 2 * number and 2 * number + 1. Lists and
 /// slots are numbered by 32 bits, so that a slot stays small: some 2^31 variables or clauses are want of memory.
-#[derive(Debug, Drop)]
+#[derive(Drop)]
 pub struct Watches {
     heads: Vec<u32>,
     slots: Vec<Packed>,

@@ -14,7 +14,7 @@ use std::alloc::{AllocError, Global};
 // entries of the log. An entry that rests on the problem alone is marked as pure. A turn begins at a place of the log, and
 // learns from another one on; what stands between the two was taken. In it the graph keeps the bounds of so many literals of the trail, the decisions up to a
 // level are assumptions, and all assumptions before the next one are true. One tester serves all turns.
-#[derive(Debug, Drop)]
+#[derive(Drop)]
 pub(crate) struct Engine {
     pub(crate) solver: Solver,
     pub(crate) graph: Graph,
@@ -30,14 +30,14 @@ pub(crate) struct Engine {
 }
 
 // What stood when a level began: how many bounds the graph had, and the place of the next assumption.
-#[derive(Debug, Clone, Copy)]
+#[derive(Clone, Copy)]
 pub(crate) struct Level {
     pub(crate) bounds: u32,
     pub(crate) next: usize,
 }
 
 // A false clause, and its number where it is one of the solver.
-#[derive(Debug, Drop)]
+#[derive(Drop)]
 pub(crate) struct Conflict {
     pub(crate) lits: Vec<Lit>,
     pub(crate) number: Option<u32>,

@@ -15,7 +15,7 @@ use gp_sat::Learned;
 use std::alloc::AllocError;
 
 // A step to log, and the level at which its clause asserts a literal.
-#[derive(Debug, Drop)]
+#[derive(Drop)]
 pub(crate) struct LearnedStep {
     pub(crate) step: Step,
     pub(crate) level: u32,

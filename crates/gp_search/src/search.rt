@@ -14,7 +14,7 @@ use std::alloc::{AllocError, Global};
 use std::marker::Model;
 
 /// A search over one problem, which keeps what it learned from query to query.
-#[derive(Debug, Drop)]
+#[derive(Drop)]
 pub struct Search<'a> {
     problem: &'a Problem,
     engine: Engine,

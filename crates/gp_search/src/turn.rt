@@ -14,7 +14,7 @@ use gp_sat::Solver;
 use std::alloc::AllocError;
 
 // How a descent ended: with a verdict, or with a conflict above the assumptions.
-#[derive(Debug, Drop)]
+#[derive(Drop)]
 pub(crate) enum Descent {
     Verdict(Verdict),
     Conflict(Conflict),

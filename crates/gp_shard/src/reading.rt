@@ -54,14 +54,14 @@ impl From<TextFault> for ShardFault {
 }
 
 /// Which of how many parts.
-#[derive(Clone, Copy, Debug)]
+#[derive(Clone, Copy)]
 struct PartNumber {
     part: u32,
     parts: u32,
 }
 
 /// Which of how many windows.
-#[derive(Clone, Copy, Debug)]
+#[derive(Clone, Copy)]
 struct PartWindows {
     before: u32,
     count: u32,

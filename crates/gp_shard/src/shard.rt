@@ -1,5 +1,5 @@
 /// Which part of a recording a folder holds.
-#[derive(Clone, Copy, Debug, PartialEq, Eq)]
+#[derive(Clone, Copy, PartialEq, Eq)]
 pub struct Shard {
     /// The number of the part, from 1.
     pub part: u32,

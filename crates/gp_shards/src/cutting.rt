@@ -21,7 +21,7 @@ use std::alloc::{AllocError, Global};
 use std::thread::Threads;
 
 /// A part of a recording that is to be written: which one it is, and its files.
-#[derive(Debug, Drop)]
+#[derive(Drop)]
 pub struct Cutting {
     pub shard: Shard,
     pub files: Row<MadeFile>,

@@ -22,7 +22,7 @@ use std::alloc::Global;
 use std::marker::Model;
 
 /// A folder that holds a part of a recording: its name, and which part it says that it has.
-#[derive(Debug, Drop)]
+#[derive(Drop)]
 pub struct PartFolder<'a> {
     out: &'a str,
     shard: Shard,

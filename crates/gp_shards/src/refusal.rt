@@ -12,7 +12,7 @@ use std::alloc::{AllocError, Global};
 const REFUSED: u8 = 3;
 
 /// What is wrong in the folder of a part.
-#[derive(Clone, Copy, Debug)]
+#[derive(Clone, Copy)]
 pub enum PartFault {
     /// The part has so many windows that no manifest can tell them with their stage.
     ManyWindows,
@@ -37,7 +37,7 @@ pub enum PartFault {
 }
 
 /// Why nothing is cut or merged by the files.
-#[derive(Debug, Drop)]
+#[derive(Drop)]
 pub enum ShardRefusal {
     /// What gpredict refuses too, in the folder of the recording.
     Usual(Refusal),

@@ -7,7 +7,7 @@ use gp_predict::Stop;
 use std::alloc::{AllocError, Global};
 
 /// Why nothing is cut or merged.
-#[derive(Debug, Drop)]
+#[derive(Drop)]
 pub enum ShardStop {
     /// The recording, or what stands in the folder of a part, is refused.
     Refused(ShardRefusal),

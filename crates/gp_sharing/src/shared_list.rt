@@ -11,14 +11,14 @@ use std::collections::HashMap;
 use std::marker::Model;
 
 // What a step says, by which it is found.
-#[derive(Debug, PartialEq, Eq, Hash, Drop)]
+#[derive(PartialEq, Eq, Hash, Drop)]
 struct StepKey {
     lits: Vec<Lit>,
     hints: Vec<u32>,
 }
 
 /// The shared steps of a window. The first place of a step is found by its hash.
-#[derive(Debug, Drop)]
+#[derive(Drop)]
 pub struct SharedList {
     steps: Vec<Step>,
     firsts: HashMap<StepKey, u32>,

@@ -7,7 +7,7 @@ use gp_clause::Problem;
 
 /// By what the steps of a window are numbered before any of them moves: how many base clauses, base variables and shared
 /// steps it has.
-#[derive(Clone, Copy, Debug)]
+#[derive(Clone, Copy)]
 pub struct Sizes {
     pub clauses: u32,
     pub variables: u32,

@@ -3,7 +3,7 @@ use gp_window::EventId;
 
 /// What an event of a schedule looks back at: a read at the write whose value it finds, who takes a lock at who gave it
 /// back, a join at the end of its thread.
-#[derive(Clone, Copy, Debug, PartialEq, Eq)]
+#[derive(Clone, Copy, PartialEq, Eq)]
 pub enum Source {
     /// At nothing: the event is none of these.
     Nothing,
@@ -14,7 +14,7 @@ pub enum Source {
 }
 
 /// An event of a schedule, with what there is to say of it.
-#[derive(Clone, Copy, Debug)]
+#[derive(Clone, Copy)]
 pub struct StoryLine {
     /// The place of the event in the schedule, from 0.
     pub place: u64,
@@ -29,7 +29,7 @@ pub struct StoryLine {
 }
 
 /// A part of a story.
-#[derive(Debug, Drop)]
+#[derive(Drop)]
 pub enum Part {
     /// One line.
     Single(StoryLine),
@@ -39,7 +39,7 @@ pub enum Part {
 }
 
 /// A schedule as a story.
-#[derive(Debug, Drop)]
+#[derive(Drop)]
 pub struct Story {
     pub parts: Row<Part>,
 }

@@ -6,7 +6,7 @@ use std::alloc::{AllocError, Global};
 use std::marker::Model;
 
 /// The bytes between the spaces of a line: at least one, and none of them a space.
-#[derive(Debug, Drop)]
+#[derive(Drop)]
 pub struct Word {
     bytes: Row<u8>,
 }
@@ -38,7 +38,7 @@ impl Word {
 }
 
 /// A line that holds words, with its number in the text, from 1.
-#[derive(Debug, Drop)]
+#[derive(Drop)]
 pub struct Line {
     pub number: u32,
     pub words: Row<Word>,

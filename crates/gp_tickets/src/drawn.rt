@@ -6,7 +6,7 @@ use crate::tickets::{Drawer, Tickets};
 use std::alloc::{AllocError, Global};
 
 /// What was made of a number that was drawn.
-#[derive(Debug, Drop)]
+#[derive(Drop)]
 pub struct Made<T> {
     pub number: u64,
     pub value: T,

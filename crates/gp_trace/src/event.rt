@@ -6,7 +6,7 @@ use std::alloc::AllocError;
 use std::mem::size_of;
 
 /// What one thread did at one step of the recorded run.
-#[derive(Debug, Drop)]
+#[derive(Drop)]
 pub enum Event {
     /// Read this variable, and found this value.
     Read(Name, i64),

@@ -15,7 +15,7 @@ const MOST_OBJECTS: usize = 4;
 const SHARED_LOCKS: u32 = 2;
 
 /// What a line of a trace says.
-#[derive(Debug, Drop)]
+#[derive(Drop)]
 pub enum Entry {
     /// The thread did this.
     Did(Event),

@@ -5,7 +5,7 @@ use crate::event::Event;
 use gp_text::Name;
 
 /// How a thread holds a lock.
-#[derive(Clone, Copy, Debug)]
+#[derive(Clone, Copy)]
 pub enum LockMode {
     /// Alone: no other thread holds the lock in either way.
     Exclusive,
@@ -14,7 +14,7 @@ pub enum LockMode {
 }
 
 /// What an event does to a lock.
-#[derive(Clone, Copy, Debug)]
+#[derive(Clone, Copy)]
 pub enum LockUse {
     /// The thread takes the lock in this way.
     Take(LockMode, Name),

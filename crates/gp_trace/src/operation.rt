@@ -7,20 +7,20 @@ use std::marker::Model;
 
 /// An operation: its name, and the objects that it was done on, which contracts see as a pair. Where
 /// there are no objects, it takes no memory of its own.
-#[derive(Debug, Drop)]
+#[derive(Drop)]
 pub struct Operation {
     kept: Kept,
 }
 
 /// How an operation is kept: the objects lie behind one pointer.
-#[derive(Debug, Drop)]
+#[derive(Drop)]
 enum Kept {
     Alone(Name),
     OnObjects(Box<Applied>),
 }
 
 /// An operation with its objects.
-#[derive(Debug, Drop)]
+#[derive(Drop)]
 struct Applied {
     name: Name,
     objects: Row<Name>,

@@ -10,7 +10,7 @@ use gp_text::Name;
 use std::alloc::{AllocError, Global};
 
 /// The locks that a thread holds, and the regions that it has begun and not ended, innermost last.
-#[derive(Debug, Drop)]
+#[derive(Drop)]
 pub struct Standing {
     pub held: Table<Name, LockMode>,
     pub begun: Row<Name>,

@@ -11,7 +11,7 @@ use std::alloc::Global;
 use std::marker::Model;
 
 /// The trace of one thread: its events in segments, one segment more than there are marks.
-#[derive(Debug, Drop)]
+#[derive(Drop)]
 pub struct LocalTrace {
     thread: u32,
     segments: Row<Row<Event>>,

@@ -11,7 +11,7 @@ use gp_outside::{Folder, ReadFault};
 use std::alloc::{AllocError, Global};
 
 /// Why the bytes of a file are not told.
-#[derive(Clone, Copy, Debug, PartialEq, Eq)]
+#[derive(Clone, Copy, PartialEq, Eq)]
 pub enum ContentFault {
     /// The file is not there.
     Absent(FileName),

@@ -25,7 +25,7 @@ pub const MOST_THREADS: u32 = 64;
 pub const MOST_EPOCHS: u32 = 4096;
 
 /// The value that a variable has when a window begins.
-#[derive(Clone, Copy, Debug)]
+#[derive(Clone, Copy)]
 pub struct StartValue {
     pub window: u32,
     pub variable: Name,
@@ -34,7 +34,7 @@ pub struct StartValue {
 
 /// What a recording is made of: the format of its traces, 1 to 64 threads, 1 to 4,096 epochs, the threads that nobody has to
 /// start, and values of variables at the beginning of windows.
-#[derive(Debug, Drop)]
+#[derive(Drop)]
 pub struct Manifest {
     format: u32,
     threads: u32,

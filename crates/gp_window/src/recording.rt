@@ -13,7 +13,7 @@ use std::alloc::Global;
 use std::marker::Model;
 
 /// A recorded run: its manifest, and the trace of each thread, in order of thread.
-#[derive(Debug, Drop)]
+#[derive(Drop)]
 pub struct Recording {
     manifest: Manifest,
     traces: Row<LocalTrace>,

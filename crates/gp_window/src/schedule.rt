@@ -11,7 +11,7 @@ pub struct EventId {
 }
 
 /// Events of a window, in the order in which they are to happen.
-#[derive(Debug, Drop)]
+#[derive(Drop)]
 pub struct Schedule {
     pub events: Row<EventId>,
 }

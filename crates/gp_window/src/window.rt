@@ -19,7 +19,7 @@ use std::marker::Model;
 
 /// The part of a recording between two moments at which all threads stood still, and what holds when
 /// it begins.
-#[derive(Debug, Drop)]
+#[derive(Drop)]
 pub struct Window {
     pub(crate) number: u32,
     pub(crate) segments: Row<Row<Event>>,

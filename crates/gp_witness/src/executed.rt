@@ -11,7 +11,7 @@ use gp_window::{EventId, Schedule, Window, windows_are_formed};
 use std::alloc::{AllocError, Global};
 
 /// An executed event, and the place that the answer gives it.
-#[derive(Clone, Copy, Debug)]
+#[derive(Clone, Copy)]
 pub struct Placed {
     pub place: i64,
     pub id: EventId,

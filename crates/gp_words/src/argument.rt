@@ -2,7 +2,7 @@ ghost use Rattle.std.specs.Prelude.{◌≡◌};
 ghost use Rattle.gp_words.specs.Argument.{gpredict_option, gpshards_option, gpshow_option, option_named};
 
 /// Whose command line it is.
-#[derive(Clone, Copy, Debug, PartialEq, Eq)]
+#[derive(Clone, Copy, PartialEq, Eq)]
 pub enum Program {
     Gpredict,
     Gpshow,
@@ -11,7 +11,7 @@ pub enum Program {
 
 /// What the words of a command line may give: the values of seven options of gpredict, of five of gpshow or of three of gpshards, and
 /// folders.
-#[derive(Clone, Copy, Debug, PartialEq, Eq)]
+#[derive(Clone, Copy, PartialEq, Eq)]
 pub enum Argument {
     Task,
     Workers,

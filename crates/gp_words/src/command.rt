@@ -45,7 +45,7 @@ const EVENTS: Setting = Setting {
 };
 
 /// What the words of a command line of gpredict ask for.
-#[derive(Clone, Copy, Debug, PartialEq, Eq)]
+#[derive(Clone, Copy, PartialEq, Eq)]
 pub struct Command<'a> {
     pub task: Task,
     /// The folder that holds the files.

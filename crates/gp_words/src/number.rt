@@ -12,7 +12,7 @@ use gp_text::{between, read_u32, read_u64};
 const USUAL_SEED: u64 = 1;
 
 /// An option whose value is a number: its range, both ends included, and its value where none is given.
-#[derive(Clone, Copy, Debug)]
+#[derive(Clone, Copy)]
 pub struct Setting {
     pub option: Argument,
     pub low: u32,

@@ -4,7 +4,7 @@ ghost use Rattle.gp_words.specs.Reading.{gives, is_hyphened, is_option_word, rea
 use crate::argument::{Argument, Program, option_named};
 
 /// What the next word may be.
-#[derive(Clone, Copy, Debug)]
+#[derive(Clone, Copy)]
 pub enum Expected {
     /// An option, a plain word, or the end of the options.
     AnyWord,
@@ -15,14 +15,14 @@ pub enum Expected {
 }
 
 /// An option with its value, or a folder with the plain word that names it.
-#[derive(Clone, Copy, Debug)]
+#[derive(Clone, Copy)]
 pub struct Given<'a> {
     pub argument: Argument,
     pub value: &'a str,
 }
 
 /// What one word gives, and what may come after it.
-#[derive(Clone, Copy, Debug)]
+#[derive(Clone, Copy)]
 pub struct Reading<'a> {
     pub given: Option<Given<'a>>,
     pub next: Expected,

@@ -19,14 +19,14 @@ const MOST_PARTS: u32 = 4096;
 const MOST_FOLDERS: usize = 4097;
 
 /// What gpshards is asked to do.
-#[derive(Clone, Copy, Debug)]
+#[derive(Clone, Copy)]
 enum ShardTask {
     Cut,
     Merge,
 }
 
 /// The task, and the numbers of a part and of the parts, where they are given.
-#[derive(Clone, Copy, Debug)]
+#[derive(Clone, Copy)]
 struct Asked {
     task: ShardTask,
     part: Option<u32>,
@@ -34,7 +34,7 @@ struct Asked {
 }
 
 /// Which part of a recording is cut out.
-#[derive(Clone, Copy, Debug, PartialEq, Eq)]
+#[derive(Clone, Copy, PartialEq, Eq)]
 pub struct CutCommand<'a> {
     /// The number of the part, from 1.
     pub part: u32,
@@ -47,7 +47,7 @@ pub struct CutCommand<'a> {
 }
 
 /// Which reports are merged.
-#[derive(Debug, Drop)]
+#[derive(Drop)]
 pub struct MergeCommand<'a> {
     /// The folder that holds the recording.
     pub folder: &'a str,
@@ -56,7 +56,7 @@ pub struct MergeCommand<'a> {
 }
 
 /// What the words of a command line of gpshards ask for.
-#[derive(Debug, Drop)]
+#[derive(Drop)]
 pub enum ShardCommand<'a> {
     /// To write a part of a recording into a folder.
     Cut(CutCommand<'a>),

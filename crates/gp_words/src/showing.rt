@@ -23,7 +23,7 @@ pub enum Style {
 }
 
 /// What the words of a command line of gpshow ask for.
-#[derive(Clone, Copy, Debug, PartialEq, Eq)]
+#[derive(Clone, Copy, PartialEq, Eq)]
 pub struct ShowCommand<'a> {
     pub style: Style,
     /// The folder that holds the files.

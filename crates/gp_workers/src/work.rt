@@ -10,7 +10,7 @@ use gp_inbox::Pass;
 use std::alloc::{AllocError, Global};
 
 /// The answer to a query of a window.
-#[derive(Debug, Drop)]
+#[derive(Drop)]
 pub enum WorkAnswer {
     Model(Valuation),
     /// The cone of a step over the log of the worker of this number, from 1, is a certificate that refutes the query.

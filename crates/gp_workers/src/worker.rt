@@ -22,7 +22,7 @@ use gp_tickets::{Drawer, Drawn, Made};
 use std::alloc::{AllocError, Global};
 
 // A worker: its number, from 1, its search, and its turns so far.
-#[derive(Debug, Drop)]
+#[derive(Drop)]
 pub(crate) struct Worker<'a> {
     pub(crate) number: u32,
     search: Search<'a>,

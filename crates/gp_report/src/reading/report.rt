@@ -13,7 +13,7 @@ use gp_window::event_ids_read_exactly;
 use std::alloc::Global;
 
 /// A report that was read: what was printed, without the workers' records.
-#[derive(Debug, Drop)]
+#[derive(Drop)]
 pub struct ReadReport {
     pub report: Report,
 }

@@ -21,3 +21,5 @@ pub mod Keys
 pub mod Pairing
 pub mod Crowded
 pub mod Held
+pub mod SameLeft
+pub mod Remembered

@@ -7,6 +7,7 @@ pub mod Instances
 pub mod Matches
 pub mod Matched
 pub mod Search
+pub mod DeadEnds
 pub mod Partners
 pub mod Threads
 pub mod Listed

@@ -2,6 +2,7 @@ ghost use Rattle.std.specs.Prelude.{◌≡◌, ◌≢◌, [], map, Err, IfOk};
 ghost use Rattle.gp_instance.specs.Instances.{due_instances, numbered};
 ghost use Rattle.gp_instance.specs.Search.{candidates_of, first_instances, search};
 
+use crate::dead_ends::DeadEnds;
 use crate::search::{first_domains, search};
 use crate::segments::Segments;
 use gp_base::Row;
@@ -50,8 +51,9 @@ impl From<AllocError> for InstancesFault {
 /// two atoms lose the events whose thread, place, region and parameters no event of the other fits, in
 /// the order of n log n for n events. After each choice every later atom keeps only the events that
 /// may stand beside those chosen, and a choice is given up at once after which an atom has none left,
-/// or some thread variables have fewer threads in all than they are. It stops one instance past the
-/// limit. For a pattern of k atoms the worst case is still of the order of n to the power of k.
+/// some thread variables have fewer threads in all than they are, or just those events are left from
+/// which nothing came before. It stops one instance past the limit. For a pattern of k atoms the worst
+/// case is still of the order of n to the power of k, where what is left differs each time.
 pub fn instances(
     alloc: Global,
     window: &Window,
@@ -80,8 +82,9 @@ fn found(
     let mut found = Row::new(alloc);
     let segments = Segments::new(alloc, window)?;
     if let Some(domains) = first_domains(&segments, atoms)? {
+        let mut dead_ends = DeadEnds::new(&segments, atoms);
         search(
-            &segments,
+            &mut dead_ends,
             number,
             atoms,
             domains.as_slice(),

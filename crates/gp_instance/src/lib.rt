@@ -6,14 +6,15 @@
 // `instances` lists all of them in lexicographic order. First each atom's events lose those that have
 // no partner among another atom's, by thread, place, region and parameters. Then a search chooses the
 // events atom by atom and keeps for each later atom the events that may still stand beside those
-// chosen; it gives a choice up where an atom has none left, or where some thread variables have fewer
-// threads in all than they are. `matches` says whether the events of an instance stand in a schedule
+// chosen; it gives a choice up where an atom has none left, where some thread variables have fewer
+// threads in all than they are, or where just so much was left before and nothing came of it. `matches` says whether the events of an instance stand in a schedule
 // as the pattern wants: step after step, and those of a group next to one another.
 #![tactic(auto)]
 
 mod beside;
 mod candidate;
 mod chosen;
+mod dead_ends;
 mod instance;
 mod key;
 mod laws;

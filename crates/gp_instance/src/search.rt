@@ -1,11 +1,13 @@
 ghost use Rattle.std.specs.Prelude.{◌≡◌, ◌++◌, ◌∷◌, [], ◌≤◌, length, map, IfOk, OnOk};
 ghost use Rattle.std.specs.List.{list_any};
+ghost use Rattle.gp_instance.specs.DeadEnds.{last_of};
 ghost use Rattle.gp_instance.specs.Instances.{numbered};
 ghost use Rattle.gp_instance.specs.Search.{Leaves, candidates_of, chosen_of, first_instances, instance_after, is_dead, narrowed, search, unless_dead};
 
 use crate::beside::narrowed;
 use crate::candidate::candidates;
 use crate::chosen::chosen_of;
+use crate::dead_ends::DeadEnds;
 use crate::instance::{Instance, MOST_INSTANCES};
 use crate::segments::Segments;
 use crate::thinning::thinned;
@@ -16,9 +18,10 @@ use gp_window::EventId;
 use std::alloc::{AllocError, Global};
 
 /// Adds all instances that begin with the events of `front` and go on with events of each atom's
-/// domain, until there is one more than are listed.
+/// domain, until there is one more than are listed. What was left for the last atoms, and nothing came
+/// of it, is not searched again.
 pub fn search(
-    segments: &Segments,
+    dead_ends: &mut DeadEnds<'_>,
     number: u32,
     atoms: &[PatternAtom],
     domains: &[Row<EventId>],
@@ -26,10 +29,12 @@ pub fn search(
     found: &mut Row<Instance>,
 ) -> Result<(), AllocError>
     requires same { length domains.now ≡ length atoms.now }
+    requires last { last_of (length atoms.now) dead_ends.old.1 ≡ atoms.now }
     requires room { length found.old ≤ 10001 }
-    ensures { OnOk result (found.new ≡ first_instances found.old (map (instance_after number front.now) (search segments.now atoms.now domains.now))) }
+    ensures ends { OnOk result (dead_ends.new ≡ dead_ends.old) }
+    ensures found { OnOk result (found.new ≡ first_instances found.old (map (instance_after number front.now) (search dead_ends.old.0 atoms.now domains.now))) }
 {
-    let alloc = segments.alloc();
+    let alloc = dead_ends.segments().alloc();
     let Some((atom, later)) = atoms.split_first() else {
         return add(alloc, number, front, found);
     };
@@ -41,16 +46,20 @@ pub fn search(
         if found.len() > MOST_INSTANCES {
             return Ok(());
         }
-        if let Some(left) = after_choice(segments, atom, *id, later, others)? {
+        if let Some(left) = after_choice(dead_ends, atom, *id, later, others)? {
             let longer = extended(alloc, front, *id)?;
+            let before = found.len();
             search(
-                segments,
+                dead_ends,
                 number,
                 later,
                 left.as_slice(),
                 longer.as_slice(),
                 found,
             )?;
+            if found.len() == before {
+                dead_ends.keep(left)?;
+            }
         }
     }
     Ok(())
@@ -102,8 +111,26 @@ fn some_dead(domains: &[Row<EventId>]) -> bool
     domains.iter().any(|ids| ids.is_empty())
 }
 
-/// What is left for each later atom after this choice, `None` where an atom has nothing left.
+/// What is left for each later atom after this choice, `None` where an atom has nothing left, or it is
+/// known that nothing comes of it.
 fn after_choice(
+    dead_ends: &DeadEnds<'_>,
+    atom: &PatternAtom,
+    id: EventId,
+    later: &[PatternAtom],
+    others: &[Row<EventId>],
+) -> Result<Option<Row<Row<EventId>>>, AllocError>
+    requires same { length others.now ≡ length later.now }
+    requires last { last_of (length later.now) dead_ends.now.1 ≡ later.now }
+    ensures { IfOk result (λ left. Leaves dead_ends.now.0 later.now (narrowed dead_ends.now.0 (chosen_of dead_ends.now.0 atom.now id) later.now others.now) left) }
+{
+    let segments = dead_ends.segments();
+    let left = alive_after(segments, atom, id, later, others)?;
+    Ok(dead_ends.unless_met(left))
+}
+
+/// What is left for each later atom after this choice, `None` where an atom has nothing left.
+fn alive_after(
     segments: &Segments,
     atom: &PatternAtom,
     id: EventId,

@@ -1,19 +1,8 @@
--- What the narrowing leaves, where threads are left.
-use Rattle.gp_instance.proofs.Crowded.{leaves_some}
-use Rattle.gp_instance.proofs.Dead.{leaves_narrowed}
+-- What is left, unless it is a dead end that was met.
+use Rattle.gp_instance.specs.Search.{chosen_of, narrowed}
 use Rattle.gp_instance.proofs.search.after_choice.Goals as goal
-
-pub unless_crowded-requires : goal.unless_crowded-requires
-unless_crowded-requires c =
-    let left = leaves_narrowed _ _ _ _ _ _ c.in_ok-chosen.ensures c.requires c.in_ok-left.ensures in
-    (rw c.in-Some.is at left).1
-
-pub returns-in-Some : goal.returns-in-Some
-returns-in-Some c =
-    let left = leaves_narrowed _ _ _ _ _ _ c.in_ok-chosen.ensures c.requires c.in_ok-left.ensures in
-    leaves_some _ _ _ _ _ (rw c.in-Some.is at left) c.unless_crowded.ensures
 
 pub returns : goal.returns
 returns c =
-    let left = leaves_narrowed _ _ _ _ _ _ c.in_ok-chosen.ensures c.requires c.in_ok-left.ensures in
-    rw c.in-None.is at left
+    c.unless_met.ensures c.args.later.now (narrowed c.args.dead_ends.now.0 (chosen_of c.args.dead_ends.now.0 c.args.atom.now c.args.id) c.args.later.now c.args.others.now)
+    c.requires.last (rw c.segments-segments.ensures at c.in_ok-left.ensures)

@@ -1,5 +1,6 @@
-ghost use Rattle.std.specs.Prelude.{◌≡◌, option_map};
+ghost use Rattle.std.specs.Prelude.{◌≡◌, None, option_map};
 ghost use Rattle.gp_words.specs.Reading.{gives, is_hyphened, is_option_word, read_any, read_option, read_word, reading_form};
+ghost use Rattle.gp_words.specs.declared.reading.Expected.TheVariants.{AnyWord, ValueOf};
 
 use crate::argument::{Argument, Program, option_named};
 
@@ -59,12 +60,24 @@ fn read_option(program: Program, word: &str) -> Option<Reading<'_>>
     ensures { option_map reading_form result ≡ read_option program word.now }
 {
     match word.split_once('=') {
-        Some((name, value)) => Some(gives(option_named(program, name)?, value, Expected::AnyWord)),
-        None => Some(Reading {
-            given: None,
-            next: Expected::ValueOf(option_named(program, word)?),
-        }),
+        Some((name, value)) => with_value(option_named(program, name), value),
+        None => awaits_value(option_named(program, word)),
     }
+}
+
+fn with_value(option: Option<Argument>, value: &str) -> Option<Reading<'_>>
+    ensures { option_map reading_form result ≡ option_map (λ option. gives option value.now AnyWord) option }
+{
+    Some(gives(option?, value, Expected::AnyWord))
+}
+
+fn awaits_value<'a>(option: Option<Argument>) -> Option<Reading<'a>>
+    ensures { option_map reading_form result ≡ option_map (λ option. record { given = None; next = ValueOf option }) option }
+{
+    Some(Reading {
+        given: None,
+        next: Expected::ValueOf(option?),
+    })
 }
 
 fn gives<'a>(argument: Argument, value: &'a str, next: Expected) -> Reading<'a>

@@ -119,9 +119,7 @@ fn put_keyword(out: &mut Vec<u8>, keyword: &[u8]) -> Result<(), AllocError>
 fn put_named(out: &mut Vec<u8>, keyword: &[u8], name: &Name) -> Result<(), AllocError>
     ensures { OnOk result (out.new.items ≡ out.old.items ++ spelling ((keyword.now ∷ name.now ∷ []) ∷ [])) }
 {
-    out.extend_from_slice(keyword)?;
-    out.extend_from_slice(b" ")?;
-    out.extend_from_slice(name.as_bytes())?;
+    put_words(out, keyword, name)?;
     out.extend_from_slice(b"\n")
 }
 
@@ -137,12 +135,19 @@ fn put_numbered(out: &mut Vec<u8>, keyword: &[u8], number: u32) -> Result<(), Al
 fn put_valued(out: &mut Vec<u8>, keyword: &[u8], name: &Name, value: i64) -> Result<(), AllocError>
     ensures { OnOk result (out.new.items ≡ out.old.items ++ spelling ((keyword.now ∷ name.now ∷ signed_decimal value ∷ []) ∷ [])) }
 {
-    out.extend_from_slice(keyword)?;
-    out.extend_from_slice(b" ")?;
-    out.extend_from_slice(name.as_bytes())?;
+    put_words(out, keyword, name)?;
     out.extend_from_slice(b" ")?;
     print_i64(out, value)?;
     out.extend_from_slice(b"\n")
+}
+
+// The keyword and the name of a line that goes on.
+fn put_words(out: &mut Vec<u8>, keyword: &[u8], name: &Name) -> Result<(), AllocError>
+    ensures { OnOk result (out.new.items ≡ out.old.items ++ keyword.now ++ 32 ∷ name.now) }
+{
+    out.extend_from_slice(keyword)?;
+    out.extend_from_slice(b" ")?;
+    out.extend_from_slice(name.as_bytes())
 }
 
 fn put_op(out: &mut Vec<u8>, name: &Name, objects: &[Name]) -> Result<(), AllocError>

@@ -1,4 +1,4 @@
-ghost use Rattle.std.specs.Prelude.{◌≡◌, ◌≢◌, ◌<◌, ◌≤◌, ◌+◌, ◌-◌, ◌^◌, length, Err, IfOk};
+ghost use Rattle.std.specs.Prelude.{◌≡◌, ◌≢◌, ◌<◌, ◌≤◌, ◌+◌, ◌-◌, ◌^◌, length, Ok, Err, IfOk};
 ghost use Rattle.gp_trace.specs.Walk.{after_exit, after_lines, at_exit, at_mark, at_start, before_exit, next, with_event};
 ghost use Rattle.gp_trace.specs.Rules.{check};
 
@@ -8,7 +8,7 @@ use crate::line::{Entry, entry_of};
 use crate::rules::{Standing, after, check};
 use gp_base::Row;
 use gp_text::{Lines, TextLine};
-use std::alloc::Global;
+use std::alloc::{AllocError, Global};
 
 /// What was read of a trace: where the thread stands, the segments that have ended, the segment that
 /// goes on, and the number of the segment with the `exit`.
@@ -111,21 +111,39 @@ fn with_event(thread: u32, line: u32, walk: Walk, event: Event) -> Result<Walk, 
     ensures next { result ≢ Err TraceFault.Memory → result ≡ with_event walk event (check thread line walk.standing event) }
     ensures ended { IfOk result (λ after. after.ended ≡ walk.ended) }
 {
+    match check(thread, line, &walk.standing, &event) {
+        Ok(()) => Ok(after_event(walk, event)?),
+        Err(fault) => {
+            drop((walk, event));
+            Err(fault)
+        }
+    }
+}
+
+// The walk behind an event that the thread may do.
+fn after_event(walk: Walk, event: Event) -> Result<Walk, AllocError>
+    ensures { IfOk result (λ next. Ok next ≡ with_event walk event (Ok tt)) }
+{
     let Walk {
         standing,
         ended,
         mut segment,
         exit_in,
     } = walk;
-    check(thread, line, &standing, &event)?;
-    let standing = after(standing, &event)?;
-    segment.push(event)?;
-    Ok(Walk {
-        standing,
-        ended,
-        segment,
-        exit_in,
-    })
+    let followed = after(standing, &event);
+    let added = segment.push(event);
+    match (followed, added) {
+        (Ok(standing), Ok(())) => Ok(Walk {
+            standing,
+            ended,
+            segment,
+            exit_in,
+        }),
+        _ => {
+            drop((ended, segment));
+            Err(AllocError)
+        }
+    }
 }
 
 fn at_mark(alloc: Global, marks: u32, line: u32, walk: Walk) -> Result<Walk, TraceFault>
@@ -139,15 +157,21 @@ fn at_mark(alloc: Global, marks: u32, line: u32, walk: Walk) -> Result<Walk, Tra
         exit_in,
     } = walk;
     if ended.len() == marks as usize {
+        drop((standing, ended, segment));
         return Err(TraceFault::MarkCount(line));
     }
-    ended.push(shrunk(segment))?;
-    Ok(Walk {
-        standing,
-        ended,
-        segment: Row::new(alloc),
-        exit_in,
-    })
+    match ended.push(shrunk(segment)) {
+        Ok(()) => Ok(Walk {
+            standing,
+            ended,
+            segment: Row::new(alloc),
+            exit_in,
+        }),
+        Err(error) => {
+            drop((standing, ended));
+            Err(TraceFault::from(error))
+        }
+    }
 }
 
 /// The same events, with no room left over.

@@ -17,9 +17,18 @@ pub fn check_marks(alloc: Global, epochs: u32, traces: &[LocalTrace]) -> Result<
     let mut holders = Holders::new(alloc);
     for before in 0..epochs - 1 {
         holders = holders.pass(before as usize, traces)?;
-        if let Some(lock) = holders.first_contested(alloc)? {
-            return Err(RecordingFault::TwoHolders(lock, before + 2));
+        match holders.first_contested(alloc) {
+            Ok(None) => {}
+            Ok(Some(lock)) => {
+                drop(holders);
+                return Err(RecordingFault::TwoHolders(lock, before + 2));
+            }
+            Err(error) => {
+                drop(holders);
+                return Err(RecordingFault::from(error));
+            }
         }
     }
+    drop(holders);
     Ok(())
 }

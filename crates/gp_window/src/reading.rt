@@ -39,8 +39,17 @@ pub fn read_recording<R: Threads + Sync, F: Folder>(
     ensures fault { result ≡ Err RecordingFault.ReadFailed → Rose (F.faults folder.old) (F.faults folder.new) }
 {
     let manifest = manifest_at(alloc, folder, directory)?;
-    let contents = contents_of(alloc, folder, directory, manifest.threads())?;
-    recording_with(rt, alloc, manifest, contents.as_slice())
+    match contents_of(alloc, folder, directory, manifest.threads()) {
+        Ok(contents) => {
+            let read = recording_with(rt, alloc, manifest, contents.as_slice());
+            drop(contents);
+            read
+        }
+        Err(fault) => {
+            drop(manifest);
+            Err(RecordingFault::from(fault))
+        }
+    }
 }
 
 fn manifest_at<F: Folder>(
@@ -57,7 +66,9 @@ fn manifest_at<F: Folder>(
     ensures fault { result ≡ Err RecordingFault.ReadFailed → Rose (F.faults folder.old) (F.faults folder.new) }
 {
     let bytes = content_of(alloc, folder, directory, &FileName::Manifest)?;
-    match read_manifest(alloc, bytes.as_slice()) {
+    let manifest = read_manifest(alloc, bytes.as_slice());
+    drop(bytes);
+    match manifest {
         Ok(manifest) => Ok(manifest),
         Err(fault) => Err(RecordingFault::from(fault)),
     }
@@ -75,8 +86,13 @@ fn recording_with<R: Threads + Sync>(
     ensures due { result ≢ Err RecordingFault.Memory → result ≡ recording_with manifest contents.now }
     ensures no_fault { result ≢ Err RecordingFault.ReadFailed }
 {
-    let traces = traces_from(rt, alloc, manifest.format(), manifest.epochs(), contents)?;
-    checked(alloc, manifest, traces)
+    match traces_from(rt, alloc, manifest.format(), manifest.epochs(), contents) {
+        Ok(traces) => checked(alloc, manifest, traces),
+        Err(fault) => {
+            drop(manifest);
+            Err(fault)
+        }
+    }
 }
 
 fn traces_from<R: Threads + Sync>(

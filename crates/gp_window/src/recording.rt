@@ -1,7 +1,8 @@
-ghost use Rattle.std.specs.Prelude.{◌≡◌, ◌≢◌, All, [], length, Err, Ok};
+ghost use Rattle.std.specs.Prelude.{◌≡◌, ◌≢◌, All, IfErr, OnOk, [], length, Err, Ok};
 ghost use Rattle.gp_trace.specs.Trace.{IsLocalTrace};
 ghost use Rattle.gp_window.specs.RecordingForm.{AreNumbered, IsRecording};
 ghost use Rattle.gp_window.specs.Recording.{checked};
+ghost use Rattle.gp_window.specs.RecordingFaults.{IsDue};
 
 use crate::fault::RecordingFault;
 use crate::manifest::Manifest;
@@ -66,13 +67,27 @@ pub fn checked(
     ensures due { result ≢ Err RecordingFault.Memory → result ≡ checked manifest traces }
     ensures no_fault { result ≢ Err RecordingFault.ReadFailed }
 {
+    match check_traces(alloc, &manifest, traces.as_slice()) {
+        Ok(()) => Ok(Recording { manifest, traces }),
+        Err(fault) => {
+            drop((manifest, traces));
+            Err(fault)
+        }
+    }
+}
+
+fn check_traces(
+    alloc: Global,
+    manifest: &Manifest,
+    traces: &[LocalTrace],
+) -> Result<(), RecordingFault>
+    ensures ok { OnOk result (checked manifest.now traces.now ≡ Ok (record { manifest = manifest.now; traces = traces.now })) }
+    ensures err { IfErr result (IsDue (checked manifest.now traces.now)) }
+    ensures no_fault { result ≢ Err RecordingFault.ReadFailed }
+{
     let mut started = Row::new(alloc);
-    walk_traces(
-        manifest.threads(),
-        manifest.roots(),
-        &mut started,
-        traces.as_slice(),
-    )?;
-    check_marks(alloc, manifest.epochs(), traces.as_slice())?;
-    Ok(Recording { manifest, traces })
+    let walked = walk_traces(manifest.threads(), manifest.roots(), &mut started, traces);
+    drop(started);
+    walked?;
+    check_marks(alloc, manifest.epochs(), traces)
 }

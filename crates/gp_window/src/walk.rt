@@ -97,6 +97,7 @@ impl<'a> WindowWalk<'a> {
         ensures { IfOk result (GoesOn self.entry) }
     {
         if self.number == self.recording.manifest().epochs() {
+            drop(self);
             return Ok(None);
         }
         Ok(Some(self.next()?))
@@ -136,7 +137,9 @@ pub fn cut(alloc: Global, recording: &Recording, k: u32) -> Result<Window, Alloc
     ensures { IfOk result (λ window. window ≡ window_of recording.now k) }
 {
     let walk = WindowWalk::at(alloc, recording, k)?;
-    walk.window(alloc)
+    let window = walk.window(alloc);
+    drop(walk);
+    window
 }
 
 /// Gives the values at the front that are for window `k`, and answers what follows them.

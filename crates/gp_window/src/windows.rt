@@ -64,9 +64,17 @@ impl<'a> Windows<'a> {
         let Some(walk) = self.walk.take() else {
             return Ok(None);
         };
-        let window = walk.window(alloc)?;
-        self.walk = next_to(walk, self.last)?;
-        Ok(Some(window))
+        let window = walk.window(alloc);
+        match next_to(walk, self.last) {
+            Ok(next) => {
+                self.walk = next;
+                Ok(Some(window?))
+            }
+            Err(error) => {
+                drop(window);
+                Err(error)
+            }
+        }
     }
 
     /// Goes past so many windows, or past all where fewer are left. Want of memory ends the walk.
@@ -90,6 +98,7 @@ fn next_to(walk: WindowWalk<'_>, last: u32) -> Result<Option<WindowWalk<'_>>, Al
     if walk.number() < last {
         return walk.advance();
     }
+    drop(walk);
     Ok(None)
 }
 

@@ -3,5 +3,5 @@ use Rattle.std.proofs.Common.{◌∙◌, sym}
 use Rattle.gp_window.proofs.NoFile.{no_file}
 use Rattle.gp_window.proofs.reading.read_recording.Goals as goal
 
-pub returns-clause-absent : goal.returns-clause-absent
-returns-clause-absent g c = λ other is. absurd (no_file c.in_ok-manifest.manifest c.as_slice.result.now other (sym (c.recording_with.ensures.due (λ memory. cc)) ∙ is))
+pub returns-in-Ok-clause-absent : goal.returns-in-Ok-clause-absent
+returns-in-Ok-clause-absent g c = λ other is. absurd (no_file c.in_ok-manifest.manifest c.as_slice.result.now other (sym (c.recording_with-read.ensures.due (λ memory. cc)) ∙ is))

@@ -1,4 +1,5 @@
 pub mod AddUp
 pub mod Counted
 pub mod OwnMarkup
+pub mod Rows
 pub mod Told

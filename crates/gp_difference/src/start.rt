@@ -17,13 +17,38 @@ pub fn start_places(alloc: Global, points: usize, edges: &[Edge]) -> Result<Vec<
     ensures { IfOk result (λ places. IsStart points places.items) }
 {
     let bounds = linked(alloc, points, edges)?;
+    let places = places_of(alloc, points, edges, &bounds);
+    drop(bounds);
+    places
+}
+
+/// Places to begin with, by the edges and their bounds.
+fn places_of(
+    alloc: Global,
+    points: usize,
+    edges: &[Edge],
+    bounds: &Bounds,
+) -> Result<Vec<i64>, AllocError>
+    requires within { All (IsEdgeOf points) edges.now }
+    requires bounds { AreBoundsOf points bounds.now }
+    ensures { IfOk result (λ places. IsStart points places.items) }
+{
+    let mut waits = waits_of(alloc, points, edges)?;
+    let mut places = Vec::new(alloc);
+    places.resize(points, 0)?;
+    place_all(alloc, bounds, &mut places, &mut waits)?;
+    Ok(places)
+}
+
+/// How many edges below zero begin at each point.
+fn waits_of(alloc: Global, points: usize, edges: &[Edge]) -> Result<Vec<usize>, AllocError>
+    requires within { All (IsEdgeOf points) edges.now }
+    ensures { IfOk result (λ waits. length waits.items ≡ points) }
+{
     let mut waits = Vec::new(alloc);
     waits.resize(points, 0)?;
     count_waits(edges, &mut waits);
-    let mut places = Vec::new(alloc);
-    places.resize(points, 0)?;
-    place_all(alloc, &bounds, &mut places, &mut waits)?;
-    Ok(places)
+    Ok(waits)
 }
 
 /// Places each point once, and after it those that wait for it alone.

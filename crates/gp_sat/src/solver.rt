@@ -8,6 +8,8 @@ ghost use Rattle.gp_sat.specs.Standing.{IsClosed, IsFalse, Each};
 ghost use Rattle.gp_sat.specs.Changes.{MayAttach, Backjumps, Propagates, IsPropagated, HasPresent};
 ghost use Rattle.gp_sat.specs.Deciding.{IsNextFree, IsFull};
 ghost use Rattle.gp_sat.specs.Stepping.{IsReady};
+ghost use Rattle.gp_sat.specs.Linked.{IsBlank};
+ghost use Rattle.gp_sat.specs.Queueing.{AreClear};
 
 use crate::analysis::Learned;
 use crate::kernel::Kernel;
@@ -45,11 +47,18 @@ impl Solver {
         ensures blank { IfOk result (λ solver. solver ≡ blank variables) }
         ensures sound { IfOk result IsSound }
     {
-        Ok(Solver {
-            kernel: Kernel::new(alloc, variables)?,
-            watches: Watches::new(alloc, variables)?,
-            marking: Marking::new(alloc, variables)?,
-        })
+        let kernel = Kernel::new(alloc, variables)?;
+        match watches_and_marking(alloc, variables) {
+            Ok((watches, marking)) => Ok(Solver {
+                kernel,
+                watches,
+                marking,
+            }),
+            Err(error) => {
+                drop(kernel);
+                Err(error)
+            }
+        }
     }
 
     /// The variables are then the numbers below `variables`, and all of them are in use. After want of memory the solver is
@@ -236,6 +245,21 @@ impl Solver {
         ensures same { self.new ≡ self.old }
     {
         self.kernel.analyse_final(conflict, &mut self.marking)
+    }
+}
+
+// The watches of no clause, and no mark.
+fn watches_and_marking(alloc: Global, variables: u32) -> Result<(Watches, Marking), AllocError>
+    ensures watches { IfOk result (λ both. IsBlank variables both.0) }
+    ensures marking { IfOk result (λ both. AreClear variables both.1) }
+{
+    let marking = Marking::new(alloc, variables)?;
+    match Watches::new(alloc, variables) {
+        Ok(watches) => Ok((watches, marking)),
+        Err(error) => {
+            drop(marking);
+            Err(error)
+        }
     }
 }
 

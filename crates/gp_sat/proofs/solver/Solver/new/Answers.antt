@@ -8,6 +8,6 @@ use Rattle.gp_sat.proofs.solver.Solver.new.Goals as goal
 
 pub invariant_of-result : goal.invariant_of-result
 invariant_of-result c = record {
-  ready = subst (λ (s : SolverForm). IsReady s c.in_ok-new-2.field-0) (sym c.in_ok-new.ensures) (ready_blank c.args.variables c.in_ok-new-2.field-0 c.ranges.variables.fits c.in_ok-new-2.ensures);
-  clear = subst (λ (n : ℕ). AreClear n c.in_ok-new-3.field-0) (sym (ap (λ (s : SolverForm). length s.values) c.in_ok-new.ensures ∙ length-replicate c.args.variables None)) c.in_ok-new-3.ensures;
+  ready = subst (λ (s : SolverForm). IsReady s c.in-Ok.watches) (sym c.in_ok-kernel.ensures) (ready_blank c.args.variables c.in-Ok.watches c.ranges.variables.fits c.in-Ok.ensures.watches);
+  clear = subst (λ (n : ℕ). AreClear n c.in-Ok.marking) (sym (ap (λ (s : SolverForm). length s.values) c.in_ok-kernel.ensures ∙ length-replicate c.args.variables None)) c.in-Ok.ensures.marking;
 }

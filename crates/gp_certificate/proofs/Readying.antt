@@ -10,6 +10,7 @@ use Rattle.gp_clause.specs.declared.lit.Lit.{Lit}
 use Rattle.gp_clause.specs.Clause.{NamesBelow, NamesOnce}
 use Rattle.gp_clause.specs.Problem.{IsValidKind}
 use Rattle.gp_difference.specs.Graph.{GraphForm}
+use Rattle.gp_difference.specs.declared.bound.Bound.{Bound}
 use Rattle.gp_clause.specs.Walk.{HasNegativeCycle}
 use Rattle.gp_certificate.specs.declared.assignment.Assignment.{Assignment}
 use Rattle.gp_certificate.specs.declared.level.Level.{Level}
@@ -19,7 +20,7 @@ use Rattle.gp_certificate.specs.Bench.{BenchForm, IsReady, stack_of}
 use Rattle.gp_certificate.specs.Levels.IsStack.{base}
 use Rattle.gp_certificate.specs.Assignment.{IsKept}
 use Rattle.gp_certificate.specs.ClauseList.{ListForm, joined}
-use Rattle.gp_certificate.specs.Widening.{KeepsPlaces, KeepsLoaded, KeepsLists, KeepsLevels}
+use Rattle.gp_certificate.specs.Widening.{KeepsValues, KeepsPlaces, KeepsLoaded, KeepsLists, KeepsLevels, HasRoom}
 use Rattle.gp_certificate.specs.Counting.{standing, AreExact, IsExact}
 use Rattle.gp_certificate.specs.Rows.{code_of, clause_at, left_at}
 use Rattle.gp_certificate.proofs.Counts.{all_stand}
@@ -191,6 +192,44 @@ ready_kinds b kinds assignment places loaded assumed levels ready nothing lastin
       lits = lits;
       lists = lists;
     }
+
+-- without the kinds behind the lasting ones
+pub ready_dropped : (b : Inside) (kinds : Vec Kind Global) (assignment : Assignment) → IsReady b → b.assumed.lists ≡ [] → kinds.items ≡ take b.lasting b.kinds.items
+    → All (NamesBelow (length (take b.lasting b.kinds.items))) b.loaded.clauses
+    → IsKept assignment → assignment.trail.items ≡ [] → assignment.cursor ≡ b.assignment.cursor → length assignment.values.items ≡ b.lasting
+    → IsReady (record { kinds = kinds; lasting = b.lasting; assignment = assignment; places = b.places; loaded = b.loaded; assumed = b.assumed; levels = b.levels })
+ready_dropped b kinds assignment ready nothing is within kept trail cursor size =
+    let none = stack_none b.places.edges b.kinds.items b.loaded.clauses (stack_of b) ready.stack nothing in
+    let short : length kinds.items ≡ b.lasting = omega (arith, ap (λ (ks : List Kind). length ks) is, length-take b.lasting b.kinds.items, ready.lasting) in
+    let fewer : length kinds.items ≤ length b.kinds.items = omega (arith, short, ready.lasting) in
+    ready_kinds b kinds assignment b.places b.loaded b.assumed b.levels ready nothing (omega (arith, short))
+    (subst (λ ks. All (IsValidKind b.places.graph.points) ks) (sym is) (All-take (IsValidKind b.places.graph.points) b.lasting b.kinds.items ready.kinds))
+    (subst (λ n. All (NamesBelow n) b.loaded.clauses) (ap (λ (ks : List Kind). length ks) (sym is)) within)
+    kept trail cursor (size ∙ sym short)
+    (record { same = refl; graph = refl; more = omega arith }) (record { same = refl; more = omega arith }) (record { lists = refl; room = omega arith; places = omega arith }) (record { items = refl; more = omega arith })
+    (omega (arith, fewer, ready.room, ap (λ (bs : List Bound). length bs) none.kept)) (omega (arith, fewer, ready.rows)) (omega (arith, fewer, ready.lits)) (omega (arith, fewer, ready.lists)) (omega (arith, fewer, ready.levels))
+
+-- with more room
+pub ready_widened : (b : Inside) (assignment : Assignment) (places : Places) (loaded : LoadedForm) (assumed : ListForm) (levels : Vec Level Global) → IsReady b → b.assumed.lists ≡ []
+    → KeepsValues b.assignment assignment → KeepsPlaces b.places places → KeepsLoaded b.loaded loaded → KeepsLists b.assumed assumed → KeepsLevels b.levels levels
+    → IsReady (record { kinds = b.kinds; lasting = b.lasting; assignment = assignment; places = places; loaded = loaded; assumed = assumed; levels = levels })
+ready_widened b assignment places loaded assumed levels ready nothing values keeps_places keeps_loaded keeps_lists keeps_levels =
+    let none = stack_none b.places.edges b.kinds.items b.loaded.clauses (stack_of b) ready.stack nothing in
+    ready_kinds b b.kinds assignment places loaded assumed levels ready nothing ready.lasting ready.kinds ready.within
+    values.kept (values.trail ∙ none.trail) values.cursor (ap (λ vs. length vs) values.values ∙ ready.size) keeps_places keeps_loaded keeps_lists keeps_levels
+    (omega (arith, ready.room, ap (λ (bs : List Bound). length bs) none.kept, keeps_places.more)) (omega (arith, ready.rows, keeps_loaded.more)) (omega (arith, ready.lits, keeps_lists.room))
+    (omega (arith, ready.lists, keeps_lists.places)) (omega (arith, ready.levels, keeps_levels.more))
+
+-- with more kinds, for which there is room
+pub ready_extended : (b : Inside) (count : ℕ) (kinds : Vec Kind Global) (widened assignment : Assignment) (places : Places) (loaded : LoadedForm) (assumed : ListForm) (levels : Vec Level Global) → IsReady b → b.assumed.lists ≡ []
+    → length b.kinds.items ≤ length kinds.items → length kinds.items ≤ count → All (IsValidKind b.places.graph.points) kinds.items
+    → KeepsValues b.assignment widened → IsKept assignment → assignment.trail.items ≡ [] → assignment.cursor ≡ widened.cursor → length assignment.values.items ≡ length kinds.items
+    → KeepsPlaces b.places places → KeepsLoaded b.loaded loaded → KeepsLists b.assumed assumed → KeepsLevels b.levels levels → HasRoom count widened places loaded assumed levels
+    → IsReady (record { kinds = kinds; lasting = b.lasting; assignment = assignment; places = places; loaded = loaded; assumed = assumed; levels = levels })
+ready_extended b count kinds widened assignment places loaded assumed levels ready nothing more few valid values kept trail cursor size keeps_places keeps_loaded keeps_lists keeps_levels room =
+    ready_kinds b kinds assignment places loaded assumed levels ready nothing (omega (arith, more, ready.lasting)) valid (names_fewer (length b.kinds.items) (length kinds.items) b.loaded.clauses more ready.within)
+    kept trail (cursor ∙ values.cursor) size keeps_places keeps_loaded keeps_lists keeps_levels
+    (omega (arith, few, room.bounds)) (omega (arith, few, room.rows)) (omega (arith, few, room.lits)) (omega (arith, few, room.lists)) (omega (arith, few, room.deep))
 
 -- nothing is loaded, and nothing was gone through
 pub exact_none : (assignment : Assignment) (loaded : LoadedForm) → assignment.cursor ≡ 0 → loaded.clauses ≡ [] → loaded.left ≡ [] → IsExact assignment loaded

@@ -1,4 +1,4 @@
-ghost use Rattle.std.specs.Prelude.{◌≡◌, ◌≢◌, ◌+◌, ◌-◌, ◌*◌, ◌<◌, ◌≤◌, ◌^◌, ◌↔◌, false, [], ◌∷◌, ◌++◌, length, IsTrue, IfOk, OnOk, OnErr, MatchBool, All, take, drop, vec_capacity, List};
+ghost use Rattle.std.specs.Prelude.{◌≡◌, ◌≢◌, ℕ, ◌+◌, ◌-◌, ◌*◌, ◌<◌, ◌≤◌, ◌^◌, ◌↔◌, false, [], ◌∷◌, ◌++◌, length, IsTrue, IfOk, OnOk, OnErr, MatchBool, All, take, drop, vec_capacity, List};
 ghost use Rattle.gp_clause.specs.declared.lit.Lit.{Lit};
 ghost use Rattle.gp_clause.specs.Clause.{NamesBelow, NamesOnce};
 ghost use Rattle.gp_clause.specs.Lit.{negations};
@@ -55,12 +55,37 @@ impl Bench {
         requires locals { All (IsValidKind problem.now.points) locals.now }
         ensures { IfOk result (λ bench. bench ≡ record { points = problem.now.points; edges = problem.now.edges; lasting = problem.now.kinds; kinds = problem.now.kinds ++ locals.now; loaded = []; assumed = [] }) }
     {
-        let mut kinds = Vec::from_slice(alloc, problem.kinds.as_slice())?;
-        kinds.extend_from_slice(locals)?;
-        let count = kinds.len();
-        let mut assignment = Assignment::new(alloc, count)?;
-        let edges = problem.edges.as_slice();
-        let mut places = Places::new(alloc, problem.points, edges, count as u32)?;
+        let kinds = kinds_of(alloc, problem.kinds.as_slice(), locals)?;
+        match assignment_and_places(alloc, problem, kinds.len()) {
+            Ok((assignment, places)) => {
+                Bench::of_parts(alloc, kinds, problem.kinds.len(), assignment, places)
+            }
+            Err(error) => {
+                drop(kinds);
+                Err(error)
+            }
+        }
+    }
+
+    // The bench of these parts, once there is room in it.
+    fn of_parts(
+        alloc: Global,
+        kinds: Vec<Kind>,
+        lasting: usize,
+        mut assignment: Assignment,
+        mut places: Places,
+    ) -> Result<Bench, AllocError>
+        requires lasting { (lasting ≤ length kinds.items) × (lasting < 2 ^ 30) }
+        requires few { length kinds.items < 2 ^ 31 }
+        requires kinds { All (IsValidKind places.graph.points) kinds.items }
+        requires kept { IsKept assignment }
+        requires size { length assignment.values.items ≡ length kinds.items }
+        requires none { assignment.trail.items ≡ [] }
+        requires cursor { assignment.cursor ≡ 0 }
+        requires fixed { AreFixed places }
+        requires bare { places.graph.kept ≡ [] }
+        ensures { IfOk result (λ bench. bench ≡ record { points = places.graph.points; edges = places.edges; lasting = take lasting kinds.items; kinds = kinds.items; loaded = []; assumed = [] }) }
+    {
         let mut loaded = Loaded::new(alloc);
         let mut assumed = ClauseList::new(alloc);
         let mut levels = Vec::new(alloc);
@@ -70,11 +95,11 @@ impl Bench {
             &mut loaded,
             &mut assumed,
             &mut levels,
-            count,
+            kinds.len(),
         ) {
             Ok(()) => Ok(Bench {
                 kinds,
-                lasting: problem.kinds.len(),
+                lasting,
                 assignment,
                 places,
                 loaded,
@@ -97,8 +122,29 @@ impl Bench {
         ensures ok { OnOk result (self.new ≡ record self.old { kinds = self.old.lasting ++ locals.now }) }
         ensures err { OnErr result (self.new ≡ record self.old { kinds = self.old.lasting }) }
     {
+        self.drop_locals();
+        self.add_locals(locals)
+    }
+
+    // Leaves no locals, of which the loaded clauses have none.
+    fn drop_locals(&mut self)
+        requires loaded { All (NamesBelow (length self.old.lasting)) self.old.loaded }
+        requires nothing { self.old.assumed ≡ [] }
+        ensures { self.new ≡ record self.old { kinds = self.old.lasting } }
+    {
         self.kinds.truncate(self.lasting);
         self.assignment.resize(self.lasting);
+    }
+
+    // Adds locals where there are none. After want of memory there are none.
+    fn add_locals(&mut self, locals: &[Kind]) -> Result<(), AllocError>
+        requires few { length locals.now < 2 ^ 30 }
+        requires locals { All (IsValidKind self.old.points) locals.now }
+        requires none { self.old.kinds ≡ self.old.lasting }
+        requires nothing { self.old.assumed ≡ [] }
+        ensures ok { OnOk result (self.new ≡ record self.old { kinds = self.old.lasting ++ locals.now }) }
+        ensures err { OnErr result (self.new ≡ self.old) }
+    {
         let count = self.lasting + locals.len();
         make_room(
             &mut self.assignment,
@@ -108,9 +154,7 @@ impl Bench {
             &mut self.levels,
             count,
         )?;
-        self.kinds.extend_from_slice(locals)?;
-        self.assignment.resize(count);
-        Ok(())
+        extend_kinds(&mut self.kinds, &mut self.assignment, locals)
     }
 
     /// Loads one more clause. After want of memory what is loaded is as before.
@@ -209,6 +253,47 @@ impl Bench {
     }
 }
 
+// The kinds of a problem, then the locals.
+fn kinds_of(alloc: Global, lasting: &[Kind], locals: &[Kind]) -> Result<Vec<Kind>, AllocError>
+    ensures { IfOk result (λ kinds. kinds.items ≡ lasting.now ++ locals.now) }
+{
+    let mut kinds = Vec::from_slice(alloc, lasting)?;
+    kinds.extend_from_slice(locals)?;
+    Ok(kinds)
+}
+
+// So many variables without a value, and the places of a problem.
+fn assignment_and_places(
+    alloc: Global,
+    problem: &Problem,
+    count: usize,
+) -> Result<(Assignment, Places), AllocError>
+    requires valid { IsValidProblem problem.now }
+    requires few { count < 2 ^ 31 }
+    ensures kept { IfOk result (λ made. IsKept made.0) }
+    ensures size { IfOk result (λ made. length made.0.values.items ≡ count) }
+    ensures none { IfOk result (λ made. made.0.trail.items ≡ []) }
+    ensures cursor { IfOk result (λ made. made.0.cursor ≡ 0) }
+    ensures fixed { IfOk result (λ made. AreFixed made.1) }
+    ensures bare { IfOk result (λ made. made.1.graph.kept ≡ []) }
+    ensures points { IfOk result (λ made. made.1.graph.points ≡ problem.now.points) }
+    ensures edges { IfOk result (λ made. made.1.edges ≡ problem.now.edges) }
+{
+    let assignment = Assignment::new(alloc, count)?;
+    match Places::new(
+        alloc,
+        problem.points,
+        problem.edges.as_slice(),
+        count as u32,
+    ) {
+        Ok(places) => Ok((assignment, places)),
+        Err(error) => {
+            drop(assignment);
+            Err(error)
+        }
+    }
+}
+
 // Makes literals false and what is derived from them true, and keeps its bounds, unless what was assumed before is refuted
 // already. Tells whether it is now.
 fn go_on(
@@ -253,6 +338,32 @@ fn go_on(
         return true;
     }
     places.extend(kinds, &assignment.trail()[from..])
+}
+
+// Adds kinds of variables, for which there is room and which have no value. After want of memory there are none more.
+fn extend_kinds(
+    kinds: &mut Vec<Kind>,
+    assignment: &mut Assignment,
+    more: &[Kind],
+) -> Result<(), AllocError>
+    requires kept { IsKept assignment.old }
+    requires none { assignment.old.trail.items ≡ [] }
+    requires size { length assignment.old.values.items ≡ length kinds.old.items }
+    requires values { length kinds.old.items + length more.now ≤ vec_capacity assignment.old.values }
+    requires trail { length kinds.old.items + length more.now ≤ vec_capacity assignment.old.trail }
+    ensures kept { IsKept assignment.new }
+    ensures none { assignment.new.trail.items ≡ [] }
+    ensures cursor { assignment.new.cursor ≡ assignment.old.cursor }
+    ensures size { length assignment.new.values.items ≡ length kinds.new.items }
+    ensures more { length kinds.old.items ≤ length kinds.new.items }
+    ensures few { length kinds.new.items ≤ length kinds.old.items + length more.now }
+    ensures valid { (points : ℕ) → All (IsValidKind points) kinds.old.items → All (IsValidKind points) more.now → All (IsValidKind points) kinds.new.items }
+    ensures ok { OnOk result (kinds.new.items ≡ kinds.old.items ++ more.now) }
+    ensures err { OnErr result (kinds.new.items ≡ kinds.old.items) }
+{
+    kinds.extend_from_slice(more)?;
+    assignment.resize(kinds.len());
+    Ok(())
 }
 
 // Makes room for so many variables, where none has a value.

@@ -36,17 +36,18 @@ impl Places {
         ensures edges { IfOk result (λ made. made.edges ≡ edges.now) }
     {
         let copy = Row::from_vec(Vec::from_slice(alloc, edges)?);
-        let (mut graph, cyclic) = match Graph::new(alloc, points, edges) {
-            Ok(graph) => (graph, false),
-            Err(GraphFault::FixedCycle) => (without_edges(alloc, points)?, true),
-            Err(GraphFault::Memory) => return Err(AllocError),
-        };
-        graph.reserve(count)?;
-        Ok(Places {
-            edges: copy,
-            graph,
-            cyclic,
-        })
+        let (mut graph, cyclic) = graph_of(alloc, points, edges)?;
+        match graph.reserve(count) {
+            Ok(()) => Ok(Places {
+                edges: copy,
+                graph,
+                cyclic,
+            }),
+            Err(error) => {
+                drop((copy, graph));
+                Err(error)
+            }
+        }
     }
 
     // Makes room for so many bounds.
@@ -96,6 +97,21 @@ impl Places {
         ensures graph { self.new.graph ≡ record self.old.graph { kept = take mark self.old.graph.kept; room = self.old.graph.room + (length self.old.graph.kept - mark) } }
     {
         self.graph.undo_to(mark);
+    }
+}
+
+// A graph of the fixed edges, or of points alone where they hold a negative cycle. Tells whether they do.
+fn graph_of(alloc: Global, points: u32, edges: &[Edge]) -> Result<(Graph, bool), AllocError>
+    requires few { points ≤ 65536 }
+    requires within { All (IsValidEdge points) edges.now }
+    ensures fixed { IfOk result (λ made. MatchBool made.1 (HasNegativeCycle edges.now) ((made.0.edges ≡ edges.now) × (HasNegativeCycle edges.now → ⊥))) }
+    ensures none { IfOk result (λ made. made.0.kept ≡ []) }
+    ensures points { IfOk result (λ made. made.0.points ≡ points) }
+{
+    match Graph::new(alloc, points, edges) {
+        Ok(graph) => Ok((graph, false)),
+        Err(GraphFault::FixedCycle) => Ok((without_edges(alloc, points)?, true)),
+        Err(GraphFault::Memory) => Err(AllocError),
     }
 }
 

@@ -1,52 +1,48 @@
-use Rattle.std.proofs.Common.{rules, ◌≡◌, ℕ, ◌++◌, [], All, List, length, ap, sym, ◌∙◌, subst, arith}
-use Rattle.std.proofs.lemmas.List.Elements.{All-append, All-nil}
+use Rattle.std.proofs.Common.{◌≡◌, ℕ, ◌+◌, ◌<◌, ◌≤◌, List, [], ◌++◌, length, take, ap, sym, subst, ◌∙◌, arith}
+use Rattle.std.specs.Prelude.{◌^◌, IfOk}
+use Rattle.std.specs.List.{All}
+use Rattle.std.proofs.Math.Seq.{take-append_seam}
+use Rattle.std.proofs.lemmas.List.{length-append}
+use Rattle.std.proofs.lemmas.List.Elements.{All-append}
+use Rattle.gp_clause.specs.declared.edge.Edge.{Edge}
 use Rattle.gp_clause.specs.declared.kind.Kind.{Kind}
-use Rattle.gp_clause.specs.Clause.{NamesBelow, NamesOnce}
 use Rattle.gp_clause.specs.Problem.{IsValidKind}
-use Rattle.gp_difference.specs.Graph.{GraphForm}
-use Rattle.gp_certificate.specs.ClauseList.{joined}
-use Rattle.gp_certificate.specs.Levels.IsStack.{base}
-use Rattle.gp_certificate.specs.Loaded.{LoadedForm}
-use Rattle.gp_certificate.proofs.Readying.{exact_none, fixed_with}
+use Rattle.gp_certificate.specs.Bench.{BenchForm}
 use Rattle.gp_certificate.proofs.bench.Bench.new.Goals as goal
 
-pub invariant_of-result : goal.invariant_of-result
-invariant_of-result c =
-    let kinds = c.extend_from_slice.new.self in
-    let m = c.make_room.ensures in
-    let room = c.in-Ok.ensures.room in
-    let count : c.len-count.result ≡ length kinds.items = search rules in
-    let clauses : c.make_room.new.loaded.clauses ≡ [] = ap (λ (l : LoadedForm). l.clauses) m.loaded.same ∙ c.new-loaded.ensures.clauses in
-    let left : c.make_room.new.loaded.left ≡ [] = ap (λ (l : LoadedForm). l.left) m.loaded.same ∙ c.new-loaded.ensures.left in
-    let lists : c.make_room.new.assumed.lists ≡ [] = m.assumed.lists ∙ c.new-assumed.ensures in
-    record {
-      kept = m.assignment.kept;
-      size = ap (λ vs. length vs) m.assignment.values ∙ c.in_ok-assignment.ensures.size ∙ count;
-      lasting = search rules;
-      few = search rules;
-      kinds =
-          let P : List Kind → Type 0 = λ ks. All (IsValidKind c.args.problem.now.points) ks in
-          let Q : ℕ → Type 0 = λ n. All (IsValidKind n) kinds.items in
-          let items : kinds.items ≡ c.args.problem.now.kinds ++ c.args.locals.now =
-          c.in_ok-extend_from_slice.ensures.items ∙ ap (λ ks. ks ++ c.args.locals.now) (c.in_ok-kinds.ensures.items ∙ c.as_slice.ensures) in
-          let points = ap (λ (g : GraphForm). g.points) m.places.graph ∙ c.in_ok-places.ensures.points in
-          subst Q (sym points) (subst P (sym items) (All-append (IsValidKind c.args.problem.now.points) c.args.problem.now.kinds c.args.locals.now c.requires.valid.kinds c.requires.locals));
-      fixed = fixed_with c.in_ok-places.places c.make_room.new.places m.places.same (ap (λ (g : GraphForm). g.edges) m.places.graph) c.in_ok-places.ensures.fixed;
-      room = omega (arith, count, room.bounds);
-      within = subst (λ cs. All (NamesBelow (length kinds.items)) cs) (sym clauses) (All-nil (NamesBelow (length kinds.items)));
-      once = subst (λ cs. All NamesOnce cs) (sym clauses) (All-nil NamesOnce);
-      rows = omega (arith, count, room.rows);
-      exact = exact_none c.make_room.new.assignment c.make_room.new.loaded (m.assignment.cursor ∙ c.in_ok-assignment.ensures.cursor) clauses left;
-      stack = base _ (record {
-        assumed = lists;
-        levels = search rules;
-        trail = m.assignment.trail ∙ c.in_ok-assignment.ensures.none;
-        kept = ap (λ (g : GraphForm). g.kept) m.places.graph ∙ c.in_ok-places.ensures.none;
-        cursor = m.assignment.cursor ∙ c.in_ok-assignment.ensures.cursor;
-      });
-      below = subst (λ ls. NamesBelow (length kinds.items) (joined ls)) (sym lists) (λ k d few. absurd (omega (arith, few)));
-      names = subst (λ ls. NamesOnce (joined ls)) (sym lists) (λ variable. omega arith);
-      levels = omega (arith, count, room.deep);
-      lits = omega (arith, count, room.lits);
-      lists = omega (arith, count, room.lists);
-    }
+-- the kinds of a problem, before locals
+fits : (count : ℕ) (kinds lasting locals : List Kind) → kinds ≡ lasting ++ locals → count ≡ length lasting → length lasting < 2 ^ 30 → length locals < 2 ^ 30
+    → (length kinds < 2 ^ 31) × (count ≤ length kinds) × (count < 2 ^ 30)
+fits count kinds lasting locals is first few more =
+    let sum : length kinds ≡ length lasting + length locals = ap (λ (ks : List Kind). length ks) is ∙ length-append lasting locals in
+    (omega (arith, sum, few, more), omega (arith, sum, first), omega (arith, first, few))
+
+-- the form of a bench with these kinds
+form_of : (m n count : ℕ) (edges more : List Edge) (kinds lasting locals : List Kind) → m ≡ n → edges ≡ more → kinds ≡ lasting ++ locals → count ≡ length lasting
+    → ◌≡◌ {A = BenchForm} (record { points = m; edges = edges; lasting = take count kinds; kinds = kinds; loaded = []; assumed = [] }) (record { points = n; edges = more; lasting = lasting; kinds = lasting ++ locals; loaded = []; assumed = [] })
+form_of m n count edges more kinds lasting locals points same is first =
+    let front : take count kinds ≡ lasting = ap (λ n. take n kinds) first ∙ ap (λ ks. take (length lasting) ks) is ∙ take-append_seam lasting locals in
+    cc
+
+pub of_parts-requires-clause-lasting : goal.of_parts-requires-clause-lasting
+of_parts-requires-clause-lasting c =
+    let all = fits c.len-in-Ok.result c.in_ok-kinds.kinds.items c.args.problem.now.kinds c.args.locals.now (c.in_ok-kinds.ensures ∙ ap (λ ks. ks ++ c.args.locals.now) c.as_slice.ensures) c.len-in-Ok.ensures c.requires.valid.few_kinds c.requires.few in
+    (all.1, all.2)
+
+pub of_parts-requires-clause-few : goal.of_parts-requires-clause-few
+of_parts-requires-clause-few c =
+    let all = fits c.len-in-Ok.result c.in_ok-kinds.kinds.items c.args.problem.now.kinds c.args.locals.now (c.in_ok-kinds.ensures ∙ ap (λ ks. ks ++ c.args.locals.now) c.as_slice.ensures) c.len-in-Ok.ensures c.requires.valid.few_kinds c.requires.few in
+    all.0
+
+pub of_parts-requires-clause-kinds : goal.of_parts-requires-clause-kinds
+of_parts-requires-clause-kinds c =
+    let valid = All-append (IsValidKind c.args.problem.now.points) c.args.problem.now.kinds c.args.locals.now c.requires.valid.kinds c.requires.locals in
+    let is : c.in_ok-kinds.kinds.items ≡ c.args.problem.now.kinds ++ c.args.locals.now = c.in_ok-kinds.ensures ∙ ap (λ ks. ks ++ c.args.locals.now) c.as_slice.ensures in
+    subst (λ (n : ℕ). All (IsValidKind n) c.in_ok-kinds.kinds.items) (sym c.in-Ok.ensures.points) (subst (λ (ks : List Kind). All (IsValidKind c.args.problem.now.points) ks) (sym is) valid)
+
+pub returns-in-Ok : goal.returns-in-Ok
+returns-in-Ok c =
+    subst (λ (form : BenchForm). IfOk c.of_parts.result (λ (bench : BenchForm). bench ≡ form))
+    (form_of c.in-Ok.places.graph.points c.args.problem.now.points c.len-in-Ok.result c.in-Ok.places.edges c.args.problem.now.edges c.in_ok-kinds.kinds.items c.args.problem.now.kinds c.args.locals.now
+    c.in-Ok.ensures.points c.in-Ok.ensures.edges (c.in_ok-kinds.ensures ∙ ap (λ ks. ks ++ c.args.locals.now) c.as_slice.ensures) c.len-in-Ok.ensures)
+    c.of_parts.ensures

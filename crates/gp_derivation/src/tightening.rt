@@ -29,8 +29,17 @@ pub fn tight(
     ensures passes { IfOk result (λ left. Passes problem.now.edges (problem.now.kinds ++ query.now.locals) (named (logged problem.now log.now) step.hints) left.clause) }
     ensures tight { IfOk result (λ left. IsTight problem.now.edges (problem.now.kinds ++ query.now.locals) (named (logged problem.now log.now) step.hints) left.clause) }
 {
-    let mut tester = Tester::new(alloc, problem, query.locals.as_slice())?;
-    tightened_step(&mut tester, problem, log, step)
+    match Tester::new(alloc, problem, query.locals.as_slice()) {
+        Ok(mut tester) => {
+            let told = tightened_step(&mut tester, problem, log, step);
+            drop(tester);
+            told
+        }
+        Err(error) => {
+            drop(step);
+            Err(error)
+        }
+    }
 }
 
 // The same by a tester.

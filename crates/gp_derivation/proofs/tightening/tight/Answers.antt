@@ -24,29 +24,29 @@ kinds_are : (t : TesterForm) (points : ℕ) (edges : List Edge) (lasting locals 
     → t.kinds ≡ lasting ++ locals
 kinds_are t points edges lasting locals given is same = ap (λ (t : TesterForm). t.kinds) is ∙ ap (λ (ls : List Kind). lasting ++ ls) same
 
-pub tightened_step-requires-clause-within : goal.tightened_step-requires-clause-within
-tightened_step-requires-clause-within c =
-    let count : length c.in_ok-tester.tester.kinds ≡ length c.args.problem.now.kinds + length c.args.query.now.locals =
-    ap (λ (ks : List Kind). length ks) (kinds_are _ _ _ _ _ _ c.in_ok-tester.ensures c.as_slice.ensures) ∙ length-append c.args.problem.now.kinds c.args.query.now.locals in
+pub tightened_step-told-requires-clause-within : goal.tightened_step-told-requires-clause-within
+tightened_step-told-requires-clause-within c =
+    let count : length c.in-Ok.tester.kinds ≡ length c.args.problem.now.kinds + length c.args.query.now.locals =
+    ap (λ (ks : List Kind). length ks) (kinds_are _ _ _ _ _ _ c.in-Ok.ensures c.as_slice.ensures) ∙ length-append c.args.problem.now.kinds c.args.query.now.locals in
     subst (λ (n : ℕ). All (NamesBelow n) (named (logged c.args.problem.now c.args.log.now) c.args.step.hints)) (sym count) c.requires.within
 
-pub tightened_step-requires-clause-passes : goal.tightened_step-requires-clause-passes
-tightened_step-requires-clause-passes c =
+pub tightened_step-told-requires-clause-passes : goal.tightened_step-told-requires-clause-passes
+tightened_step-told-requires-clause-passes c =
     carried (λ edges kinds. Passes edges kinds (named (logged c.args.problem.now c.args.log.now) c.args.step.hints) c.args.step.clause) _ _ _ _
-    (sym (edges_are _ _ _ _ _ c.in_ok-tester.ensures)) (sym (kinds_are _ _ _ _ _ _ c.in_ok-tester.ensures c.as_slice.ensures)) c.requires.passes
+    (sym (edges_are _ _ _ _ _ c.in-Ok.ensures)) (sym (kinds_are _ _ _ _ _ _ c.in-Ok.ensures c.as_slice.ensures)) c.requires.passes
 
-pub returns-clause-hints : goal.returns-clause-hints
-returns-clause-hints c = c.tightened_step.ensures.hints
+pub returns-in-Ok-clause-hints : goal.returns-in-Ok-clause-hints
+returns-in-Ok-clause-hints c = c.tightened_step-told.ensures.hints
 
-pub returns-clause-some : goal.returns-clause-some
-returns-clause-some c = c.tightened_step.ensures.some
+pub returns-in-Ok-clause-some : goal.returns-in-Ok-clause-some
+returns-in-Ok-clause-some c = c.tightened_step-told.ensures.some
 
-pub returns-clause-passes : goal.returns-clause-passes
-returns-clause-passes c =
-    carried (λ edges kinds. IfOk c.tightened_step.result (λ (left : Step). Passes edges kinds (named (logged c.args.problem.now c.args.log.now) c.args.step.hints) left.clause)) _ _ _ _
-    (edges_are _ _ _ _ _ c.in_ok-tester.ensures) (kinds_are _ _ _ _ _ _ c.in_ok-tester.ensures c.as_slice.ensures) c.tightened_step.ensures.passes
+pub returns-in-Ok-clause-passes : goal.returns-in-Ok-clause-passes
+returns-in-Ok-clause-passes c =
+    carried (λ edges kinds. IfOk c.tightened_step-told.result (λ (left : Step). Passes edges kinds (named (logged c.args.problem.now c.args.log.now) c.args.step.hints) left.clause)) _ _ _ _
+    (edges_are _ _ _ _ _ c.in-Ok.ensures) (kinds_are _ _ _ _ _ _ c.in-Ok.ensures c.as_slice.ensures) c.tightened_step-told.ensures.passes
 
-pub returns-clause-tight : goal.returns-clause-tight
-returns-clause-tight c =
-    carried (λ edges kinds. IfOk c.tightened_step.result (λ (left : Step). IsTight edges kinds (named (logged c.args.problem.now c.args.log.now) c.args.step.hints) left.clause)) _ _ _ _
-    (edges_are _ _ _ _ _ c.in_ok-tester.ensures) (kinds_are _ _ _ _ _ _ c.in_ok-tester.ensures c.as_slice.ensures) c.tightened_step.ensures.tight
+pub returns-in-Ok-clause-tight : goal.returns-in-Ok-clause-tight
+returns-in-Ok-clause-tight c =
+    carried (λ edges kinds. IfOk c.tightened_step-told.result (λ (left : Step). IsTight edges kinds (named (logged c.args.problem.now c.args.log.now) c.args.step.hints) left.clause)) _ _ _ _
+    (edges_are _ _ _ _ _ c.in-Ok.ensures) (kinds_are _ _ _ _ _ _ c.in-Ok.ensures c.as_slice.ensures) c.tightened_step-told.ensures.tight

@@ -51,19 +51,26 @@ impl Engine {
         ensures idle { IfOk result (IsIdle problem.now) }
         ensures empty { IfOk result (λ engine. engine.log.items ≡ []) }
     {
-        Ok(Engine {
-            solver: attached(alloc, problem)?,
-            graph: graph(alloc, problem)?,
-            log: Vec::new(alloc),
-            pure: Vec::new(alloc),
-            begins: 0,
-            learned: 0,
-            asserted: 0,
-            assumed: 0,
-            next: 0,
-            levels: Vec::new(alloc),
-            tester: Tester::new(alloc, problem, &[])?,
-        })
+        let solver = attached(alloc, problem)?;
+        match graph_and_tester(alloc, problem) {
+            Ok((graph, tester)) => Ok(Engine {
+                solver,
+                graph,
+                log: Vec::new(alloc),
+                pure: Vec::new(alloc),
+                begins: 0,
+                learned: 0,
+                asserted: 0,
+                assumed: 0,
+                next: 0,
+                levels: Vec::new(alloc),
+                tester,
+            }),
+            Err(error) => {
+                drop(solver);
+                Err(error)
+            }
+        }
     }
 }
 
@@ -73,8 +80,13 @@ fn attached(alloc: Global, problem: &Problem) -> Result<Solver, AllocError>
     ensures { IfOk result (λ solver. solver ≡ of_clauses (length problem.now.kinds) problem.now.clauses) }
 {
     let mut solver = Solver::new(alloc, problem.kinds.len() as u32)?;
-    attach_all(&mut solver, problem)?;
-    Ok(solver)
+    match attach_all(&mut solver, problem) {
+        Ok(()) => Ok(solver),
+        Err(error) => {
+            drop(solver);
+            Err(error)
+        }
+    }
 }
 
 // Attaches the clauses of a problem to a solver that has no more than its variables.
@@ -87,6 +99,26 @@ fn attach_all(solver: &mut Solver, problem: &Problem) -> Result<(), AllocError>
         solver.attach(clause)?;
     }
     Ok(())
+}
+
+// A graph with the points and the edges of a problem, and a tester of it.
+fn graph_and_tester(alloc: Global, problem: &Problem) -> Result<(Graph, Tester), AllocError>
+    requires valid { IsValidProblem problem.now }
+    requires solvable { IsSolvable problem.now.edges }
+    ensures graph { IfOk result (λ both. IsGraphOf problem.now both.0) }
+    ensures bare { IfOk result (λ both. both.0.kept ≡ []) }
+    ensures points { IfOk result (λ both. both.1.points ≡ problem.now.points) }
+    ensures edges { IfOk result (λ both. both.1.edges ≡ problem.now.edges) }
+    ensures lasting { IfOk result (λ both. both.1.lasting ≡ problem.now.kinds) }
+{
+    let graph = graph(alloc, problem)?;
+    match Tester::new(alloc, problem, &[]) {
+        Ok(tester) => Ok((graph, tester)),
+        Err(error) => {
+            drop(graph);
+            Err(error)
+        }
+    }
 }
 
 // A graph with the points and the edges of a problem.

@@ -1,8 +1,8 @@
-ghost use Rattle.std.specs.Prelude.{◌≡◌, ◌∷◌, Contains, IfOk, Some, false, flat_map, map, true};
+ghost use Rattle.std.specs.Prelude.{◌≡◌, [], ◌∷◌, ◌++◌, Contains, IfOk, Some, false, flat_map, map, true};
 ghost use Rattle.gp_constraint.specs.Limited.{IsAdded};
 ghost use Rattle.gp_constraint.specs.Points.{points_of};
 ghost use Rattle.gp_constraint.specs.Signed.{AreSigned};
-ghost use Rattle.gp_constraint.specs.Terms.{executed};
+ghost use Rattle.gp_constraint.specs.Terms.{before, executed, simplified};
 ghost use Rattle.gp_notify.specs.CallTables.{AreCallTables};
 ghost use Rattle.gp_notify.specs.Signals.{between, not_both, notified, notifies_of, signals_of, taken_once, takes, takes_one, wakes_of, woken, woken_by};
 
@@ -142,6 +142,12 @@ fn between(into: &mut LimitedClauses, w: &Point, s: &Point, g: &Point) -> Result
     ensures { IsAdded result into.old into.new (between w.now s.now g.now) }
 {
     into.add(&[takes(w, g, false), executed(g, true)])?;
+    around(into, w, s, g)
+}
+
+fn around(into: &mut LimitedClauses, w: &Point, s: &Point, g: &Point) -> Result<(), Full>
+    ensures { IsAdded result into.old into.new (simplified (takes w.now g.now false ∷ before s.now g.now ∷ []) ++ simplified (takes w.now g.now false ∷ before g.now w.now ∷ [])) }
+{
     into.add(&[takes(w, g, false), before(s, g)])?;
     into.add(&[takes(w, g, false), before(g, w)])
 }

@@ -43,8 +43,17 @@ fn slept_at(condition: &Name, events: &[Event], count: u32) -> Option<u32>
 fn ended_at(condition: &Name, events: &[Event], index: u32) -> Option<Option<u32>>
     ensures { MatchOption result ((rest : Option ℕ) → turned condition.now (call_in (slice_get events.now index)) index rest ≡ rest) (λ found. (rest : Option ℕ) → turned condition.now (call_in (slice_get events.now index)) index rest ≡ found) }
 {
-    let call = call_of(events.get(index as usize)?)?;
-    ended_by(condition, &call, index)
+    match call_in(events, index) {
+        Some(call) => ended_by(condition, &call, index),
+        None => None,
+    }
+}
+
+/// The call of an event of a thread, where there is one.
+fn call_in(events: &[Event], index: u32) -> Option<Call>
+    ensures { result ≡ call_in (slice_get events.now index) }
+{
+    call_of(events.get(index as usize)?)
 }
 
 fn ended_by(condition: &Name, call: &Call, index: u32) -> Option<Option<u32>>

@@ -1,4 +1,4 @@
-ghost use Rattle.std.specs.Prelude.{◌≡◌, ◌==◌, not, IfOk, filter};
+ghost use Rattle.std.specs.Prelude.{◌≡◌, ◌==◌, [], not, IfOk, OnOk, filter};
 ghost use Rattle.gp_notify.specs.CallTables.{AreCallTables};
 ghost use Rattle.gp_notify.specs.Signals.{signals_to, takers_of};
 
@@ -45,10 +45,19 @@ fn others(alloc: Global, points: &[Point], p: &Point) -> Result<Row<Point>, Allo
     ensures { IfOk result (λ others. others ≡ filter (λ other. not (other.id.thread == p.now.id.thread)) points.now) }
 {
     let mut others = Row::new(alloc);
+    add_others(points, p, &mut others)?;
+    Ok(others)
+}
+
+/// Adds the points of other threads to none.
+fn add_others(points: &[Point], p: &Point, others: &mut Row<Point>) -> Result<(), AllocError>
+    requires { others.old ≡ [] }
+    ensures { OnOk result (others.new ≡ filter (λ other. not (other.id.thread == p.now.id.thread)) points.now) }
+{
     for other in points {
         if other.id.thread != p.id.thread {
             others.push(*other)?;
         }
     }
-    Ok(others)
+    Ok(())
 }

@@ -51,7 +51,7 @@ tells_run traced started window last ids is r = record {
 }
 
 -- what a lock is held in that is kept out
-kept_from : (mode : LockMode) (held : Option LockMode) → keeps_out mode held ≡ true → (how : LockMode) × (held ≡ Some how) × (exclude how mode ≡ true)
+pub kept_from : (mode : LockMode) (held : Option LockMode) → keeps_out mode held ≡ true → (how : LockMode) × (held ≡ Some how) × (exclude how mode ≡ true)
 kept_from mode (Some how) e = (how, refl, e)
 kept_from mode None e = cc
 

@@ -5,9 +5,11 @@ pub mod Events
 pub mod Found
 pub mod Limit
 pub mod Lists
+pub mod Narrowed
 pub mod Notes
 pub mod OwnHeld
 pub mod Sound
 pub mod Standing
 pub mod Stops
 pub mod Valid
+pub mod Ways

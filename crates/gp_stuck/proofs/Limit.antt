@@ -10,15 +10,11 @@ use Rattle.gp_instance.specs.declared.instance.Instance.{Instance}
 use Rattle.gp_instance.specs.Instances.{numbered}
 use Rattle.gp_instance.specs.LimitLaws.{first_then, one_choice}
 use Rattle.gp_instance.specs.Search.{first_instances, instance_after}
-use Rattle.gp_stuck.specs.Search.{closed, completions, cycles_from, may_follow, takers_of}
-
--- the lists that go on with this event
-abbrev pub going_on : WindowForm → EventId → List EventId → ℕ → EventId → List (List EventId)
-going_on window first passed fewer id = map (λ rest. id ∷ rest) (completions window (takers_of window) first (passed ++ id ∷ []) id fewer)
+use Rattle.gp_stuck.specs.Search.{closed, completions, cycles_from, going_on, may_follow, takers_of}
 
 -- what was found closed, and what goes on
 pub closed_then : (window : WindowForm) (first : EventId) (passed : List EventId) (last : EventId) (left fewer : ℕ) (found next : List Instance) (nexts : List EventId)
-    → left ≡ suc fewer → nexts ≡ filter (may_follow window first passed last) (takers_of window)
+    → left ≡ suc fewer → flat_map (going_on window first passed fewer) nexts ≡ flat_map (going_on window first passed fewer) (filter (may_follow window first passed last) (takers_of window))
     → next ≡ first_instances found (map (instance_after 0 (first ∷ passed)) (closed window first passed last))
     → first_instances next (map (instance_after 0 (first ∷ passed)) (flat_map (going_on window first passed fewer) nexts))
     ≡ first_instances found (map (instance_after 0 (first ∷ passed)) (completions window (takers_of window) first passed last left))
@@ -27,7 +23,7 @@ closed_then window first passed last left fewer found next nexts more are is =
     let others : List (List EventId) = flat_map (going_on window first passed fewer) nexts in
     first_then found next (map (instance_after 0 (first ∷ passed)) done) (map (instance_after 0 (first ∷ passed)) others) is
     ∙ ap (first_instances found) (sym (map-append (instance_after 0 (first ∷ passed)) done others))
-    ∙ ap (λ ids. first_instances found (map (instance_after 0 (first ∷ passed)) (done ++ flat_map (going_on window first passed fewer) ids))) are
+    ∙ ap (λ more_lists. first_instances found (map (instance_after 0 (first ∷ passed)) (done ++ more_lists))) are
     ∙ ap (λ n. first_instances found (map (instance_after 0 (first ∷ passed)) (completions window (takers_of window) first passed last n))) (sym more)
 
 -- one event more

@@ -226,7 +226,7 @@ waits_none window (Some (Take mode lock)) first nothing = ap (keeps_out mode) (n
 waits_none window (Some (GiveBack mode lock)) first nothing = refl
 waits_none window None first nothing = refl
 
-closed_none : (b waits : Bool) → waits ≡ false → ◌≡◌ {A = List (List EventId)} (if b && waits then [] ∷ [] else []) []
+pub closed_none : (b waits : Bool) → waits ≡ false → ◌≡◌ {A = List (List EventId)} (if b && waits then [] ∷ [] else []) []
 closed_none true waits e = rw e refl
 closed_none false waits e = refl
 

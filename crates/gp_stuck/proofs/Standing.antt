@@ -1,16 +1,15 @@
--- Those that hold a lock are all that may follow an event that takes it, and tell how one of them holds it.
-use Rattle.std.proofs.Common.{ℕ, ◌≡◌, ap, sym, ◌∙◌, refl, Bool, true, false, List, [], ◌∷◌, ◌++◌, map}
-use Rattle.std.specs.Prelude.{Option, Some, None, ◌&&◌, ◌||◌, Contains, filter, if◌then◌else◌, nat_lt}
-use Rattle.std.specs.List.{list_all, list_any}
-use Rattle.std.proofs.lemmas.List.{map-append}
+-- Those that hold a lock are all that may follow an event that takes it.
+use Rattle.std.proofs.Common.{ℕ, suc, ◌+◌, ◌<◌, ◌≡◌, ap, sym, ◌∙◌, refl, Bool, true, false, cond, List, [], ◌∷◌, ◌++◌, append_assoc, arith, drop, get_or, length, map}
+use Rattle.std.specs.Prelude.{Option, Some, None, ◌&&◌, filter, if◌then◌else◌, nat_lt}
+use Rattle.std.specs.List.{flat_map, list_all}
+use Rattle.std.proofs.Math.Seq.{drop-cons}
+use Rattle.std.proofs.lemmas.Grind.{flat_map-append}
+use Rattle.std.proofs.lemmas.List.{append-nil, map-append}
 use Rattle.std.proofs.lemmas.List.Elements.{filter-append}
-use Rattle.std.proofs.lemmas.List.Folds.{list_any-append}
 use Rattle.gp_trace.specs.declared.lock_use.LockMode.{LockMode}
 use Rattle.gp_trace.specs.declared.lock_use.LockUse.{LockUse}
 use Rattle.gp_trace.specs.declared.lock_use.LockUse.TheVariants.{Take}
 use Rattle.gp_window.specs.declared.schedule.EventId.{EventId}
-use Rattle.gp_window.specs.IdLaws.{contains_means, same_id}
-use Rattle.gp_window.specs.Ids.{contains_event, is_same}
 use Rattle.gp_window.specs.Modes.{mode_before}
 use Rattle.gp_window.specs.WindowForm.{WindowForm}
 use Rattle.gp_replay.specs.LockUses.{use_at}
@@ -79,44 +78,39 @@ none_follow window first passed last (id ∷ ids) none =
     never (nat_lt first.thread id.thread) (list_all (λ other. are_apart other id) passed) (may_be_next window id) (waits_for window last id) (none id) in
     rw off (none_follow window first passed last ids none)
 
--- how one of the events holds the lock
-one_told : (one id : EventId) (mode : LockMode) (held : Option LockMode)
-    → list_any (λ (holder : Holder). is_same holder.id id && exclude holder.mode mode) (holder_with one held) ≡ (is_same one id && keeps_out mode held)
-one_told one id mode None = sym (off (is_same one id))
-  where
-    off : (b : Bool) → (b && false) ≡ false
-    off true = refl
-    off false = refl
-one_told one id mode (Some how) = alone (is_same one id && exclude how mode)
-  where
-    alone : (b : Bool) → (b || false) ≡ b
-    alone true = refl
-    alone false = refl
+-- an event that is entered, or may not stand, or that nothing goes on with
+pub entered : (go : EventId → List (List EventId)) (id : EventId) (enters stands : Bool) → stands ≡ true → (enters ≡ false → go id ≡ [])
+    → flat_map go (if enters then id ∷ [] else []) ≡ flat_map go (if stands then id ∷ [] else [])
+entered go id true stands may none = ap (λ b. flat_map go (if b then id ∷ [] else [])) (sym may)
+entered go id false stands may none = sym (ap (λ b. flat_map go (if b then id ∷ [] else [])) may ∙ append-nil (go id) ∙ none refl)
 
-all_told : (window : WindowForm) (mode : LockMode) (lock : List ℕ) (id : EventId) (ids : List EventId)
-    → list_any (λ (holder : Holder). is_same holder.id id && exclude holder.mode mode) (holders_of window lock ids)
-    ≡ (contains_event ids id && keeps_out mode (mode_before window id lock))
-all_told window mode lock id [] = refl
-all_told window mode lock id (one ∷ ids) =
-    let test : Holder → Bool = λ holder. is_same holder.id id && exclude holder.mode mode in
-    let keeps : Bool = keeps_out mode (mode_before window id lock) in
-    list_any-append test (holder_with one (mode_before window one lock)) (holders_of window lock ids)
-    ∙ ap (λ b. b || list_any test (holders_of window lock ids)) (one_told one id mode (mode_before window one lock) ∙ own (is_same one id) refl)
-    ∙ ap (λ b. (is_same one id && keeps) || b) (all_told window mode lock id ids)
-    ∙ either (is_same one id) (contains_event ids id) keeps
+-- the first that holds the lock, and the others
+standing_more : (window : WindowForm) (mode : LockMode) (first : EventId) (passed : List EventId) (holder : Holder) (holders : List Holder)
+    → standing window mode first passed (holder ∷ holders) ≡ (if may_stand window mode first passed holder then holder.id ∷ [] else []) ++ standing window mode first passed holders
+standing_more window mode first passed holder holders = either (may_stand window mode first passed holder) (filter (may_stand window mode first passed) holders)
   where
-    own : (b : Bool) → is_same one id ≡ b → (b && keeps_out mode (mode_before window one lock)) ≡ (b && keeps_out mode (mode_before window id lock))
-    own true e = ap (λ event. keeps_out mode (mode_before window event lock)) (same_id one id e)
-    own false e = refl
+    either : (b : Bool) (rest : List Holder) → map (λ (one : Holder). one.id) (cond b (holder ∷ rest) rest) ≡ (if b then holder.id ∷ [] else []) ++ map (λ (one : Holder). one.id) rest
+    either true rest = refl
+    either false rest = refl
 
-    either : (a b k : Bool) → ((a && k) || (b && k)) ≡ ((a || b) && k)
-    either true true true = refl
-    either true true false = refl
-    either true false true = refl
-    either true false false = refl
-    either false b k = refl
-
-pub holder_told : (window : WindowForm) (mode : LockMode) (lock : List ℕ) (id : EventId) (ids : List EventId) → Contains ids id
-    → list_any (λ (holder : Holder). is_same holder.id id && exclude holder.mode mode) (holders_of window lock ids) ≡ keeps_out mode (mode_before window id lock)
-holder_told window mode lock id ids among =
-    all_told window mode lock id ids ∙ ap (λ b. b && keeps_out mode (mode_before window id lock)) ((contains_means ids id).1 among)
+-- one that holds the lock more, where what is kept of it goes on as it does itself
+pub standing_step : (go : EventId → List (List EventId)) (window : WindowForm) (mode : LockMode) (first : EventId) (passed : List EventId) (holders : List Holder) (i : ℕ) (d : Holder)
+    (kept new : List EventId) (keep : Bool) (all : List (List EventId)) → i < length holders → new ≡ kept ++ (if keep then (get_or holders i d).id ∷ [] else [])
+    → flat_map go (if keep then (get_or holders i d).id ∷ [] else []) ≡ flat_map go (if may_stand window mode first passed (get_or holders i d) then (get_or holders i d).id ∷ [] else [])
+    → flat_map go kept ++ flat_map go (standing window mode first passed (drop i holders)) ≡ all
+    → flat_map go new ++ flat_map go (standing window mode first passed (drop (i + 1) holders)) ≡ all
+standing_step go window mode first passed holders i d kept new keep all below is same walk =
+    let holder : Holder = get_or holders i d in
+    let rest : List EventId = standing window mode first passed (drop (i + 1) holders) in
+    let own : List EventId = if keep then holder.id ∷ [] else [] in
+    let stands : List EventId = if may_stand window mode first passed holder then holder.id ∷ [] else [] in
+    let one_more : suc i ≡ i + 1 = omega arith in
+    let parts : drop i holders ≡ holder ∷ drop (i + 1) holders = drop-cons holders i d below ∙ ap (λ n. holder ∷ drop n holders) one_more in
+    ap (λ ids. flat_map go ids ++ flat_map go rest) is
+    ∙ ap (λ front. front ++ flat_map go rest) (flat_map-append go kept own)
+    ∙ append_assoc (flat_map go kept) (flat_map go own) (flat_map go rest)
+    ∙ ap (λ middle. flat_map go kept ++ (middle ++ flat_map go rest)) same
+    ∙ ap (λ back. flat_map go kept ++ back) (sym (flat_map-append go stands rest))
+    ∙ ap (λ ids. flat_map go kept ++ flat_map go ids) (sym (standing_more window mode first passed holder (drop (i + 1) holders)))
+    ∙ ap (λ left. flat_map go kept ++ flat_map go (standing window mode first passed left)) (sym parts)
+    ∙ walk

@@ -1,7 +1,9 @@
+pub mod Closing
 pub mod Cycle
 pub mod Cycles
 pub mod Examples
 pub mod Laws
+pub mod Links
 pub mod Noted
 pub mod Search
 pub mod Stuck

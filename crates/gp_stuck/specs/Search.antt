@@ -43,6 +43,10 @@ takes_lock window id = is_take (use_at window id)
 abbrev pub takers_of : WindowForm → List EventId
 takers_of window = filter (takes_lock window) (ids_of window.segments)
 
+-- the lists of events that take locks which go on with this one, and make a chain a cycle
+abbrev pub going_on : WindowForm → EventId → List EventId → ℕ → EventId → List (List EventId)
+going_on window first passed fewer id = map (λ rest. id ∷ rest) (completions window (takers_of window) first (passed ++ id ∷ []) id fewer)
+
 -- all that the search finds
 abbrev pub found_cycles : WindowForm → List (List EventId)
 found_cycles window = flat_map (cycles_from window (takers_of window)) (filter (may_be_next window) (takers_of window))

@@ -1,5 +1,5 @@
 ghost use Rattle.std.specs.Prelude.{◌≡◌};
-ghost use Rattle.gp_constraint.specs.Sections.{exclude};
+ghost use Rattle.gp_constraint.specs.Sections.{exclude, same_mode};
 ghost use Rattle.gp_replay.specs.LockUses.{use_at};
 ghost use Rattle.gp_stuck.specs.Cycle.{may_be_next};
 ghost use Rattle.gp_stuck.specs.Search.{takes_lock};
@@ -45,4 +45,13 @@ pub fn exclude(one: LockMode, other: LockMode) -> bool
         (LockMode::Shared, LockMode::Shared) => false,
         _ => true,
     }
+}
+
+pub fn same_mode(one: LockMode, other: LockMode) -> bool
+    ensures { result ≡ same_mode one other }
+{
+    matches!(
+        (one, other),
+        (LockMode::Exclusive, LockMode::Exclusive) | (LockMode::Shared, LockMode::Shared)
+    )
 }

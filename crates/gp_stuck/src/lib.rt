@@ -3,11 +3,17 @@
 // excludes it. A cycle is stuck where some feasible schedule ends with each thread just before its event.
 #![tactic(auto)]
 
+mod closing;
 mod cycle_query;
 mod event;
+mod first;
 mod holder;
+mod holding;
 mod laws;
+mod link;
+mod links;
 mod listing;
+mod narrowing;
 mod noting;
 mod search;
 mod waiting;

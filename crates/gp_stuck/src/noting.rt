@@ -76,7 +76,7 @@ fn note_segment(
     Ok(())
 }
 
-fn use_lock(held: &mut Table<Name, LockMode>, event: &Event) -> Result<(), AllocError>
+pub fn use_lock(held: &mut Table<Name, LockMode>, event: &Event) -> Result<(), AllocError>
     ensures { OnOk result (held.new ≡ held_after_use held.old (lock_use_of event.now)) }
 {
     let Some(lock_use) = event.lock_use() else {
@@ -137,7 +137,7 @@ pub fn keep_id(kept: &mut Row<EventId>, id: EventId, keep: bool) -> Result<(), A
 }
 
 /// The locks that a thread holds when the window begins.
-fn held_at_start(
+pub fn held_at_start(
     alloc: Global,
     window: &Window,
     thread: u32,

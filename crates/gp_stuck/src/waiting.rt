@@ -1,5 +1,9 @@
-ghost use Rattle.std.specs.Prelude.{◌≡◌, Contains, IfOk};
+ghost use Rattle.std.specs.Prelude.{◌≡◌, ℕ, List, Some, true, Contains, IfOk};
 ghost use Rattle.std.specs.List.{flat_map};
+ghost use Rattle.gp_trace.specs.declared.lock_use.LockMode.{LockMode};
+ghost use Rattle.gp_window.specs.declared.schedule.EventId.{EventId};
+ghost use Rattle.gp_window.specs.Modes.{mode_before};
+ghost use Rattle.gp_stuck.specs.Cycle.{may_be_next};
 ghost use Rattle.gp_stuck.specs.Noted.{holders_of};
 ghost use Rattle.gp_stuck.specs.Search.{cycles_from, found_cycles, takers_of};
 
@@ -60,6 +64,7 @@ impl<'a> Waiting<'a> {
     pub fn starts(&self) -> &[EventId]
         ensures found { flat_map (cycles_from self.now (takers_of self.now)) result.now ≡ found_cycles self.now }
         ensures among { (id : _) → Contains result.now id → Contains (takers_of self.now) id }
+        ensures all { (id : EventId) (lock : List ℕ) (mode : LockMode) → Contains (takers_of self.now) id → may_be_next self.now id ≡ true → mode_before self.now id lock ≡ Some mode → Contains result.now id }
     {
         self.starts.as_slice()
     }

@@ -50,7 +50,9 @@ pub fn read_properties(alloc: Global, bytes: &[u8]) -> Result<Row<Property>, Pro
 {
     reads_exactly();
     let lines = read_lines(alloc, bytes)?;
-    properties_from(alloc, end_line(bytes), lines.as_slice())
+    let properties = properties_from(alloc, end_line(bytes), lines.as_slice());
+    drop(lines);
+    properties
 }
 
 fn properties_from(alloc: Global, last: u32, lines: &[Line]) -> Result<Row<Property>, PropertyFault>
@@ -76,7 +78,10 @@ fn finish(last: u32, reading: Reading) -> Result<Row<Property>, PropertyFault>
     ensures { result ≡ at_end last reading.done reading.draft }
 {
     let Reading { done, draft } = reading;
-    if draft.is_some() || done.is_empty() {
+    let is_due = draft.is_some() || done.is_empty();
+    drop(draft);
+    if is_due {
+        drop(done);
         return Err(PropertyFault::Empty(last));
     }
     Ok(done)
@@ -87,6 +92,7 @@ fn next_line(alloc: Global, reading: Reading, line: &Line) -> Result<Reading, Pr
 {
     let words = line.words.as_slice();
     if is_bare_pattern(words) {
+        drop(reading);
         return Err(PropertyFault::Empty(line.number));
     }
     let Reading { done, draft } = reading;
@@ -125,12 +131,15 @@ fn begin(
     ensures { result ≡ begun done number (property_name_of words.now) }
 {
     let Some(name) = property_name_of(words) else {
+        drop(done);
         return Err(PropertyFault::BadWord(number));
     };
     if done.len() >= MOST_PROPERTIES {
+        drop(done);
         return Err(PropertyFault::BadWord(number));
     }
     if is_taken(done.as_slice(), &name) {
+        drop(done);
         return Err(PropertyFault::RepeatedName(number));
     }
     let events = Row::new(alloc);
@@ -155,15 +164,20 @@ fn line_within(
 ) -> Result<Reading, PropertyFault>
     ensures { result ≢ Err PropertyFault.Memory → result ≡ line_within done draft number words.now }
 {
-    let (first, rest) = words.split_first().ok_or(PropertyFault::BadWord(number))?;
+    let Some((first, rest)) = words.split_first() else {
+        drop((done, draft));
+        return Err(PropertyFault::BadWord(number));
+    };
     let keyword = first.as_bytes();
     if keyword == b"property".as_slice() {
+        drop((done, draft));
         Err(PropertyFault::Empty(number))
     } else if keyword == b"event".as_slice() {
         add_event(alloc, done, draft, number, rest)
     } else if keyword == b"pattern".as_slice() {
         add_pattern(alloc, done, draft, number, rest)
     } else {
+        drop((done, draft));
         Err(PropertyFault::BadWord(number))
     }
 }
@@ -178,21 +192,36 @@ fn add_event(
     ensures { result ≢ Err PropertyFault.Memory → result ≡ with_event done draft number (definition_of words.now) }
 {
     one_spelling();
-    let Some(event) = definition_of(alloc, words)? else {
-        return Err(PropertyFault::BadWord(number));
+    let event = match definition_of(alloc, words) {
+        Ok(Some(event)) => event,
+        Ok(None) => {
+            drop((done, draft));
+            return Err(PropertyFault::BadWord(number));
+        }
+        Err(error) => {
+            drop((done, draft));
+            return Err(PropertyFault::from(error));
+        }
     };
     let Draft { name, mut events } = draft;
     if events.len() >= MOST_EVENTS {
+        drop((done, events, event));
         return Err(PropertyFault::BadWord(number));
     }
     if is_defined(events.as_slice(), &event.name) {
+        drop((done, events, event));
         return Err(PropertyFault::RepeatedName(number));
     }
-    events.push(event)?;
-    Ok(Reading {
-        done,
-        draft: Some(Draft { name, events }),
-    })
+    match events.push(event) {
+        Ok(()) => Ok(Reading {
+            done,
+            draft: Some(Draft { name, events }),
+        }),
+        Err(error) => {
+            drop((done, events));
+            Err(PropertyFault::from(error))
+        }
+    }
 }
 
 fn add_pattern(
@@ -204,11 +233,26 @@ fn add_pattern(
 ) -> Result<Reading, PropertyFault>
     ensures { result ≢ Err PropertyFault.Memory → result ≡ with_pattern done draft number (pattern_of words.now) }
 {
-    let Some(pattern) = pattern_of(alloc, words)? else {
-        return Err(PropertyFault::BadWord(number));
+    let pattern = match pattern_of(alloc, words) {
+        Ok(Some(pattern)) => pattern,
+        Ok(None) => {
+            drop((done, draft));
+            return Err(PropertyFault::BadWord(number));
+        }
+        Err(error) => {
+            drop((done, draft));
+            return Err(PropertyFault::from(error));
+        }
     };
     let Draft { name, events } = draft;
-    check_pattern(alloc, number, events.as_slice(), pattern.as_slice())?;
-    done.push(Property::new(name, events, pattern))?;
-    Ok(Reading { done, draft: None })
+    match check_pattern(alloc, number, events.as_slice(), pattern.as_slice()) {
+        Ok(()) => {
+            done.push(Property::new(name, events, pattern))?;
+            Ok(Reading { done, draft: None })
+        }
+        Err(fault) => {
+            drop((done, events, pattern));
+            Err(fault)
+        }
+    }
 }

@@ -8,7 +8,7 @@ use Rattle.gp_property.proofs.reading.add_pattern.Goals as goal
 
 pub new-requires : goal.new-requires
 new-requires c =
-    let read : pattern_of c.args.words.now ≡ Some c.in-Some.pattern = sym c.in_ok-pattern.ensures ∙ c.in-Some.is in
-    let checked : checked_pattern c.args.number c.draft.inside.events c.in-Some.pattern ≡ Ok tt =
-    rw (c.as_slice.ensures, c.as_slice-2.ensures) at (sym (c.in_ok-check_pattern.ensures (λ memory. (cc)))) in
-    pattern_added c.draft.inside.name c.draft.inside.events c.in-Some.pattern c.args.words.now c.args.number c.draft.invariant read checked
+    let read : pattern_of c.args.words.now ≡ Some c.in-Ok-Some.pattern = sym c.in-Ok-Some.ensures ∙ c.in-Ok-Some.field-0-is in
+    let checked : checked_pattern c.args.number c.draft.inside.events c.in-Ok-Some.pattern ≡ Ok tt =
+    rw (c.as_slice.ensures, c.as_slice-2.ensures) at (sym (c.in-Ok.ensures (λ memory. (cc)))) in
+    pattern_added c.draft.inside.name c.draft.inside.events c.in-Ok-Some.pattern c.args.words.now c.args.number c.draft.invariant read checked

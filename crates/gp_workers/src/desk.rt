@@ -1,4 +1,4 @@
-ghost use Rattle.std.specs.Prelude.{◌≡◌, ◌≢◌, ◌+◌, ◌-◌, ◌<◌, ◌≤◌, ◌++◌, ◌∷◌, [], All, IfOk, OnErr, OnOk, length, map, IfSome};
+ghost use Rattle.std.specs.Prelude.{◌≡◌, ◌≢◌, ◌+◌, ◌-◌, ◌<◌, ◌≤◌, ◌++◌, ◌∷◌, [], All, IfOk, OnErr, OnOk, length, map, replicate, IfSome};
 ghost use Rattle.gp_derivation.specs.Exchange.{IsGood};
 ghost use Rattle.gp_workers.specs.Desk.{IsDesk, IsLastOffer, PushesBelow, taken_of, told_by, IsCopyOf, IsOutgoing, KeepsRest, Notes, OffersOne, SameWorker, TakesOne};
 
@@ -119,15 +119,27 @@ fn marked(
 ) -> Result<Outgoing, AllocError>
     ensures { IfOk result (IsOutgoing entry mark others clause) }
 {
-    let mut sent = Vec::new(alloc);
-    for _ in 0..others {
-        sent.push(mark)?;
+    match marks_of(alloc, mark, others) {
+        Ok(sent) => Ok(Outgoing {
+            offered: Offered { entry, sent },
+            clause,
+        }),
+        Err(error) => {
+            drop(clause);
+            Err(error)
+        }
     }
-    let offered = Offered {
-        entry,
-        sent: Row::from_vec(sent),
-    };
-    Ok(Outgoing { offered, clause })
+}
+
+// So many marks.
+fn marks_of(alloc: Global, mark: Sent, count: usize) -> Result<Row<Sent>, AllocError>
+    ensures { IfOk result (λ marks. marks ≡ replicate count mark) }
+{
+    let mut marks = Vec::new(alloc);
+    for _ in 0..count {
+        marks.push(mark)?;
+    }
+    Ok(Row::from_vec(marks))
 }
 
 // So many copies of a shared clause.
@@ -150,11 +162,18 @@ fn copies_of(
 fn copy_of(shared: &SharedClause) -> Result<SharedClause, AllocError>
     ensures { IfOk result (IsCopyOf shared.now) }
 {
-    Ok(SharedClause {
-        sender: shared.sender,
-        clause: shared.clause.clone()?,
-        certificate: Arc::try_clone(&shared.certificate)?,
-    })
+    let clause = shared.clause.clone()?;
+    match Arc::try_clone(&shared.certificate) {
+        Ok(certificate) => Ok(SharedClause {
+            sender: shared.sender,
+            clause,
+            certificate,
+        }),
+        Err(error) => {
+            drop(clause);
+            Err(error)
+        }
+    }
 }
 
 impl<'a> Desk<'a> {

@@ -1,4 +1,5 @@
 ghost use Rattle.std.specs.Prelude.{◌≡◌, ◌+◌, ◌-◌, ◌<◌, ◌≤◌, ◌++◌, ◌∷◌, [], ℕ, Some, IfOk, OnOk, length, slice_get, true};
+ghost use Rattle.std.specs.List.{range_with_len};
 ghost use Rattle.gp_workers.specs.Post.{IsPost};
 ghost use Rattle.gp_workers.specs.Sharing.{others};
 ghost use Rattle.gp_workers.specs.SharedCrew.{AreHired, AreSharingJobs, IsRow, Drains, JoinsAt};
@@ -91,13 +92,20 @@ pub(crate) fn others_of(alloc: Global, workers: u32, taker: u32) -> Result<Vec<u
     ensures { IfOk result (λ numbers. numbers.items ≡ others workers taker) }
 {
     let mut numbers = Vec::new(alloc);
-    for number in 1..taker + 1 {
-        numbers.push(number)?;
-    }
-    for number in taker + 2..workers + 1 {
-        numbers.push(number)?;
-    }
+    add_range(&mut numbers, 1, taker + 1)?;
+    add_range(&mut numbers, taker + 2, workers + 1)?;
     Ok(numbers)
+}
+
+// Adds the numbers from one on that are below another.
+fn add_range(numbers: &mut Vec<u32>, from: u32, to: u32) -> Result<(), AllocError>
+    requires { from ≤ to }
+    ensures { OnOk result (numbers.new.items ≡ numbers.old.items ++ range_with_len from (to - from)) }
+{
+    for number in from..to {
+        numbers.push(number)?;
+    }
+    Ok(())
 }
 
 // Each worker gets its pass of one inbox more.

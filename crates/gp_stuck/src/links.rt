@@ -17,7 +17,10 @@ use gp_trace::{LockMode, LockUse};
 use gp_window::{Window, windows_are_formed};
 use std::alloc::{AllocError, Global};
 
-/// Each way in which an event of a window waits, once.
+/// How many links are looked at before one more is added: so one is added again where as many others came in between.
+const LOOKED_AT: usize = 256;
+
+/// Each way in which an event of a window waits, at least once.
 pub fn links_of(alloc: Global, waiting: &Waiting) -> Result<Row<Link>, AllocError>
     ensures { IfOk result (λ links. AreLinked waiting.now (takers_of waiting.now) links) }
 {
@@ -86,12 +89,13 @@ fn link_held(
     Ok(())
 }
 
-/// Adds a link, unless it is there.
+/// Adds a link, unless it is one of the last.
 fn add_link(links: &mut Row<Link>, link: Link) -> Result<(), AllocError>
     ensures kept { OnOk result ((one : Link) → Contains links.old one → Contains links.new one) }
     ensures there { OnOk result (Contains links.new link) }
 {
-    if has_link(links.as_slice(), &link) {
+    let from = links.len().saturating_sub(LOOKED_AT);
+    if has_link(&links.as_slice()[from..], &link) {
         return Ok(());
     }
     links.push(link)

@@ -11,7 +11,7 @@
 
 enum { MOST_THREADS = 64, LONGEST_WORD = 4096, RECORD_BYTES = 32, HEAD_RECORDS = 32, GRANULE = 8 };
 
-#define LOG_MAGIC "gplog 2"
+#define LOG_MAGIC "gplog 3"
 
 enum kind {
     NOTHING, /* a place in the log that is passed over */
@@ -63,6 +63,58 @@ enum { READS = 1, WRITES = 2, CONTINUES = 4, UNSETTLED = 8, OLD_UNKNOWN = 16 };
 /* What a thread waits for at a stop. */
 enum waits { FOR_LOCK, FOR_CONDITION, FOR_SEMAPHORE, FOR_THREAD, FOR_BARRIER, FOR_FUTEX, FOR_TIME };
 
+/* ---- A schedule that is to be confirmed ---- */
+
+/* Where a record comes from, in a file of its own beside the log: the entry of a record has the record's number. */
+struct step {
+    uint64_t caller;      /* the place in the program behind the call or the hook that made it */
+    uint64_t number : 48; /* which of the thread's calls and hooks this was, from 1 */
+    uint64_t phase : 8;   /* of a call that waits in between: behind how many such places */
+    uint64_t merged : 8;  /* other writes of its segment are in it too */
+};
+
+/* A script: a head, the moves of all threads in the order in which they are to come, and the deeds of each. A thread does
+ * no move before its time, and stands at a STOP to the script's end; an ATTEMPT is to find its lock held. */
+#define SCRIPT_MAGIC "gpscript"
+
+enum move_kind { MOVE, ATTEMPT, STOP };
+enum { FIXED = 1, EXACT = 2, READS_OLD = 4 }; /* of a deed: at this very address, leaves `new`, finds `old` */
+enum { MOST_DEEDS = 256, MOST_CYCLE = 4 };
+
+struct script {
+    char magic[8];
+    uint64_t mark; /* the last record before the window: the script begins behind it */
+    uint64_t seed, limit; /* of what comes behind the script, where `has_seed`; in seconds without a move */
+    uint32_t move_count, deed_count, has_seed, pause; /* `pause`: at this move the process stops itself */
+};
+
+struct move {
+    uint8_t kind, thread, phase;
+    uint32_t first, count; /* its deeds */
+    uint64_t step, caller;
+};
+
+struct deed {
+    uint8_t kind, mask, flags;
+    uint32_t more;
+    uint64_t address, old, new;
+};
+
+/* Why a run left its schedule. */
+enum left { LEFT_NOT, LEFT_ELSEWHERE, LEFT_PAST, LEFT_VALUE, LEFT_UNDONE, LEFT_WAITING, LEFT_OUTSIDE, LEFT_ENDED, LEFT_BUSY,
+            LEFT_TOOK };
+
+/* How far a run came in its script. */
+struct follow {
+    uint32_t begun, done, over; /* moves; whether all are done */
+    uint32_t left, left_move, left_thread, left_wait, left_holder, left_call;
+    uint64_t left_at, left_caller, left_place, left_found;
+    uint32_t freed, waiters; /* reads of memory that was freed and found another value; threads that wait in a cycle */
+    uint32_t waiter[MOST_CYCLE], holder[MOST_CYCLE];
+};
+
+/* ---- Records ---- */
+
 struct record {
     uint8_t kind, thread;
     uint8_t mask; /* of an access: which bytes of the granule it has to do with */
@@ -79,8 +131,11 @@ struct log_head {
     uint32_t outside; /* 1 where some thread has left the game, so that the run may not repeat by its seed */
     uint64_t private_accesses, repeated_reads, early_accesses, paused_accesses, inner_accesses, stray_accesses;
     uint32_t call_of[MOST_THREADS + 1]; /* the call in which each thread is, a word, or 0 */
+    uint32_t process;
+    struct follow follow;
 };
 
+_Static_assert(sizeof(struct step) == RECORD_BYTES / 2, "a step has half of that");
 _Static_assert(sizeof(struct record) == RECORD_BYTES, "a record has 32 bytes");
 _Static_assert(sizeof(struct log_head) <= HEAD_RECORDS * RECORD_BYTES, "the head fits");
 

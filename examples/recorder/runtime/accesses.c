@@ -36,6 +36,7 @@ void settle_all(struct thread *me) {
     for (unsigned i = 0; i < me->pending_count; i++) {
         struct cell *cell = me->pending[i].cell;
         cell->value = load(me->pending[i].granule);
+        if (following) wrote(me, me->pending[i].granule, cell->value);
         if (!cell->shared || !cell->write_at) continue;
         records[cell->write_at].new = cell->value;
         records[cell->write_at].more &= ~(uint32_t)UNSETTLED;
@@ -83,6 +84,7 @@ static void widen(struct record *record, unsigned mask, unsigned cuts) {
     head->private_accesses++;
     record->mask |= (uint8_t)mask;
     record->cuts |= (uint8_t)cuts;
+    if (steps) steps[record - records].merged = 1;
 }
 
 static void log_read(struct thread *me, struct cell *cell, uintptr_t granule, unsigned mask, unsigned cuts) {
@@ -141,6 +143,7 @@ static bool is_known(const struct thread *me, const struct cell *cell, unsigned 
 
 static void read_piece(struct thread *me, struct piece piece) {
     struct cell *cell = cell_of(piece.granule);
+    if (following) do_deed(me, READ, piece.granule, piece.mask, load(piece.granule), 0);
     if (!is_known(me, cell, piece.mask)) {
         log_read(me, cell, piece.granule, piece.mask, piece.cuts);
     } else if (cell->shared) {
@@ -153,6 +156,8 @@ static void read_piece(struct thread *me, struct piece piece) {
 static struct cell *write_piece(struct thread *me, struct piece piece) {
     struct cell *cell = cell_of(piece.granule);
     bool known = cell->segment == me->segment && !cell->shared && !(piece.mask & ~(unsigned)cell->written);
+    if (following) do_deed(me, WRITE, piece.granule, piece.mask, 0, 0);
+    if (known && steps && cell->write_at) steps[cell->write_at].merged = 1;
     if (known) {
         head->private_accesses++;
     } else {
@@ -205,6 +210,7 @@ static bool repeats_load(const struct thread *me, const struct cell *cell, struc
 
 static void log_atomic(struct thread *me, struct piece piece, uint64_t old, unsigned flags) {
     struct cell *cell = cell_of(piece.granule);
+    if (following) do_deed(me, ATOMIC, piece.granule, piece.mask, old, flags);
     if (repeats_load(me, cell, piece, flags)) {
         head->repeated_reads++;
         return;
@@ -233,6 +239,7 @@ void note_atomic(struct thread *me, const volatile void *address, size_t size, c
 }
 
 void note_count(struct thread *me, const volatile void *object, uint64_t old, uint64_t new) {
+    if (following) do_deed(me, COUNT, (uint64_t)object, 0xff, old, 0);
     struct record *record = note(me, COUNT, object);
     record->old = old;
     record->new = new;
@@ -305,6 +312,12 @@ static inline __attribute__((always_inline)) void hook(const volatile void *addr
     }
     me->inside = 1;
     if (me->pending_count) settle_all(me);
+    begin_step(me, __builtin_return_address(0));
+    if (__builtin_expect(following, 0)) {
+        (write ? note_write : note_read)(me, address, size);
+        leave(me);
+        return;
+    }
     unsigned offset = (unsigned)((uintptr_t)address & (GRANULE - 1));
     struct cell *cell = NULL;
     if (recording && offset + size <= GRANULE) {
@@ -315,6 +328,7 @@ static inline __attribute__((always_inline)) void hook(const volatile void *addr
     if (__builtin_expect(!cell || !stays_private(me), 0)) {
         slow_hook(me, address, size, write);
     } else if (write) {
+        if (__builtin_expect(steps != NULL, 0)) steps[cell->write_at].merged = 1;
         await_write(me, cell, (uintptr_t)address - offset);
     }
     leave(me);

@@ -19,12 +19,14 @@ void __libc_free(void *block);
 
 static void *made(struct thread *me, void *block, size_t size) {
     if (block) append(me, BLOCK, block)->old = size;
+    if (block && following) block_made((uintptr_t)block, size);
     return block;
 }
 
 static void ended(struct thread *me, void *block, size_t size) {
     append(me, FREE, block)->old = size;
     forget_memory(me, (uintptr_t)block, size);
+    if (following) block_freed((uintptr_t)block, size);
 }
 
 #define MAKES(name, parameters, size, call) \

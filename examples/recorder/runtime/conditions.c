@@ -8,8 +8,10 @@ static int sleep_on(struct thread *me, pthread_cond_t *condition, pthread_mutex_
     int failed = give_back_mutex(me, mutex);
     if (failed) return failed;
     note(me, SLEEP, condition);
+    me->phase++;
     bool woken = wait_for(me, FOR_CONDITION, condition, deadline);
     note(me, woken ? WAKE : TIMEOUT, condition);
+    begin_phase(me);
     failed = take_mutex(me, mutex, NEVER);
     return failed || woken ? failed : ETIMEDOUT;
 }

@@ -98,6 +98,7 @@ static int arrive(struct thread *me, pthread_barrier_t *place) {
     note_count(me, place, barrier->arrived, barrier->arrived + 1);
     bool last = ++barrier->arrived == enough;
     if (last) wake_waiting(FOR_BARRIER, place, UINT_MAX);
+    begin_phase(me);
     while (barrier->arrived < enough) wait_for(me, FOR_BARRIER, place, NEVER);
     note_count(me, place, barrier->arrived, barrier->arrived);
     return last ? PTHREAD_BARRIER_SERIAL_THREAD : 0;

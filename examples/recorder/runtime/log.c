@@ -15,11 +15,13 @@ enum { MOST_WORDS = 1 << 14 };
 enum { HIGH_DESCRIPTOR = 900 };
 enum { NOWHERE = HEAD_RECORDS - 1 }; /* a place in the head for what comes after the log is closed */
 
+struct step *steps;
+
 bool recording, log_open;
 struct log_head *head;
 struct record *records;
 
-static int journal = -1;
+static int journal = -1, journal_of_steps = -1;
 static uint64_t room, most = UINT64_MAX; /* in records */
 static uint32_t segments;
 static struct {
@@ -29,28 +31,48 @@ static struct {
 
 /* ---- The file ---- */
 
+static bool add_steps(uint64_t size) {
+    if (posix_fallocate(journal_of_steps, (off_t)size, (off_t)LOG_PIECE / 2)) return false;
+    return mmap((char *)steps + size, LOG_PIECE / 2, PROT_READ | PROT_WRITE, MAP_SHARED | MAP_FIXED, journal_of_steps,
+                (off_t)size) != MAP_FAILED;
+}
+
 static bool add_piece(void) {
     uint64_t size = room * RECORD_BYTES;
     if (size + LOG_PIECE > LOG_ROOM || posix_fallocate(journal, (off_t)size, (off_t)LOG_PIECE)) return false;
     void *made = mmap((char *)records + size, LOG_PIECE, PROT_READ | PROT_WRITE, MAP_SHARED | MAP_FIXED, journal, (off_t)size);
-    if (made == MAP_FAILED) return false;
+    if (made == MAP_FAILED || (steps && !add_steps(size / 2))) return false;
     room += LOG_PIECE / RECORD_BYTES;
     return true;
 }
 
-bool open_log(const char *path) {
-    const char *limit = getenv("GPRECORD_LOG_MIB");
-    if (limit) most = strtoull(limit, NULL, 10) * (1048576 / RECORD_BYTES);
+/* The low descriptors are the program's. */
+static int open_high(const char *path) {
     int file = open(path, O_RDWR | O_CREAT | O_TRUNC | O_CLOEXEC, 0600);
-    journal = fcntl(file, F_DUPFD_CLOEXEC, HIGH_DESCRIPTOR); /* the low ones are the program's */
-    if (journal >= 0) close(file);
-    if (journal < 0) journal = file;
-    records = mmap(NULL, LOG_ROOM, PROT_NONE, MAP_PRIVATE | MAP_ANONYMOUS | MAP_NORESERVE, -1, 0);
-    if (journal < 0 || records == MAP_FAILED || !add_piece()) return false;
+    int high = fcntl(file, F_DUPFD_CLOEXEC, HIGH_DESCRIPTOR);
+    if (high >= 0) close(file);
+    return high < 0 ? file : high;
+}
+
+/* Address space for the log and the steps, also where these are not wanted: so that all else lies where it lay. */
+static bool reserve(void) {
+    records = mmap(NULL, LOG_ROOM + LOG_ROOM / 2, PROT_NONE, MAP_PRIVATE | MAP_ANONYMOUS | MAP_NORESERVE, -1, 0);
+    if (records == MAP_FAILED) return false;
+    if (journal_of_steps >= 0) steps = (struct step *)((char *)records + LOG_ROOM);
+    return true;
+}
+
+bool open_log(const char *path) {
+    const char *limit = getenv("GPRECORD_LOG_MIB"), *wanted = getenv("GPRECORD_STEPS");
+    if (limit) most = strtoull(limit, NULL, 10) * (1048576 / RECORD_BYTES);
+    journal = open_high(path);
+    if (wanted) journal_of_steps = open_high(wanted);
+    if (journal < 0 || !reserve() || !add_piece()) return false;
     head = (struct log_head *)records;
     memcpy(head->magic, LOG_MAGIC, sizeof head->magic);
     head->used = HEAD_RECORDS;
     head->running = 1;
+    head->process = (uint32_t)getpid();
     return log_open = true;
 }
 
@@ -83,6 +105,8 @@ struct record *append(struct thread *me, enum kind kind, const volatile void *ad
     struct record *record = next_record();
     *record = (struct record){.kind = (uint8_t)kind, .thread = (uint8_t)me->number, .address = (uint64_t)address};
     me->last_record = (uint64_t)(record - records);
+    if (steps) steps[record - records] = (struct step){me->caller, me->steps, me->phase, 0};
+    if (following && kind >= DESCRIPTOR_OPENED) do_deed(me, kind, (uint64_t)address, 0xff, 0, 0);
     return record;
 }
 

@@ -89,6 +89,12 @@ struct thread {
     struct held held[MOST_HELD];
     int held_count;
     struct thread *next; /* in the list of the threads that are not joined */
+    uint64_t steps;       /* how many of its calls and hooks there were, with this one */
+    uintptr_t caller;     /* the place in the program behind it */
+    unsigned phase;       /* how many places it has passed in it at which it may have waited */
+    unsigned next_move;   /* of the script */
+    unsigned free_steps;  /* since it stood at a move */
+    bool stands, restless; /* it stands at a move; it has come to none for long */
 };
 
 /* The calling thread, where it is one of the game. */
@@ -99,12 +105,45 @@ extern __thread struct thread *self __attribute__((tls_model("initial-exec")));
 void settle_all(struct thread *me);
 void run_signals(struct thread *me);
 
+/* Whether there is a script that is not over; whether the run is in it. */
+extern bool scripted, following;
+extern uintptr_t foreign_low, foreign_size; /* where the C library lies, whose own calls are no steps of a thread */
+
+bool open_script(const char *path);
+void checkpoint(struct thread *me);
+void begin_wait(struct thread *me, enum waits kind, const volatile void *what);
+void end_of_thread(struct thread *me);
+void await_end_of_script(struct thread *me);
+struct thread *choose_by_script(bool patient);
+bool is_sooner(struct thread *one, struct thread *other);
+/* What the thread does: an access, or what a record of this kind says. */
+void do_deed(struct thread *me, enum kind kind, uint64_t address, unsigned mask, uint64_t old, uint32_t more);
+void wrote(struct thread *me, uint64_t granule, uint64_t value);
+void block_freed(uintptr_t address, size_t size);
+void block_made(uintptr_t address, size_t size);
+
+/* A call or a hook of the program begins. */
+static inline __attribute__((always_inline)) void begin_step(struct thread *me, void *caller) {
+    if (__builtin_expect((uintptr_t)caller - foreign_low < foreign_size, 0)) return;
+    me->steps++;
+    me->caller = (uintptr_t)caller;
+    me->phase = 0;
+    if (__builtin_expect(scripted, 0)) checkpoint(me);
+}
+
+/* Behind a place of a call at which it may wait. */
+static inline void begin_phase(struct thread *me) {
+    me->phase++;
+    if (scripted) checkpoint(me);
+}
+
 /* The calling thread, where its call is to be modelled: it is in the game, and not in the runtime's own code. */
-static inline struct thread *enter(void) {
+static inline __attribute__((always_inline)) struct thread *enter(void) {
     struct thread *me = self;
     if (!me || me->inside) return NULL;
     me->inside = 1;
     if (me->pending_count) settle_all(me);
+    begin_step(me, __builtin_return_address(0));
     return me;
 }
 
@@ -127,6 +166,16 @@ static inline void leave(struct thread *me) {
 
 extern unsigned switch_every;
 extern uint64_t game_clock;
+extern struct thread **live;
+extern unsigned live_count, outside_count;
+
+uint64_t real_clock(void);
+void seed_draws(uint64_t seed);
+struct thread *choose(void);
+void make_ready(struct thread *thread, bool timed_out);
+struct thread *earliest_sleeper(void);
+/* Hands the turn to whom `choose` names, and waits for it. */
+void pass_on(struct thread *me);
 
 void start_game(struct thread *first, uint64_t seed);
 void add_thread(struct thread *thread);
@@ -144,18 +193,20 @@ uint64_t deadline_in(const struct timespec *span);
 uint64_t deadline_at(clockid_t clock, const struct timespec *limit);
 
 static inline void turn_point(struct thread *me) {
+    if (__builtin_expect(following, 0)) return;
     game_clock += 1000;
     if (draw(switch_every) == 0) hand_over(me);
 }
 
 /* One at which the turn seldom goes: nobody else has to do with what the thread does there, or not yet. */
 static inline void seldom_turn_point(struct thread *me) {
+    if (__builtin_expect(following, 0)) return;
     game_clock += 1000;
     if (draw(16 * switch_every) == 0) hand_over(me);
 }
 
 /* The thread, as `enter`, behind a turn point. */
-static inline struct thread *enter_call(void) {
+static inline __attribute__((always_inline)) struct thread *enter_call(void) {
     struct thread *me = enter();
     if (me) turn_point(me);
     return me;
@@ -167,6 +218,9 @@ static inline struct thread *enter_call(void) {
 extern bool recording, log_open;
 extern struct log_head *head;
 extern struct record *records;
+
+/* Of each record where it comes from, where that is wanted. */
+extern struct step *steps;
 
 bool open_log(const char *path);
 void grow_log(void);

@@ -1,6 +1,7 @@
 /* Threads: the beginning of the run, start, end and join of each, and the end of the run. */
 #include <dlfcn.h>
 #include <limits.h>
+#include <link.h>
 #include <stdio.h>
 #include <stdlib.h>
 #include <string.h>
@@ -68,16 +69,33 @@ static void *run_thread(void *thread) {
     return me->function(me->argument);
 }
 
+/* Where the C library lies: it may call for memory when some thread is the first to print, or to ask for the time. */
+static int find_foreign_part(struct dl_phdr_info *module, UNUSED size_t size, void *address) {
+    for (unsigned i = 0; i < module->dlpi_phnum; i++) {
+        const ElfW(Phdr) *part = &module->dlpi_phdr[i];
+        uintptr_t low = module->dlpi_addr + part->p_vaddr;
+        if (part->p_type != PT_LOAD || !(part->p_flags & PF_X) || (uintptr_t)address - low >= part->p_memsz) continue;
+        foreign_low = low;
+        foreign_size = part->p_memsz;
+        return 1;
+    }
+    return 0;
+}
+
+static void find_foreign(void) { dl_iterate_phdr(find_foreign_part, (void *)REAL(fflush)); }
+
 void end_game(void) {
     close_log();
     self = NULL;
 }
 
 static void begin_run(const char *path) {
-    const char *seed = getenv("GPRECORD_SEED"), *every = getenv("GPRECORD_SWITCH");
+    const char *seed = getenv("GPRECORD_SEED"), *every = getenv("GPRECORD_SWITCH"), *script = getenv("GPRECORD_SCRIPT");
     if (every) switch_every = (unsigned)strtoul(every, NULL, 10);
     if (!switch_every) switch_every = 1;
     if (!open_log(path)) give_up("the log %s cannot be written", path);
+    if (script && !open_script(script)) give_up("the script %s cannot be read", script);
+    find_foreign();
     if (pthread_key_create(&at_end, end_thread)) give_up("there is no %s", "key for the end of threads");
     struct thread *me = new_thread();
     me->inside = 1;
@@ -105,6 +123,7 @@ __attribute__((constructor(101))) static void begin(void) {
 __attribute__((destructor(101))) static void finish(void) {
     struct thread *me = enter();
     if (!me) return;
+    if (following) await_end_of_script(me);
     log_modules();
     append(me, FINISHED, NULL);
     end_game();

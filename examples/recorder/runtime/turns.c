@@ -16,15 +16,16 @@
 #include "runtime.h"
 
 enum { MOST_LIVE = 1 << 16 };
-enum { MILLISECOND = 1000000 };
+enum { MILLISECOND = 1000000, TICK = 20000000 };
 
 __thread struct thread *self __attribute__((tls_model("initial-exec")));
 unsigned switch_every = 10;
 uint64_t game_clock;
 
+struct thread **live;
+unsigned live_count, outside_count;
+
 static uint64_t generator;
-static struct thread **live;
-static unsigned live_count, outside_count;
 static struct thread *running; /* NULL where all that live are blocked or outside */
 static uint64_t idle_since, idle_clock;
 
@@ -53,7 +54,7 @@ static void open_gate(void) {
 
 /* ---- The clock ---- */
 
-static uint64_t real_clock(void) {
+uint64_t real_clock(void) {
     struct timespec now;
     clock_gettime(CLOCK_MONOTONIC, &now);
     return (uint64_t)now.tv_sec * 1000000000 + (uint64_t)now.tv_nsec;
@@ -80,12 +81,14 @@ static void pass_idle_time(void) {
 
 /* ---- The choice ---- */
 
+void seed_draws(uint64_t seed) { generator = seed; }
+
 unsigned draw(unsigned below) {
     generator = generator * 6364136223846793005u + 1442695040888963407u;
     return (unsigned)(generator >> 33) % below;
 }
 
-static void make_ready(struct thread *thread, bool timed_out) {
+void make_ready(struct thread *thread, bool timed_out) {
     thread->wait.done = true;
     thread->wait.timed_out = timed_out;
     if (thread->state == BLOCKED) thread->state = READY;
@@ -96,7 +99,7 @@ static void wake_those_due(void) {
         if (live[i]->state == BLOCKED && live[i]->wait.deadline <= game_clock) make_ready(live[i], true);
 }
 
-static struct thread *earliest_sleeper(void) {
+struct thread *earliest_sleeper(void) {
     struct thread *found = NULL;
     for (unsigned i = 0; i < live_count; i++) {
         struct thread *thread = live[i];
@@ -118,7 +121,8 @@ static struct thread *pick_ready(const struct thread *not_this) {
 }
 
 /* Who runs next; NULL where nobody can. */
-static struct thread *choose(void) {
+struct thread *choose(void) {
+    if (following) return choose_by_script(true);
     wake_those_due();
     struct thread *next = pick_ready(NULL);
     if (next || outside_count) return next;
@@ -170,17 +174,24 @@ static bool pass_turn(const struct thread *me, struct thread *next) {
     return next == me;
 }
 
-void hand_over(struct thread *me) {
-    if (live_count == 1) return;
+void pass_on(struct thread *me) {
     hold_gate();
     if (!pass_turn(me, choose())) await_turn(me);
 }
 
+void hand_over(struct thread *me) {
+    if (live_count == 1) return;
+    pass_on(me);
+    if (scripted) checkpoint(me);
+}
+
 void yield_turn(struct thread *me) {
+    if (following) return;
     hold_gate();
     wake_those_due();
     struct thread *other = pick_ready(me);
     if (!pass_turn(me, other ? other : me)) await_turn(me);
+    if (scripted) checkpoint(me);
 }
 
 /* Takes the turn where nobody has it. The gate is held. */
@@ -203,8 +214,23 @@ static bool stops_waiting(struct thread *me) {
     return taken;
 }
 
+/* In a script somebody has to look from time to time whether those that are outside still come back. */
+static bool goes_on_idle(struct thread *me) {
+    hold_gate();
+    bool is_idle = following && !running && real_clock() - idle_since >= TICK;
+    struct thread *next = is_idle ? choose_by_script(false) : NULL;
+    if (next) {
+        pass_turn(me, next);
+    } else {
+        open_gate();
+    }
+    return next == me;
+}
+
 /* How long a thread may wait in one go: to its deadline, where it has one. */
 static const struct timespec *patience(const struct thread *me, struct timespec *span) {
+    *span = (struct timespec){0, TICK};
+    if (following) return span;
     if (me->state != BLOCKED || me->wait.deadline == NEVER) return NULL;
     uint64_t left = me->wait.deadline > game_clock ? me->wait.deadline - game_clock : 0;
     if (left < MILLISECOND) left = MILLISECOND;
@@ -218,7 +244,8 @@ void await_turn(struct thread *me) {
         int told = atomic_exchange(&me->turn, 0);
         if (told & TURN) return;
         if (told & SIGNALLED && stops_waiting(me)) return;
-        if (futex(&me->turn, FUTEX_WAIT, 0, patience(me, &span)) == -ETIMEDOUT && stops_waiting(me)) return;
+        if (futex(&me->turn, FUTEX_WAIT, 0, patience(me, &span)) != -ETIMEDOUT) continue;
+        if (following ? goes_on_idle(me) : stops_waiting(me)) return;
     }
 }
 
@@ -226,6 +253,7 @@ void await_turn(struct thread *me) {
  * in between, where one comes. */
 bool wait_for(struct thread *me, enum waits kind, const volatile void *what, uint64_t deadline) {
     me->wait = (struct wait){kind, what, deadline, false, false};
+    if (following) begin_wait(me, kind, what);
     while (!me->wait.done) {
         me->state = BLOCKED;
         hold_gate();
@@ -234,6 +262,7 @@ bool wait_for(struct thread *me, enum waits kind, const volatile void *what, uin
         if (me->signals.count) run_signals(me);
         if (kind == FOR_LOCK || kind == FOR_THREAD) break;
     }
+    if (scripted) checkpoint(me);
     return !me->wait.timed_out;
 }
 
@@ -245,7 +274,8 @@ unsigned wake_waiting(enum waits kind, const volatile void *what, unsigned most)
         struct thread *found = NULL;
         for (unsigned i = 0; i < live_count; i++) {
             const struct wait *wait = &live[i]->wait;
-            if (!wait->done && wait->what == what && wait->kind == kind && draw(++count) == 0) found = live[i];
+            if (wait->done || wait->what != what || wait->kind != kind) continue;
+            if (following ? is_sooner(live[i], found) : draw(++count) == 0) found = live[i];
         }
         if (!found) break;
         make_ready(found, false);
@@ -275,6 +305,7 @@ void come_back(struct thread *me) {
     bool taken = take_free_turn(me);
     open_gate();
     if (!taken) await_turn(me);
+    if (scripted) checkpoint(me);
     if (me->number <= MOST_THREADS) head->call_of[me->number] = 0;
 }
 
@@ -306,6 +337,7 @@ void remove_thread(struct thread *thread) {
 
 /* The thread has ended, and hands its turn over for good. */
 void finish_turn(struct thread *me) {
+    if (scripted) end_of_thread(me);
     remove_thread(me);
     hold_gate();
     pass_turn(me, live_count ? choose() : NULL);

@@ -191,7 +191,8 @@ static struct part part_of(const struct record *record, uint32_t *place, unsigne
     int64_t old = number_of(record->old, begin, size), new = number_of(record->new, begin, size);
     if (!*place) *place = meet_cell(record, begin, size, 0) + 1;
     if (begins_variable(record, *place - 1, old)) *place = meet_cell(record, begin, size, cells[*place - 1].generation + 1) + 1;
-    struct part part = {*place - 1, old, is_write(record) ? new : old, stretches[*place - 1] != stretch};
+    uint8_t mask = (uint8_t)(((1u << size) - 1) << begin);
+    struct part part = {*place - 1, old, is_write(record) ? new : old, mask, stretches[*place - 1] != stretch};
     if (collecting) collect(record, part, old_known);
     if (!old_known) part.old = part.fresh ? 0 : now[part.cell];
     stretches[part.cell] = stretch;

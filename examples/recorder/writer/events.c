@@ -8,6 +8,7 @@
 enum { MOST_LIST = 1 << 23, MOST_TOLD = 40 };
 
 static struct events events;
+static uint64_t at_record; /* the record of which events are being made */
 
 bool is_event(const struct event *event) { return event->kind != AN_EXIT && event->kind < A_SET; }
 
@@ -16,7 +17,8 @@ static void add(unsigned thread, enum event_kind kind, uint32_t name, int64_t va
         events.surplus++;
         return;
     }
-    struct event event = {.kind = (uint8_t)kind, .thread = (uint8_t)thread, .name = name, .value = value};
+    struct event event = {.kind = (uint8_t)kind, .thread = (uint8_t)thread, .name = name, .value = value,
+                          .record = at_record};
     ADD(events.list, events.count, event);
 }
 
@@ -105,7 +107,9 @@ static void add_parts(unsigned thread, const struct access *access, bool written
     for (unsigned i = 0; i < access->count; i++) {
         const struct part *part = &access->parts[i];
         if (!cell_at(part->cell)->kept) continue;
+        uint64_t before = events.count;
         add(thread, written ? A_WRITE : A_READ, cell_name(part->cell), written ? part->new : part->old);
+        if (events.count > before) events.list[before].mask = part->mask;
     }
 }
 
@@ -290,6 +294,7 @@ struct events make_events(const struct log *log) {
     events.threads = 1;
     const struct record *end = log->records + log->count;
     for (const struct record *record = log->records + HEAD_RECORDS; record < end; record = behind(log, record)) {
+        at_record = (uint64_t)(record - log->records);
         if (record->kind == FREE) add_free(record);
         if (record->kind == PAUSED) add(0, A_PAUSE, 0, 0);
         if (record->kind == RESUMED) add(0, A_STRETCH, 0, 0);

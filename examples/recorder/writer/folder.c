@@ -141,7 +141,9 @@ static void close_file(FILE *file, const char *name) {
 static bool is_old(const char *name) {
     unsigned number;
     int end = 0;
-    if (!strcmp(name, "schedule") || !strcmp(name, "report")) return true;
+    static const char *const names[] = {"schedule", "report", "run", "confirmed"};
+    for (size_t i = 0; i < sizeof names / sizeof *names; i++)
+        if (!strcmp(name, names[i])) return true;
     return sscanf(name, "t%u.trace%n", &number, &end) == 1 && end && !name[end];
 }
 
@@ -158,13 +160,28 @@ static void clear_folder(const char *folder) {
     closedir(names);
 }
 
-static void copy_file(const char *from, const char *folder, const char *name) {
+static void copy_to(FILE *file, const char *from) {
     char bytes[4096];
-    FILE *source = fopen(from, "r"), *file = open_file(folder, name);
+    FILE *source = fopen(from, "r");
     if (!source) fail(STATUS_WORDS, "there is no file %s", from);
     for (size_t got; (got = fread(bytes, 1, sizeof bytes, source));) fwrite(bytes, 1, got, file);
     fclose(source);
-    close_file(file, name);
+}
+
+/* The file of properties that is given, and behind it those of the questions that are asked, by their names. */
+static void write_props(const struct words *words) {
+    if (!words->props && !words->asked) return;
+    FILE *file = open_file(words->folder, "props");
+    if (words->props) copy_to(file, words->props);
+    for (const char *name = words->asked; name && *name;) {
+        char path[4200];
+        int length = (int)strcspn(name, ",");
+        question_file(path, sizeof path, name, length);
+        fputc('\n', file);
+        copy_to(file, path);
+        name += length + (name[length] == ',');
+    }
+    close_file(file, "props");
 }
 
 static void write_schedule(const struct words *words, const struct events *events, const struct window *window) {
@@ -180,12 +197,42 @@ static void write_schedule(const struct words *words, const struct events *event
     close_file(file, "schedule");
 }
 
+static int head_lines(char *to, const struct folder *folder, const struct events *events) {
+    return snprintf(to, HEAD_ROOM, "gptrace %d\nthreads %u\nepochs %lu\nroots 1\n", folder->shared ? 2 : 1, events->threads,
+                    folder->windows);
+}
+
+/* Whether a file has just these bytes, in two parts. */
+static bool has_bytes(const char *folder, const char *name, const char *first, size_t length, const char *rest, size_t size) {
+    char path[4200];
+    snprintf(path, sizeof path, "%s/%s", folder, name);
+    FILE *file = fopen(path, "r");
+    char *found = array_of(length + size + 1, 1);
+    size_t got = file ? fread(found, 1, length + size + 1, file) : SIZE_MAX;
+    bool same = got == length + size && !memcmp(found, first, length) && (!size || !memcmp(found + length, rest, size));
+    if (file) fclose(file);
+    free(found);
+    return same;
+}
+
+const char *other_file(const struct words *words, const struct folder *folder, const struct events *events) {
+    static char name[32] = "manifest";
+    char lines[HEAD_ROOM];
+    size_t length = (size_t)head_lines(lines, folder, events);
+    if (!has_bytes(words->folder, name, lines, length, folder->texts[0], folder->sizes[0])) return name;
+    for (unsigned thread = 1; thread <= events->threads; thread++) {
+        snprintf(name, sizeof name, "t%u.trace", thread);
+        if (!has_bytes(words->folder, name, "", 0, folder->texts[thread], folder->sizes[thread])) return name;
+    }
+    return NULL;
+}
+
 void write_folder(const struct words *words, const struct folder *folder, const struct events *events,
                   const struct windows *windows) {
-    char name[32];
+    char name[32], lines[HEAD_ROOM];
     clear_folder(words->folder);
     FILE *file = open_file(words->folder, "manifest");
-    fprintf(file, "gptrace %d\nthreads %u\nepochs %lu\nroots 1\n", folder->shared ? 2 : 1, events->threads, folder->windows);
+    fwrite(lines, 1, (size_t)head_lines(lines, folder, events), file);
     fwrite(folder->texts[0], 1, folder->sizes[0], file);
     close_file(file, "manifest");
     for (unsigned thread = 1; thread <= events->threads; thread++) {
@@ -194,6 +241,9 @@ void write_folder(const struct words *words, const struct folder *folder, const 
         if (folder->sizes[thread]) fwrite(folder->texts[thread], 1, folder->sizes[thread], file);
         close_file(file, name);
     }
-    if (words->props) copy_file(words->props, words->folder, "props");
+    write_props(words);
+    file = open_file(words->folder, "run");
+    write_run(words, file);
+    close_file(file, "run");
     if (words->schedule) write_schedule(words, events, &windows->list[words->schedule - 1]);
 }

@@ -40,7 +40,7 @@ static bool tell_end(const struct log *log) {
     return stopped;
 }
 
-static void tell_ending(const struct log *log, struct ending ending) {
+void tell_ending(const struct log *log, struct ending ending) {
     if (tell_end(log)) return;
     if (ending.signal) {
         unsigned thread = log->head->running;
@@ -99,36 +99,49 @@ static void tell_all(const struct words *words, const struct log *log, const str
     if (head->outside) tell("threads made calls that wait outside of the program: this run may not repeat by its seed");
 }
 
-static int write_recording(const struct words *words, const struct log *log, struct ending ending) {
+struct recording make_recording(const struct words *words, const struct log *log) {
+    struct recording made = {0};
     find_cells(log, words->alike);
-    struct events events = make_events(log);
-    if (!keep_wanted(&events, words->from)) fail(STATUS_NOTHING, "there is no operation %s", words->from);
-    uint64_t folded = fold_loops(&events);
-    struct windows windows = cut_windows(&events, words->per);
-    if (words->last && words->last < windows.count) {
-        keep_last(&events, windows.list[windows.count - words->last].begin);
-        windows = cut_windows(&events, words->per);
+    struct events *events = &made.events;
+    *events = make_events(log);
+    for (uint64_t i = 0; words->steps && i < events->count; i++)
+        if (is_event(&events->list[i])) ADD(made.records, made.record_count, events->list[i].record);
+    if (!keep_wanted(events, words->from)) fail(STATUS_NOTHING, "there is no operation %s", words->from);
+    made.folded = fold_loops(events);
+    made.windows = cut_windows(events, words->per);
+    if (words->last && words->last < made.windows.count) {
+        keep_last(events, made.windows.list[made.windows.count - words->last].begin);
+        made.windows = cut_windows(events, words->per);
     }
-    struct folder folder = make_folder(&events, &windows);
-    if (!folder.windows) fail(STATUS_NOTHING, "the first window alone is longer than a recording may be");
-    if (!replays(&events, &windows, folder.windows)) return STATUS_NOTHING;
-    if (words->schedule > folder.windows) fail(STATUS_WORDS, "there is no window %lu", words->schedule);
-    write_folder(words, &folder, &events, &windows);
-    tell_all(words, log, &folder, &events, folded);
-    tell_unpaired(&events, &windows, folder.windows);
+    made.folder = make_folder(events, &made.windows);
+    if (!made.folder.windows) fail(STATUS_NOTHING, "the first window alone is longer than a recording may be");
+    return made;
+}
+
+static int write_recording(const struct words *words, const struct log *log, struct ending ending) {
+    struct recording made = make_recording(words, log);
+    if (!replays(&made.events, &made.windows, made.folder.windows)) return STATUS_NOTHING;
+    if (words->schedule > made.folder.windows) fail(STATUS_WORDS, "there is no window %lu", words->schedule);
+    write_folder(words, &made.folder, &made.events, &made.windows);
+    tell_all(words, log, &made.folder, &made.events, made.folded);
+    tell_unpaired(&made.events, &made.windows, made.folder.windows);
     tell_ending(log, ending);
     if (ending.signal || ending.status) return STATUS_NOT_WELL;
     return words->strict && is_anything_left() ? STATUS_LEFT_OUT : STATUS_RECORDED;
 }
 
-int main(int count, char **given) {
-    struct words words = read_words(count, given);
+void make_file(char *path, size_t room) {
     const char *top = getenv("TMPDIR");
-    char path[4096];
-    snprintf(path, sizeof path, "%s/gprecord.XXXXXX", top && *top ? top : "/tmp");
+    snprintf(path, room, "%s/gprecord.XXXXXX", top && *top ? top : "/tmp");
     int file = mkstemp(path);
     if (file < 0) fail(STATUS_NOTHING, "no log can be made at %s", path);
     close(file);
+}
+
+static int record(int count, char **given) {
+    struct words words = read_words(count, given);
+    char path[4096];
+    make_file(path, sizeof path);
     struct ending ending = run_program(&words, path);
     struct log log;
     bool mapped = map_log(path, &log);
@@ -136,4 +149,9 @@ int main(int count, char **given) {
     if (!mapped && !ending.started) return STATUS_NOTHING;
     if (!mapped) fail(STATUS_NOTHING, "%s has no recorder in it; build it by gprecord cc", words.program[0]);
     return write_recording(&words, &log, ending);
+}
+
+int main(int count, char **given) {
+    bool confirms = count > 1 && !strcmp(given[1], "confirm");
+    return (confirms ? confirm : record)(count - 1, given + 1);
 }

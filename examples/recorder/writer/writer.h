@@ -13,6 +13,7 @@
 #include "../format.h"
 
 enum { MOST_NAME = 32, MOST_EVENTS = 2048, MOST_WINDOWS = 4096, MOST_TRACE = 2097152, MOST_MANIFEST = 1048576 };
+/* Of a confirmation 0 to 3: confirmed, left the schedule, wrong words, nothing to confirm. */
 enum { STATUS_RECORDED, STATUS_NOT_WELL, STATUS_WORDS, STATUS_NOTHING, STATUS_LEFT_OUT };
 
 /* ---- Words of the command ---- */
@@ -21,11 +22,29 @@ struct words {
     uint64_t seed, last, schedule, seconds, alike;
     uint32_t per, switch_every, log_mib;
     bool strict;
-    const char *props, *from, *folder;
+    const char *props, *asked, *from, *folder;
+    char **program;
+    /* Of a run that is made to confirm a finding. */
+    const char *steps, *script;
+    uint64_t limit; /* it is ended where it does nothing for as many seconds, or 0 */
+    bool quiet;     /* what it prints is not shown */
+};
+
+/* Those of `gprecord confirm`. */
+struct question {
+    const char *folder, *report, *property;
+    uint64_t window, instance, seed, limit;
+    bool has_seed, debugger;
     char **program;
 };
 
 struct words read_words(int count, char **given);
+struct question read_question(int count, char **given);
+/* What the file `run` of a folder says of how it was recorded. */
+struct words read_run(const char *folder);
+/* Where the file of a question lies, whose name has so many letters. */
+void question_file(char *path, size_t room, const char *name, int length);
+void write_run(const struct words *words, FILE *file);
 
 /* ---- Telling, and memory that grows ---- */
 
@@ -101,6 +120,7 @@ struct cell {
 struct part {
     uint32_t cell;
     int64_t old, new;
+    uint8_t mask; /* which bytes of the granule it is */
     bool fresh; /* the first one in this stretch of the recording: what was found is what the stretch begins with */
 };
 
@@ -131,7 +151,9 @@ enum event_kind { AN_EXIT, A_READ, A_WRITE, AN_ACQUIRE, A_RELEASE, AN_RACQUIRE, 
 struct event {
     uint8_t kind, thread, objects;
     bool ends_unit;
+    uint8_t mask;  /* of an access: which bytes of its granule */
     uint32_t name; /* or the thread of a start or a join */
+    uint64_t record; /* the number in the log of the record that it came of, or 0 */
     int64_t value; /* or, of an operation, where its objects are */
 };
 
@@ -183,7 +205,66 @@ struct folder {
 struct folder make_folder(const struct events *events, const struct windows *windows);
 /* The first event that cannot happen in the recorded order, told; true where all can. */
 bool replays(const struct events *events, const struct windows *windows, uint64_t count);
+/* The first of its files that is another one than in the folder, or NULL. */
+const char *other_file(const struct words *words, const struct folder *folder, const struct events *events);
 void write_folder(const struct words *words, const struct folder *folder, const struct events *events,
                   const struct windows *windows);
+
+/* ---- A recording, as it is made of a log ---- */
+
+struct recording {
+    struct events events;
+    struct windows windows;
+    struct folder folder;
+    uint64_t folded;
+    uint64_t *records; /* those of which events came, also events that are not kept, as they follow each other */
+    size_t record_count;
+};
+
+struct recording make_recording(const struct words *words, const struct log *log);
+void tell_ending(const struct log *log, struct ending ending);
+/* Makes a file of its own for the time of the run; its path. */
+void make_file(char *path, size_t room);
+
+/* ---- A schedule that is to be confirmed ---- */
+
+enum { MOST_ATOMS = 6 };
+
+/* An event of a window, by its thread and its index there. */
+struct pick {
+    unsigned thread;
+    uint32_t index;
+};
+
+struct schedule {
+    struct pick *picks;
+    size_t count;
+    struct pick instance[MOST_ATOMS];
+    size_t atoms;
+};
+
+struct schedule read_schedule(const struct question *question);
+
+/* A move of a script, with the event that it is told by. */
+struct telling {
+    struct pick pick;
+    const struct event *event;
+};
+
+struct plan {
+    struct script head;
+    struct move *moves;
+    struct deed *deeds;
+    struct telling *tellings; /* of each move */
+    size_t move_count, deed_count;
+    bool is_cycle;
+    uint32_t moved; /* how many notifies come behind a sleep that the schedule has behind them */
+    const char *split; /* where the program does at once what the schedule has apart: which events */
+};
+
+struct plan make_plan(const struct log *log, const struct step *steps, const struct recording *recording,
+                      const struct question *question, const struct schedule *schedule);
+
+int confirm(int count, char **given);
 
 #endif

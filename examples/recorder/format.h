@@ -47,6 +47,7 @@ enum kind {
     FREE,
     STACK,
     MODULE, /* a file of the program with symbols, loaded at `address`: `more` is its path */
+    WIDENED, /* record `old` has got the bytes of `mask` as well, where it is wanted what each record comes from */
     WORD,   /* `more` bytes of text in the records that follow */
     /* The run. */
     PAUSED,  /* accesses are not recorded from here on */

@@ -80,11 +80,11 @@ static uint32_t log_piece(struct thread *me, enum kind kind, uintptr_t granule, 
     return (uint32_t)(record - records);
 }
 
-static void widen(struct record *record, unsigned mask, unsigned cuts) {
+static void widen(struct thread *me, struct record *record, unsigned mask, unsigned cuts) {
     head->private_accesses++;
+    note_merged(me, record, mask & ~(unsigned)record->mask);
     record->mask |= (uint8_t)mask;
     record->cuts |= (uint8_t)cuts;
-    if (steps) steps[record - records].merged = 1;
 }
 
 static void log_read(struct thread *me, struct cell *cell, uintptr_t granule, unsigned mask, unsigned cuts) {
@@ -92,7 +92,7 @@ static void log_read(struct thread *me, struct cell *cell, uintptr_t granule, un
     struct record *record = &records[cell->read_at];
     if (!cell->shared) mask &= ~(unsigned)cell->written; /* of its own writes of this segment the last value is there */
     if (!cell->shared && cell->read_at && !((record->old ^ load(granule)) & bytes_of(mask))) {
-        widen(record, mask, cuts);
+        widen(me, record, mask, cuts);
     } else {
         cell->read_at = log_piece(me, READ, granule, mask, cuts);
     }
@@ -107,7 +107,7 @@ static void log_write(struct thread *me, struct cell *cell, uintptr_t granule, u
     if (!cell->shared && cell->write_at) {
         uint64_t more = bytes_of(mask & ~(unsigned)record->mask);
         record->old = (record->old & ~more) | (load(granule) & more);
-        widen(record, mask, cuts);
+        widen(me, record, mask, cuts);
     } else {
         cell->write_at = log_piece(me, WRITE, granule, mask, cuts);
         records[cell->write_at].more = UNSETTLED;
@@ -157,7 +157,7 @@ static struct cell *write_piece(struct thread *me, struct piece piece) {
     struct cell *cell = cell_of(piece.granule);
     bool known = cell->segment == me->segment && !cell->shared && !(piece.mask & ~(unsigned)cell->written);
     if (following) do_deed(me, WRITE, piece.granule, piece.mask, 0, 0);
-    if (known && steps && cell->write_at) steps[cell->write_at].merged = 1;
+    if (known) note_merged(me, &records[cell->write_at], 0);
     if (known) {
         head->private_accesses++;
     } else {
@@ -328,7 +328,7 @@ static inline __attribute__((always_inline)) void hook(const volatile void *addr
     if (__builtin_expect(!cell || !stays_private(me), 0)) {
         slow_hook(me, address, size, write);
     } else if (write) {
-        if (__builtin_expect(steps != NULL, 0)) steps[cell->write_at].merged = 1;
+        if (__builtin_expect(steps != NULL, 0)) note_merged(me, &records[cell->write_at], 0);
         await_write(me, cell, (uintptr_t)address - offset);
     }
     leave(me);

@@ -110,6 +110,16 @@ struct record *append(struct thread *me, enum kind kind, const volatile void *ad
     return record;
 }
 
+void note_merged(struct thread *me, struct record *record, unsigned mask) {
+    if (!steps) return;
+    steps[record - records].merged = 1;
+    if (!mask) return;
+    struct record *made = next_record();
+    *made = (struct record){.kind = WIDENED, .thread = (uint8_t)me->number, .mask = (uint8_t)mask};
+    made->old = (uint64_t)(record - records);
+    steps[made - records] = (struct step){me->caller, me->steps, me->phase, 0};
+}
+
 uint32_t new_segment(void) { return ++segments; }
 
 struct record *note(struct thread *me, enum kind kind, const volatile void *address) {

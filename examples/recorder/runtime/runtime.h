@@ -228,6 +228,8 @@ void close_log(void);
 uint32_t word_of(const char *text);
 struct record *append(struct thread *me, enum kind kind, const volatile void *address);
 uint32_t new_segment(void);
+/* An access is put to the record of an earlier one, with these bytes that this does not have yet. */
+void note_merged(struct thread *me, struct record *record, unsigned mask);
 /* As `append`, and a new segment of the thread begins. */
 struct record *note(struct thread *me, enum kind kind, const volatile void *address);
 void log_stack(struct thread *me);

@@ -29,6 +29,7 @@ static struct {
     uint64_t address;
 } deeds_done[MOST_DEEDS];
 static uint64_t moved_at; /* when the last move began, by the real clock */
+static uint64_t begun_at; /* the first record behind that */
 static struct {
     uintptr_t address;
     size_t size;
@@ -159,6 +160,8 @@ static void finish_move(struct thread *me) {
         leave_script(me, LEFT_TOOK, place);
     } else if (undone && move->kind == MOVE) {
         leave_script(me, LEFT_UNDONE, place);
+        head->follow.left_caller = move->caller;
+        head->follow.left_at = begun_at;
     } else {
         mover = NULL;
         me->next_move++;
@@ -192,8 +195,9 @@ void begin_wait(struct thread *me, enum waits kind, const volatile void *what) {
 }
 
 static void stop_for_debugger(void) {
-    dprintf(STDERR_FILENO, "gprecord: process %d stands before the first event of the instance, in thread %u; attach a debugger to it, "
-                           "or let it go on by: kill -CONT %d\n",
+    dprintf(STDERR_FILENO,
+            "gprecord: process %d stands before the first event of the instance, in thread %u; attach a debugger to it, or let it "
+            "go on by: kill -CONT %d\n",
             getpid(), mover->number, getpid());
     kill(getpid(), SIGSTOP);
 }
@@ -300,6 +304,7 @@ static struct thread *begin_move(struct thread *thread) {
     mover = thread;
     thread->stands = false;
     moved_at = real_clock();
+    begun_at = head->used;
     memset(deeds_done, 0, sizeof deeds_done);
     head->follow.begun = place + 1;
     return thread;

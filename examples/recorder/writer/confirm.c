@@ -1,5 +1,6 @@
 /* Runs a program by the schedule of a finding: first as it was recorded, to see that it repeats, and to learn which call
  * or access each event is; then by the script that is made of this. */
+#include <signal.h>
 #include <stdlib.h>
 #include <string.h>
 #include <sys/mman.h>
@@ -22,14 +23,26 @@ static void remove_files(void) {
 
 /* ---- The two runs ---- */
 
-static const struct step *map_steps(void) {
+static int by_widened(const void *one, const void *other) {
+    const struct record *first = *(const struct record *const *)one, *second = *(const struct record *const *)other;
+    if (first->old != second->old) return first->old < second->old ? -1 : 1;
+    return first < second ? -1 : 1;
+}
+
+static struct origins find_origins(const struct log *log) {
+    struct origins origins = {0};
     struct stat status;
     int file = open(steps_path, O_RDONLY | O_CLOEXEC);
     if (file < 0 || fstat(file, &status)) fail(STATUS_NOTHING, "the steps of the run cannot be read");
     void *made = mmap(NULL, (size_t)status.st_size, PROT_READ, MAP_PRIVATE, file, 0);
     close(file);
     if (made == MAP_FAILED) fail(STATUS_NOTHING, "the steps of the run cannot be read");
-    return made;
+    origins.steps = made;
+    const struct record *end = log->records + log->count;
+    for (const struct record *record = log->records + HEAD_RECORDS; record < end; record = behind(log, record))
+        if (record->kind == WIDENED) ADD(origins.widened, origins.count, record);
+    if (origins.count) qsort(origins.widened, origins.count, sizeof *origins.widened, by_widened);
+    return origins;
 }
 
 static struct ending run(const struct words *words, struct log *log) {
@@ -40,7 +53,6 @@ static struct ending run(const struct words *words, struct log *log) {
 }
 
 static struct recording record_again(struct words words, struct log *log) {
-    words.steps = steps_path;
     words.quiet = true;
     run(&words, log);
     struct recording made = make_recording(&words, log);
@@ -91,22 +103,22 @@ static void print_place(const struct log *log, uint64_t caller) {
     if (lines) pclose(lines);
 }
 
-/* What a thread did first from a moment on. */
-static void print_deed(const struct log *log, uint32_t thread, uint64_t from) {
+/* What a thread did first from a moment on, where it did so at this place of the program. */
+static void print_deed(const struct log *log, const struct step *steps, const struct follow *follow) {
     static const char *const kinds[] = {[READ] = "a read of", [WRITE] = "a write of", [ATOMIC] = "an atomic access to",
         [COUNT] = "an atomic change of", [ACQUIRE] = "an acquire of", [RELEASE] = "a release of", [RACQUIRE] = "an acquire of",
         [RRELEASE] = "a release of", [START] = "a start of a thread", [JOIN] = "a join of a thread", [EXIT] = "its end",
         [SLEEP] = "a sleep on", [WAKE] = "a wake of", [TIMEOUT] = "the end of a time limit on", [NOTIFY] = "a notify of",
-        [NOTIFYALL] = "a notify of all on", [DESTROY] = "the end of", [OPERATION] = "an operation", [BEGIN] = "a region's beginning",
-        [END] = "a region's end", [FREE] = "the end of a block"};
+        [NOTIFYALL] = "a notify of all on", [DESTROY] = "the end of", [OPERATION] = "an operation",
+        [BEGIN] = "a region's beginning", [END] = "a region's end", [FREE] = "the end of a block"};
     const struct record *end = log->records + log->count, *found = NULL;
     for (const struct record *record = log->records + HEAD_RECORDS; record < end && !found; record = behind(log, record)) {
         uint64_t at = (uint64_t)(record - log->records);
         note_object(log, record);
         bool is_told = record->kind < sizeof kinds / sizeof *kinds && kinds[record->kind];
-        if (at >= from && record->thread == thread && is_told) found = record;
+        if (at >= follow->left_at && record->thread == follow->left_thread && is_told) found = record;
     }
-    if (!found) return;
+    if (!found || steps[found - log->records].caller != follow->left_caller) return;
     printf(": %s", kinds[found->kind]);
     bool has_name = found->kind < START || (found->kind >= SLEEP && found->kind <= DESTROY);
     uint64_t address = found->address + (found->kind <= ATOMIC && found->mask ? (unsigned)__builtin_ctz(found->mask) : 0);
@@ -114,11 +126,12 @@ static void print_deed(const struct log *log, uint32_t thread, uint64_t from) {
 }
 
 static void print_wait(const struct follow *follow) {
-    static const char *const kinds[] = {"a lock", "a condition", "a semaphore", "the end of a thread", "a barrier", "a futex", "time"};
+    static const char *const kinds[] = {"a lock", "a condition", "a semaphore", "the end of a thread", "a barrier", "a futex",
+                                        "time"};
+    enum name_use use = follow->left_wait == FOR_SEMAPHORE || follow->left_wait == FOR_BARRIER ? OF_NUMBER : OF_MEMORY;
+    bool has_name = follow->left_wait <= FOR_BARRIER && follow->left_wait != FOR_THREAD;
     printf("thread %u waits for %s", follow->left_thread, kinds[follow->left_wait]);
-    if (follow->left_wait <= FOR_BARRIER && follow->left_wait != FOR_THREAD)
-        printf(", %s", name_text(name_of_place(place_of(follow->left_place), 0,
-                                               follow->left_wait == FOR_LOCK || follow->left_wait == FOR_CONDITION ? OF_MEMORY : OF_NUMBER)));
+    if (has_name) printf(", %s", name_text(name_of_place(place_of(follow->left_place), 0, use)));
     if (follow->left_holder) printf(follow->left_wait == FOR_LOCK ? ", which thread %u holds" : ", %u", follow->left_holder);
 }
 
@@ -127,7 +140,7 @@ static int64_t value_of(uint64_t granule, uint8_t mask) {
     return (int64_t)(granule >> 8 * begin << 8 * (GRANULE - size)) >> 8 * (GRANULE - size);
 }
 
-static void print_why(const struct log *log, const struct plan *plan) {
+static void print_why(const struct log *log, const struct step *steps, const struct plan *plan) {
     const struct follow *follow = &log->head->follow;
     unsigned thread = follow->left_thread;
     switch (follow->left) {
@@ -135,7 +148,7 @@ static void print_why(const struct log *log, const struct plan *plan) {
     case LEFT_UNDONE:
     case LEFT_PAST:
         printf("thread %u did something else", thread);
-        print_deed(log, thread, follow->left_at);
+        print_deed(log, steps, follow);
         break;
     case LEFT_VALUE: {
         uint8_t mask = plan->tellings[follow->left_move].event->mask;
@@ -170,8 +183,8 @@ static void note_confirmed(const struct question *question, const char *verdict,
     snprintf(path, sizeof path, "%s/confirmed", question->folder);
     FILE *file = fopen(path, "a");
     if (!file) fail(STATUS_NOTHING, "%s cannot be written", path);
-    fprintf(file, "window %lu property %s instance %lu %s %s ended %s\n", question->window, question->property, question->instance,
-            verdict, date, ended);
+    fprintf(file, "window %lu property %s instance %lu %s %s ended %s\n", question->window, question->property,
+            question->instance, verdict, date, ended);
     fclose(file);
 }
 
@@ -185,14 +198,16 @@ static void print_cycle(const struct plan *plan, const struct follow *follow) {
     }
 }
 
-static int print_confirmed(const struct question *question, const struct plan *plan, const struct log *log, struct ending ending) {
+static int print_confirmed(const struct question *question, const struct plan *plan, const struct log *log,
+                           struct ending ending) {
     const struct follow *follow = &log->head->follow;
     const char *verdict = plan->is_cycle ? "stuck" : "confirmed";
     char ended[256];
     text_of_ending(ended, sizeof ended, log, ending);
     printf("%s\n", verdict);
     if (plan->is_cycle) print_cycle(plan, follow);
-    if (plan->moved) printf("a sleep came before %u notifies that the schedule has before it, at once with the release\n", plan->moved);
+    if (plan->moved)
+        printf("%u times a sleep came before a notify that the schedule has before it, at once with its release\n", plan->moved);
     if (follow->freed) printf("%u reads of memory that was freed found other values than recorded\n", follow->freed);
     printf("the program ended with %s\n", ended);
     fflush(stdout);
@@ -202,10 +217,11 @@ static int print_confirmed(const struct question *question, const struct plan *p
 }
 
 /* Where the run ended at the last move, by a signal or of itself, that move was begun, and nothing was wrong with it. */
-static bool is_confirmed(const struct plan *plan, const struct follow *follow) {
+static bool is_confirmed(const struct plan *plan, const struct follow *follow, struct ending ending) {
     uint32_t wanted = 0;
     while (wanted < plan->move_count && plan->moves[wanted].kind != STOP) wanted++;
-    return follow->over || (!follow->left && !plan->is_cycle && follow->begun >= wanted);
+    bool is_at_last = !follow->left && !plan->is_cycle && follow->begun >= wanted && ending.signal != SIGKILL;
+    return follow->over || is_at_last;
 }
 
 static int print_left(const struct plan *plan, const struct recording *recording, const struct log *log, struct ending ending) {
@@ -216,7 +232,7 @@ static int print_left(const struct plan *plan, const struct recording *recording
     printf("left the schedule at %u.%u\n", pick->thread, pick->index);
     print_told(plan, recording, move);
     if (follow->left) {
-        print_why(log, plan);
+        print_why(log, find_origins(log).steps, plan);
     } else {
         text_of_ending(ended, sizeof ended, log, ending);
         printf("the program ended before, with %s\n", ended);
@@ -231,6 +247,7 @@ int confirm(int count, char **given) {
     struct words words = read_run(question.folder);
     struct schedule schedule = read_schedule(&question);
     words.program = question.program;
+    words.steps = steps_path; /* also of the run by the script, so that both logs have the same records up to the mark */
     words.limit = 2 * question.limit;
     make_file(log_path, sizeof log_path);
     make_file(steps_path, sizeof steps_path);
@@ -238,9 +255,10 @@ int confirm(int count, char **given) {
     atexit(remove_files);
     struct log log;
     struct recording recording = record_again(words, &log);
-    const struct step *steps = map_steps();
+    struct origins origins = find_origins(&log);
     unlink(log_path);
-    struct plan plan = make_plan(&log, steps, &recording, &question, &schedule);
+    unlink(steps_path);
+    struct plan plan = make_plan(&log, &origins, &recording, &question, &schedule);
     if (plan.split) {
         printf("left the schedule at %s\n", plan.split);
         return LEFT;
@@ -250,6 +268,6 @@ int confirm(int count, char **given) {
     if (question.debugger) words.limit = 0;
     struct ending ending = run(&words, &log);
     forget_objects();
-    if (is_confirmed(&plan, &log.head->follow)) return print_confirmed(&question, &plan, &log, ending);
+    if (is_confirmed(&plan, &log.head->follow, ending)) return print_confirmed(&question, &plan, &log, ending);
     return print_left(&plan, &recording, &log, ending);
 }

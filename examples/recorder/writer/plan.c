@@ -8,7 +8,7 @@
 
 struct unit {
     unsigned thread;
-    uint64_t record; /* of its first event here */
+    uint64_t record; /* by which it is known of which call or access it comes */
     uint32_t *places; /* of its events in the schedule */
     size_t count;
     int64_t place;
@@ -17,11 +17,13 @@ struct unit {
 
 static const struct log *log;
 static const struct step *steps;
+static const struct origins *origins;
 static const struct recording *recording;
 static const struct schedule *schedule;
 
 static const struct event **own[MOST_THREADS + 1]; /* the events of each thread in the window */
 static size_t own_count[MOST_THREADS + 1], used[MOST_THREADS + 1]; /* how many of them are in the schedule */
+static uint64_t before[MOST_THREADS + 1]; /* the last record of each thread before the window */
 static const struct event **order;                              /* the events of the schedule */
 static bool *in_instance;
 static uint32_t *unit_of; /* of each place of the schedule */
@@ -33,6 +35,32 @@ static bool is_same_unit(uint64_t one, uint64_t other) {
            steps[one].phase == steps[other].phase;
 }
 
+static bool is_earlier(uint64_t one, uint64_t other) {
+    if (steps[one].number != steps[other].number) return steps[one].number < steps[other].number;
+    return steps[one].phase < steps[other].phase;
+}
+
+/* The record by which it is known of which access an event comes: bytes may have come to its own record later. */
+static uint64_t origin_of(const struct event *event) {
+    const struct record *found = NULL;
+    size_t low = 0, high = origins->count;
+    while (low < high) {
+        size_t middle = (low + high) / 2;
+        if (origins->widened[middle]->old < event->record) {
+            low = middle + 1;
+        } else {
+            high = middle;
+        }
+    }
+    uint8_t first = log->records[event->record].mask;
+    for (size_t i = low; i < origins->count && origins->widened[i]->old == event->record && event->mask; i++) {
+        const struct record *widened = origins->widened[i];
+        first &= (uint8_t)~widened->mask;
+        if (!found && widened->mask & event->mask) found = widened;
+    }
+    return found && !(first & event->mask) ? (uint64_t)(found - log->records) : event->record;
+}
+
 /* ---- The window ---- */
 
 static void find_own(uint64_t number) {
@@ -41,7 +69,7 @@ static void find_own(uint64_t number) {
     for (uint64_t at = window->begin; at < window->end; at++) {
         const struct event *event = &recording->events.list[at];
         if (!is_event(event)) continue;
-        if (!event->record) fail(STATUS_NOTHING, "window %lu stands for what is not recorded, and nothing of it can be confirmed", number);
+        if (!event->record) fail(STATUS_NOTHING, "window %lu stands for what is not recorded: nothing of it is confirmed", number);
         ADD(own[event->thread], own_count[event->thread], event);
     }
 }
@@ -52,37 +80,38 @@ static const struct event *event_of(struct pick pick) {
     return own[pick.thread][pick.index];
 }
 
-/* The last record of an event before the window. */
+/* The last record of an event before the window; each thread's last one is kept. */
 static uint64_t find_mark(void) {
     uint64_t first = UINT64_MAX, mark = 0;
     for (unsigned thread = 1; thread <= MOST_THREADS; thread++)
         if (own_count[thread] && own[thread][0]->record < first) first = own[thread][0]->record;
-    for (size_t i = 0; i < recording->record_count && recording->records[i] < first; i++) mark = recording->records[i];
+    for (size_t i = 0; i < recording->record_count && recording->records[i] < first; i++) {
+        mark = recording->records[i];
+        before[log->records[mark].thread] = mark;
+    }
     return mark;
 }
 
-static bool begins_before(uint64_t record, uint64_t mark) {
-    for (size_t i = recording->record_count; i-- > 0;) {
-        uint64_t other = recording->records[i];
-        if (other <= mark && log->records[other].thread == log->records[record].thread) return is_same_unit(record, other);
-    }
-    return false;
+static bool begins_before(uint64_t record) {
+    uint64_t last = before[log->records[record].thread];
+    return last && is_same_unit(record, last);
 }
 
 /* ---- Units ---- */
 
 static bool is_pick(struct pick one, struct pick other) { return one.thread == other.thread && one.index == other.index; }
 
-static void find_units(uint64_t mark) {
+static void find_units(void) {
     uint32_t last[MOST_THREADS + 1] = {0}; /* the last unit of each thread, with 1 added */
     for (uint32_t i = 0; i < schedule->count; i++) {
         unsigned thread = schedule->picks[i].thread;
         order[i] = event_of(schedule->picks[i]);
         used[thread]++;
         for (size_t k = 0; k < schedule->atoms; k++) in_instance[i] |= is_pick(schedule->picks[i], schedule->instance[k]);
-        if (!last[thread] || !is_same_unit(order[i]->record, units[last[thread] - 1].record)) {
-            bool early = begins_before(order[i]->record, mark);
-            ADD(units, unit_count, (struct unit){.thread = thread, .record = order[i]->record, .early = early});
+        uint64_t origin = origin_of(order[i]);
+        if (!last[thread] || !is_same_unit(origin, units[last[thread] - 1].record)) {
+            bool early = begins_before(origin);
+            ADD(units, unit_count, (struct unit){.thread = thread, .record = origin, .early = early});
             last[thread] = (uint32_t)unit_count;
         }
         struct unit *unit = &units[last[thread] - 1];
@@ -113,22 +142,25 @@ static bool is_operation(const struct event *event, const char *name) {
     return event->kind == AN_OPERATION && event->name == name_of_word(name);
 }
 
-/* A sleep may come before a notify of the same condition that the schedule has before it: the wakes say who is woken. */
-static bool is_sleep_and_notify(const struct event *one, const struct event *other) {
-    return is_operation(one, "sleep") && (is_operation(other, "notify") || is_operation(other, "notifyall"));
+static bool is_notify(const struct event *event) { return is_operation(event, "notify") || is_operation(event, "notifyall"); }
+
+/* A sleep may come before what others do with the condition that the schedule has before it: the wakes say who is woken. */
+static bool may_sleep_before(const struct event *one, const struct event *other) {
+    return is_operation(one, "sleep") && (is_notify(other) || is_operation(other, "sleep") || is_operation(other, "wake"));
 }
 
 /* Whether it matters which of the two comes first. */
 static bool depend(uint32_t first, uint32_t second) {
     const struct event *one = order[first], *other = order[second];
-    if (one->thread == other->thread || (in_instance[first] && in_instance[second])) return true;
+    if (one->thread == other->thread) return false;
+    if (in_instance[first] && in_instance[second]) return true;
     if (is_access(one) && is_access(other)) return one->name == other->name && (one->kind == A_WRITE || other->kind == A_WRITE);
     if (is_lock(one) && is_lock(other)) return one->name == other->name;
     if (is_of_thread(one) && one->name == other->thread) return true;
     if (is_of_thread(other) && other->name == one->thread) return true;
     if (is_access(one) && has_object(other, one->name)) return true;
     if (is_access(other) && has_object(one, other->name)) return true;
-    return share_object(one, other) && !is_sleep_and_notify(one, other) && !is_sleep_and_notify(other, one);
+    return share_object(one, other) && !may_sleep_before(one, other) && !may_sleep_before(other, one);
 }
 
 /* ---- Where a unit stands ---- */
@@ -157,6 +189,31 @@ static bool place_unit(struct unit *unit) {
     return fits;
 }
 
+static int by_step(const void *one, const void *other) {
+    const struct unit *first = *(struct unit *const *)one, *second = *(struct unit *const *)other;
+    return is_earlier(first->record, second->record) ? -1 : is_earlier(second->record, first->record);
+}
+
+/* What a thread does without a synchronisation may be done in another order than its trace has it, where accesses were put
+ * to records of earlier ones. Its units change places then. */
+static void place_by_steps(unsigned thread) {
+    struct unit **list = NULL;
+    int64_t *places = NULL;
+    size_t count = 0, place_count = 0;
+    for (size_t i = 0; i < unit_count; i++) {
+        if (units[i].thread != thread || units[i].early) continue;
+        ADD(list, count, &units[i]);
+        size_t at = place_count;
+        ADD(places, place_count, units[i].place);
+        for (; at > 0 && places[at - 1] > units[i].place; at--) places[at] = places[at - 1];
+        places[at] = units[i].place;
+    }
+    if (count) qsort(list, count, sizeof *list, by_step);
+    for (size_t i = 0; i < count; i++) list[i]->place = places[i];
+    free(list);
+    free(places);
+}
+
 /* The first unit of which an event comes behind another one that it has to precede, where each stands at its place. */
 static const struct unit *find_turned(void) {
     for (uint32_t first = 0; first < schedule->count; first++)
@@ -174,7 +231,7 @@ static uint32_t count_moved(void) {
         for (uint32_t second = first + 1; second < schedule->count; second++) {
             const struct event *one = order[first], *other = order[second];
             bool is_turned = units[unit_of[first]].place > units[unit_of[second]].place;
-            moved += is_turned && (is_sleep_and_notify(one, other) || is_sleep_and_notify(other, one)) && share_object(one, other);
+            moved += is_turned && is_notify(one) && is_operation(other, "sleep") && share_object(one, other);
         }
     return moved;
 }
@@ -188,8 +245,8 @@ static int by_place(const void *one, const void *other) {
 
 static void add_deed(struct plan *plan, struct move *move, const struct event *event) {
     const struct record *record = &log->records[event->record];
-    bool reads = event->kind == A_READ, known = record->kind != WRITE || !(steps[event->record].merged || record->more & UNSETTLED);
-    uint8_t flags = (uint8_t)((reads ? READS_OLD : 0) | (record->kind == WRITE && known ? EXACT : 0));
+    bool is_known = record->kind == WRITE && !steps[event->record].merged && !(record->more & UNSETTLED);
+    uint8_t flags = (uint8_t)((event->kind == A_READ ? READS_OLD : 0) | (is_known ? EXACT : 0));
     if (place_of(record->address).kind == SYMBOL) flags |= FIXED;
     struct deed deed = {record->kind, event->mask ? event->mask : 0xff, flags, record->more & (READS | WRITES), record->address,
                         record->old, record->new};
@@ -229,21 +286,26 @@ static void add_unit(struct plan *plan, const struct unit *unit) {
 }
 
 /* A thread of a cycle comes to the lock that it cannot have, and each other one to its first event out of the schedule. */
-static void add_stops(struct plan *plan, const struct window *window, uint64_t mark) {
+static void add_stops(struct plan *plan, const struct window *window) {
     size_t met[MOST_THREADS + 1] = {0};
     bool stopped[MOST_THREADS + 1] = {0};
+    uint64_t last[MOST_THREADS + 1] = {0};
+    for (size_t i = 0; i < unit_count; i++) {
+        uint64_t *of_thread = &last[units[i].thread];
+        if (!*of_thread || is_earlier(*of_thread, units[i].record)) *of_thread = units[i].record;
+    }
     for (size_t i = 0; i < schedule->atoms && plan->is_cycle; i++) {
         const struct event *event = event_of(schedule->instance[i]);
-        add_move(plan, ATTEMPT, event->record, schedule->instance[i], event);
+        add_move(plan, ATTEMPT, origin_of(event), schedule->instance[i], event);
         stopped[event->thread] = true;
     }
     for (uint64_t at = window->begin; at < recording->events.count; at++) {
         const struct event *event = &recording->events.list[at];
         unsigned thread = event->thread;
         if (!is_event(event) || stopped[thread] || !event->record || met[thread]++ < used[thread]) continue;
-        if (used[thread] && is_same_unit(event->record, own[thread][used[thread] - 1]->record)) continue;
-        if (begins_before(event->record, mark)) continue;
-        add_move(plan, STOP, event->record, (struct pick){thread, (uint32_t)met[thread] - 1}, event);
+        uint64_t origin = origin_of(event);
+        if ((last[thread] && !is_earlier(last[thread], origin)) || begins_before(origin)) continue;
+        add_move(plan, STOP, origin, (struct pick){thread, (uint32_t)met[thread] - 1}, event);
         stopped[thread] = true;
     }
 }
@@ -275,18 +337,19 @@ static void *array_of(size_t count, size_t size) {
     return made;
 }
 
-struct plan make_plan(const struct log *of_log, const struct step *of_steps, const struct recording *of_recording,
+struct plan make_plan(const struct log *of_log, const struct origins *of_origins, const struct recording *of_recording,
                       const struct question *question, const struct schedule *of_schedule) {
     struct plan plan = {.is_cycle = false};
-    log = of_log, steps = of_steps, recording = of_recording, schedule = of_schedule;
+    log = of_log, origins = of_origins, steps = of_origins->steps, recording = of_recording, schedule = of_schedule;
     order = array_of(schedule->count, sizeof *order);
     in_instance = array_of(schedule->count, sizeof *in_instance);
     unit_of = array_of(schedule->count, sizeof *unit_of);
     find_own(question->window);
     uint64_t mark = find_mark();
-    find_units(mark);
+    find_units();
     for (size_t i = 0; i < unit_count && !plan.split; i++)
         if (!place_unit(&units[i])) plan.split = text_of_split(&units[i]);
+    for (unsigned thread = 1; thread <= MOST_THREADS && !plan.split; thread++) place_by_steps(thread);
     const struct unit *turned = plan.split ? NULL : find_turned();
     if (turned) plan.split = text_of_split(turned);
     plan.moved = count_moved();
@@ -296,7 +359,7 @@ struct plan make_plan(const struct log *of_log, const struct step *of_steps, con
     for (size_t i = 0; i < unit_count; i++)
         if (!units[i].early) add_unit(&plan, &units[i]);
     uint32_t before_attempts = (uint32_t)plan.move_count;
-    add_stops(&plan, &recording->windows.list[question->window - 1], mark);
+    add_stops(&plan, &recording->windows.list[question->window - 1]);
     if (plan.is_cycle) plan.head.pause = before_attempts;
     if (!question->debugger) plan.head.pause = UINT32_MAX;
     plan.head.move_count = (uint32_t)plan.move_count;

@@ -60,10 +60,11 @@ struct schedule read_schedule(const struct question *question) {
     const char *name = question->report ? question->report : path;
     FILE *file = fopen(name, "r");
     if (!file) fail(STATUS_NOTHING, "there is no report %s", name);
-    if (!next_line(file) || !(is_word("gpredict", line) || is_word("gpnotify", line))) fail(STATUS_NOTHING, "%s is no report", name);
+    bool is_report = next_line(file) && (is_word("gpredict", line) || is_word("gpnotify", line));
+    if (!is_report) fail(STATUS_NOTHING, "%s is no report", name);
     if (!find_instance(file, question))
-        fail(STATUS_NOTHING, "there is nothing to confirm: the report has no instance %lu of %s in window %lu", question->instance,
-             question->property, question->window);
+        fail(STATUS_NOTHING, "there is nothing to confirm: the report has no instance %lu of %s in window %lu",
+             question->instance, question->property, question->window);
     struct schedule schedule = {0};
     const char *events = strchr(line + strlen("instance "), ' ');
     if (events) schedule.atoms = read_picks(events, schedule.instance, MOST_ATOMS);

@@ -165,8 +165,8 @@ struct question read_question(int count, char **given) {
 /* ---- The file `run`: how a recording was made ---- */
 
 void write_run(const struct words *words, FILE *file) {
-    fprintf(file, "gprun 1\nseed %lu\nswitch %u\nper %u\nlast %lu\nfor %lu\nalike %lu\nlog %u\n", words->seed, words->switch_every,
-            words->per, words->last, words->seconds, words->alike, words->log_mib);
+    fprintf(file, "gprun 1\nseed %lu\nswitch %u\nper %u\nlast %lu\n", words->seed, words->switch_every, words->per, words->last);
+    fprintf(file, "for %lu\nalike %lu\nlog %u\n", words->seconds, words->alike, words->log_mib);
     if (words->from) fprintf(file, "from %s\n", words->from);
 }
 
@@ -176,8 +176,8 @@ struct words read_run(const char *folder) {
     snprintf(path, sizeof path, "%s/run", folder);
     FILE *file = fopen(path, "r");
     if (!file) fail(STATUS_NOTHING, "there is no file %s, which says how the recording was made; record it anew", path);
-    int found = fscanf(file, "gprun 1 seed %lu switch %u per %u last %lu for %lu alike %lu log %u", &words.seed, &words.switch_every,
-                       &words.per, &words.last, &words.seconds, &words.alike, &words.log_mib);
+    int found = fscanf(file, "gprun 1 seed %lu switch %u per %u last %lu for %lu alike %lu log %u", &words.seed,
+                       &words.switch_every, &words.per, &words.last, &words.seconds, &words.alike, &words.log_mib);
     if (found != 7) fail(STATUS_NOTHING, "%s does not say how the recording was made", path);
     if (fscanf(file, " from %4095s", from) == 1) words.from = from;
     fclose(file);

@@ -262,7 +262,14 @@ struct plan {
     const char *split; /* where the program does at once what the schedule has apart: which events */
 };
 
-struct plan make_plan(const struct log *log, const struct step *steps, const struct recording *recording,
+/* The calls and accesses of which records come, as they are known beside a log. */
+struct origins {
+    const struct step *steps;
+    const struct record **widened; /* the WIDENED records, by the records that they widen */
+    size_t count;
+};
+
+struct plan make_plan(const struct log *log, const struct origins *origins, const struct recording *recording,
                       const struct question *question, const struct schedule *schedule);
 
 int confirm(int count, char **given);

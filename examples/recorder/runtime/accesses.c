@@ -32,15 +32,19 @@ static uint64_t bytes_of(unsigned mask) {
 
 /* ---- Writes are hooked before they are done, and read back at the thread's next hook ---- */
 
+__attribute__((noinline)) static void tell_written(struct thread *me) {
+    for (unsigned i = 0; i < me->pending_count; i++) wrote(me, me->pending[i].granule, me->pending[i].cell->value);
+}
+
 void settle_all(struct thread *me) {
     for (unsigned i = 0; i < me->pending_count; i++) {
         struct cell *cell = me->pending[i].cell;
         cell->value = load(me->pending[i].granule);
-        if (following) wrote(me, me->pending[i].granule, cell->value);
         if (!cell->shared || !cell->write_at) continue;
         records[cell->write_at].new = cell->value;
         records[cell->write_at].more &= ~(uint32_t)UNSETTLED;
     }
+    if (__builtin_expect(following, 0)) tell_written(me);
     me->pending_count = 0;
 }
 
@@ -82,7 +86,7 @@ static uint32_t log_piece(struct thread *me, enum kind kind, uintptr_t granule, 
 
 static void widen(struct thread *me, struct record *record, unsigned mask, unsigned cuts) {
     head->private_accesses++;
-    note_merged(me, record, mask & ~(unsigned)record->mask);
+    if (__builtin_expect(steps != NULL, 0)) note_merged(me, record, mask & ~(unsigned)record->mask);
     record->mask |= (uint8_t)mask;
     record->cuts |= (uint8_t)cuts;
 }
@@ -157,7 +161,7 @@ static struct cell *write_piece(struct thread *me, struct piece piece) {
     struct cell *cell = cell_of(piece.granule);
     bool known = cell->segment == me->segment && !cell->shared && !(piece.mask & ~(unsigned)cell->written);
     if (following) do_deed(me, WRITE, piece.granule, piece.mask, 0, 0);
-    if (known) note_merged(me, &records[cell->write_at], 0);
+    if (known && __builtin_expect(steps != NULL, 0)) note_merged(me, &records[cell->write_at], 0);
     if (known) {
         head->private_accesses++;
     } else {
@@ -304,6 +308,16 @@ __attribute__((noinline)) static void slow_hook(struct thread *me, const volatil
     (write ? note_write : note_read)(me, address, size);
 }
 
+/* Whether the access is one of a script, and is noted as such. */
+__attribute__((noinline)) static bool follows(struct thread *me, const volatile void *address, size_t size, bool write,
+                                              uintptr_t caller) {
+    count_step(me, caller);
+    if (!following) return false;
+    (write ? note_write : note_read)(me, address, size);
+    leave(me);
+    return true;
+}
+
 static inline __attribute__((always_inline)) void hook(const volatile void *address, size_t size, bool write) {
     struct thread *me = self;
     if (__builtin_expect(!me || me->inside, 0)) {
@@ -312,12 +326,7 @@ static inline __attribute__((always_inline)) void hook(const volatile void *addr
     }
     me->inside = 1;
     if (me->pending_count) settle_all(me);
-    begin_step(me, __builtin_return_address(0));
-    if (__builtin_expect(following, 0)) {
-        (write ? note_write : note_read)(me, address, size);
-        leave(me);
-        return;
-    }
+    if (__builtin_expect(steps != NULL, 0) && follows(me, address, size, write, (uintptr_t)__builtin_return_address(0))) return;
     unsigned offset = (unsigned)((uintptr_t)address & (GRANULE - 1));
     struct cell *cell = NULL;
     if (recording && offset + size <= GRANULE) {

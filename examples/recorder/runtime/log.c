@@ -105,13 +105,13 @@ struct record *append(struct thread *me, enum kind kind, const volatile void *ad
     struct record *record = next_record();
     *record = (struct record){.kind = (uint8_t)kind, .thread = (uint8_t)me->number, .address = (uint64_t)address};
     me->last_record = (uint64_t)(record - records);
-    if (steps) steps[record - records] = (struct step){me->caller, me->steps, me->phase, 0};
+    if (__builtin_expect(!steps, 1)) return record;
+    steps[record - records] = (struct step){me->caller, me->steps, me->phase, 0};
     if (following && kind >= DESCRIPTOR_OPENED) do_deed(me, kind, (uint64_t)address, 0xff, 0, 0);
     return record;
 }
 
 void note_merged(struct thread *me, struct record *record, unsigned mask) {
-    if (!steps) return;
     steps[record - records].merged = 1;
     if (!mask) return;
     struct record *made = next_record();

@@ -109,6 +109,9 @@ void run_signals(struct thread *me);
 extern bool scripted, following;
 extern uintptr_t foreign_low, foreign_size; /* where the C library lies, whose own calls are no steps of a thread */
 
+/* Of each record where it comes from, where that is wanted; always where there is a script. */
+extern struct step *steps;
+
 bool open_script(const char *path);
 void checkpoint(struct thread *me);
 void begin_wait(struct thread *me, enum waits kind, const volatile void *what);
@@ -122,13 +125,11 @@ void wrote(struct thread *me, uint64_t granule, uint64_t value);
 void block_freed(uintptr_t address, size_t size);
 void block_made(uintptr_t address, size_t size);
 
-/* A call or a hook of the program begins. */
+void count_step(struct thread *me, uintptr_t caller);
+
+/* A call or a hook of the program begins; they are counted where it is wanted what each record comes from. */
 static inline __attribute__((always_inline)) void begin_step(struct thread *me, void *caller) {
-    if (__builtin_expect((uintptr_t)caller - foreign_low < foreign_size, 0)) return;
-    me->steps++;
-    me->caller = (uintptr_t)caller;
-    me->phase = 0;
-    if (__builtin_expect(scripted, 0)) checkpoint(me);
+    if (__builtin_expect(steps != NULL, 0)) count_step(me, (uintptr_t)caller);
 }
 
 /* Behind a place of a call at which it may wait. */
@@ -193,14 +194,12 @@ uint64_t deadline_in(const struct timespec *span);
 uint64_t deadline_at(clockid_t clock, const struct timespec *limit);
 
 static inline void turn_point(struct thread *me) {
-    if (__builtin_expect(following, 0)) return;
     game_clock += 1000;
     if (draw(switch_every) == 0) hand_over(me);
 }
 
 /* One at which the turn seldom goes: nobody else has to do with what the thread does there, or not yet. */
 static inline void seldom_turn_point(struct thread *me) {
-    if (__builtin_expect(following, 0)) return;
     game_clock += 1000;
     if (draw(16 * switch_every) == 0) hand_over(me);
 }
@@ -218,9 +217,6 @@ static inline __attribute__((always_inline)) struct thread *enter_call(void) {
 extern bool recording, log_open;
 extern struct log_head *head;
 extern struct record *records;
-
-/* Of each record where it comes from, where that is wanted. */
-extern struct step *steps;
 
 bool open_log(const char *path);
 void grow_log(void);

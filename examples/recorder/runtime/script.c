@@ -45,7 +45,7 @@ bool open_script(const char *path) {
     if (script == MAP_FAILED || memcmp(script->magic, SCRIPT_MAGIC, sizeof script->magic)) return false;
     moves = (const struct move *)(script + 1);
     deeds = (const struct deed *)(moves + script->move_count);
-    return scripted = true;
+    return scripted = steps != NULL;
 }
 
 /* ---- Where a thread stands in it ---- */
@@ -237,6 +237,14 @@ void checkpoint(struct thread *me) {
     } else if (following) {
         count_free_step(me);
     }
+}
+
+void count_step(struct thread *me, uintptr_t caller) {
+    if (caller - foreign_low < foreign_size) return;
+    me->steps++;
+    me->caller = caller;
+    me->phase = 0;
+    if (scripted) checkpoint(me);
 }
 
 void end_of_thread(struct thread *me) {

@@ -180,7 +180,7 @@ void pass_on(struct thread *me) {
 }
 
 void hand_over(struct thread *me) {
-    if (live_count == 1) return;
+    if (live_count == 1 || following) return;
     pass_on(me);
     if (scripted) checkpoint(me);
 }

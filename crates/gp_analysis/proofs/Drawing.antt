@@ -1,5 +1,5 @@
 -- What is recorded of windows that are drawn by ticket, put together and in order.
-use Rattle.std.proofs.Common.{◌≡◌, sym, ap, ◌∙◌, subst, ℕ, zero, suc, ◌+◌, List, [], ◌∷◌, ◌++◌, length, map, drop, get_or, All, IfOk, Result, Ok, Err, arith}
+use Rattle.std.proofs.Common.{◌≡◌, sym, ap, ◌∙◌, subst, ℕ, zero, suc, ◌+◌, ◌-◌, ◌<◌, List, [], ◌∷◌, ◌++◌, length, map, drop, get_or, All, IfOk, Result, Ok, Err, arith}
 use Rattle.std.specs.List.{range_with_len}
 use Rattle.std.proofs.lemmas.List.{map-append}
 use Rattle.std.proofs.lemmas.List.Elements.{All-append, All-head, All-push, All-tail, All-weaker}
@@ -16,6 +16,14 @@ use Rattle.gp_analysis.specs.Drawn.{RecordsDrawn, RecordsOwn}
 use Rattle.gp_analysis.specs.Question.{QuestionForm}
 use Rattle.gp_analysis.specs.declared.task.Telling.{Telling}
 use Rattle.gp_analysis.specs.Telling.{RecordEachAs, RecordsAs}
+
+-- a list with an element is not empty
+not_empty : (n : ℕ) → suc n ≡ 0 → ⊥
+not_empty n is = omega arith
+
+-- with one ticket more drawn there are fewer left
+pub fewer_left : (count before after : ℕ) → after ≡ before + 1 → before < count → count - after < count - before
+fewer_left count before after more fewer = omega arith
 
 module _ {Subject Shown : Type 0} (question : QuestionForm Subject Shown) (telling : Telling) (r : RecordingForm) (count budget : ℕ) where
   -- one window more is drawn and recorded
@@ -54,8 +62,8 @@ module _ {Subject Shown : Type 0} (question : QuestionForm Subject Shown) (telli
   each_recorded : (first number : ℕ) (sorted : List (Made (WindowRecordOf Shown))) → All (RecordsOwn question telling r count budget) sorted → numbers_of sorted ≡ range_with_len first number
       → RecordEachAs question telling count budget (map (window_of r) (numbers_from (first + 1) number)) (map (λ (m : Made (WindowRecordOf Shown)). m.value) sorted)
   each_recorded first zero [] all row = tt
-  each_recorded first zero (own ∷ sorted) all row = absurd (let n : suc (length (numbers_of sorted)) ≡ 0 = ap (λ (ns : List ℕ). length ns) row in omega (arith, n))
-  each_recorded first (suc number) [] all row = absurd (let n : 0 ≡ suc (length (range_with_len (first + 1) number)) = ap (λ (ns : List ℕ). length ns) row in omega (arith, n))
+  each_recorded first zero (own ∷ sorted) all row = absurd (not_empty (length (numbers_of sorted)) (ap (λ (ns : List ℕ). length ns) row))
+  each_recorded first (suc number) [] all row = absurd (not_empty (length (range_with_len (first + 1) number)) (sym (ap (λ (ns : List ℕ). length ns) row)))
   each_recorded first (suc number) (own ∷ sorted) all row = (
     subst (λ (k : ℕ). RecordsAs question telling count budget (window_of r (k + 1)) own.value) (ap (λ (ns : List ℕ). get_or ns 0 0) row) (All-head (RecordsOwn question telling r count budget) own sorted all),
     each_recorded (first + 1) number sorted (All-tail (RecordsOwn question telling r count budget) own sorted all) (ap (λ (ns : List ℕ). drop 1 ns) row),

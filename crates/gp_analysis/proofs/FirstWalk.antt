@@ -1,5 +1,5 @@
 -- How far the certificates of a window are shared.
-use Rattle.std.proofs.Common.{◌≡◌, ◌∙◌, refl, sym, ap, subst, ℕ, ◌+◌, ◌^◌, ◌<◌, ◌≤◌, Bool, true, false, nat_lt, List, [], ◌∷◌, length, Option, Some, None, arith}
+use Rattle.std.proofs.Common.{◌≡◌, ◌∙◌, refl, sym, ap, subst, ℕ, suc, ◌+◌, ◌^◌, ◌<◌, ◌≤◌, Bool, true, false, nat_lt, List, [], ◌∷◌, length, Option, Some, None, arith}
 use Rattle.std.specs.Prelude.{if◌then◌else◌, drop}
 use Rattle.std.specs.List.{AllByRecursion}
 use Rattle.std.proofs.lemmas.Bool.Decides.{nat_tests}
@@ -27,6 +27,20 @@ is_less a b h = grind (arith, nat_tests)
 pub is_not_less : (a b : ℕ) → nat_lt a b ≡ false → b ≤ a
 is_not_less a b h = grind (arith, nat_tests)
 
+-- no list with an element is empty
+none_is_some : (n : ℕ) → suc n ≡ 0 → ⊥
+none_is_some n h = omega arith
+
+not_both : (a b : ℕ) → b ≤ a → a < b → ⊥
+not_both a b least less = omega arith
+
+further : (least before after : ℕ) → least ≤ before → before ≤ after → least ≤ after
+further least before after h more = omega arith
+
+-- where few are counted, so were those before
+fits_further : (clauses before after count more limit : ℕ) → (count < limit → clauses + before ≤ count) → after ≤ before + more → count + more < limit → clauses + after ≤ count + more
+fits_further clauses before after count more limit room adds few = let fits : clauses + before ≤ count = room (omega (arith, few)) in omega (arith, fits, adds)
+
 -- the list has room at first
 pub room_begun : (problem : Problem) (shared : List Step) → HasRoom (begun (sizes_in problem shared) shared)
 room_begun problem shared = record { least = omega arith; most = λ few. omega arith }
@@ -38,14 +52,15 @@ room_counted sharing steps room = by (nat_lt (sharing.count + length steps) (2 ^
     by : (b : Bool) → nat_lt (sharing.count + length steps) (2 ^ 31) ≡ b
         → HasRoom (record { sizes = sharing.sizes; list = if b then with_certificate sharing.sizes sharing.list steps else sharing.list; count = sharing.count + length steps })
     by true is =
-        let few = is_less (sharing.count + length steps) (2 ^ 31) is in
         let grows = begins_length sharing.list (with_certificate sharing.sizes sharing.list steps) (certificate_begins sharing.sizes sharing.list steps) in
         let adds = certificate_adds sharing.sizes sharing.list steps in
-        let before = room.most (omega (arith, few)) in
-        record { least = omega (arith, room.least, grows); most = λ less. omega (arith, before, adds) }
+        record {
+          least = further sharing.sizes.shared (length sharing.list) (length (with_certificate sharing.sizes sharing.list steps)) room.least grows;
+          most = fits_further sharing.sizes.clauses (length sharing.list) (length (with_certificate sharing.sizes sharing.list steps)) sharing.count (length steps) (2 ^ 31) room.most adds;
+        }
     by false is =
         let many = is_not_less (sharing.count + length steps) (2 ^ 31) is in
-        record { least = room.least; most = λ less. absurd (omega (arith, many, less)) }
+        record { least = room.least; most = λ less. absurd (not_both (sharing.count + length steps) (2 ^ 31) many less) }
 
 pub room_all : (sharing : Sharing) (certificates : List (List Step)) → HasRoom sharing → HasRoom (with_all sharing certificates)
 room_all sharing [] room = room
@@ -115,7 +130,7 @@ module _ {Shown : Type 0} (clauses gained : ℕ) (workers : List WorkerRecord) w
   pub all_shared : (all : List (Asked Shown)) (before : List WorkAnswer) (begins : Sharing) (rest : List (Asked Shown)) (answers : List WorkAnswer) (sharing : Sharing) → length rest ≡ 0
       → AreShared all before begins rest answers sharing → (sharing ≡ with_all begins (certificates_each clauses gained workers all before)) × (answers ≡ left_each all before)
   all_shared all before begins [] answers sharing none h = (h.shared, h.left)
-  all_shared all before begins (asked ∷ rest) answers sharing none h = absurd (omega (arith, none))
+  all_shared all before begins (asked ∷ rest) answers sharing none h = absurd (none_is_some (length rest) none)
 
   -- the subjects are shared but for those that are left
   pub record SubjectsShared (all : List (Option (List (Asked Shown)))) (before : List WorkAnswer) (begins : Sharing) (rest : List (Option (List (Asked Shown)))) (answers : List WorkAnswer) (sharing : Sharing) : Type 0 where
@@ -139,4 +154,4 @@ module _ {Shown : Type 0} (clauses gained : ℕ) (workers : List WorkerRecord) w
   pub subjects_shared : (all : List (Option (List (Asked Shown)))) (before : List WorkAnswer) (begins : Sharing) (rest : List (Option (List (Asked Shown)))) (answers : List WorkAnswer) (sharing : Sharing) → length rest ≡ 0
       → SubjectsShared all before begins rest answers sharing → sharing ≡ with_all begins (certificates_all clauses gained workers all before)
   subjects_shared all before begins [] answers sharing none h = h.shared
-  subjects_shared all before begins (listed ∷ rest) answers sharing none h = absurd (omega (arith, none))
+  subjects_shared all before begins (listed ∷ rest) answers sharing none h = absurd (none_is_some (length rest) none)

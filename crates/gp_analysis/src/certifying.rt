@@ -111,12 +111,10 @@ fn over_list(
 fn have_numbers(clauses: u32, shared: usize, own: usize) -> bool
     ensures { result ≡ true → clauses + shared + own < 2 ^ 32 }
 {
-    let shared = shared as u64;
-    let own = own as u64;
-    if shared >= MOST_NUMBERS || own >= MOST_NUMBERS {
-        return false;
-    }
-    u64::from(clauses) + shared + own < MOST_NUMBERS
+    let all = u64::from(clauses)
+        .saturating_add(shared as u64)
+        .saturating_add(own as u64);
+    all < MOST_NUMBERS
 }
 
 // The steps that the certificates of a window share in the end: where none moved, those that they shared from the start.

@@ -169,7 +169,11 @@ fn window_count<Q: Question>(
     ensures { IfOk result (λ count. count ≡ window_count (Q.form question.now) counted window) }
 {
     match counted {
-        Counted::Listed => subjects_count(alloc, question, &window),
+        Counted::Listed => {
+            let count = subjects_count(alloc, question, &window);
+            drop(window);
+            count
+        }
         Counted::Asked => window_asked(alloc, window, question),
     }
 }
@@ -280,7 +284,9 @@ fn tickets_in<Q: Question>(
     let mut count = 0;
     let mut left = Left::of(asks);
     while let Some(ask) = left.next() {
-        count = added(count, tickets_of(alloc, question, encoded, subject, &ask)?)?;
+        let tickets = tickets_of(alloc, question, encoded, subject, &ask);
+        drop(ask);
+        count = added(count, tickets?)?;
     }
     Ok(count)
 }

@@ -83,8 +83,11 @@ fn recorded_ahead<'a, R: Threads + Wait + Sync, G: Gate + Sync, Q: Question>(
     while let Some(number) = tickets.draw(drawer) {
         let k = window_number(recording, number);
         let (value, next) = recorded_next(rt, alloc, recording, task, ahead, k, order)?;
+        let Ok(()) = made.push(Made { number, value }) else {
+            drop(next);
+            return Err(AllocError);
+        };
         order = next;
-        made.push(Made { number, value })?;
     }
     drop(order);
     Ok(made)

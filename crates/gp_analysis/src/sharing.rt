@@ -43,8 +43,13 @@ pub(crate) fn moved_over<S>(
     ensures moved { IfOk result (λ moved. moved ≡ moved_over (sizes_in problem.now shared) shared (certificates_all source.now.clauses source.now.gained source.now.records.now listed.now answers.now)) }
 {
     let mut sharing = begin(alloc, problem, shared)?;
-    share_all(alloc, source, listed, answers, &mut sharing)?;
-    Ok(found(sharing))
+    match share_all(alloc, source, listed, answers, &mut sharing) {
+        Ok(()) => Ok(found(sharing)),
+        Err(error) => {
+            drop(sharing);
+            Err(error)
+        }
+    }
 }
 
 // No certificate is shared yet. 2^31 steps that are shared from the start, or more, would not fit into memory.

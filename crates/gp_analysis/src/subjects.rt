@@ -44,14 +44,17 @@ pub(crate) fn told_subjects<G, Q: Question>(
 {
     let question = task.question;
     question.laws();
-    let shared = question.shared(alloc, encoded)?;
+    let Ok(shared) = question.shared(alloc, encoded) else {
+        drop((listed, answers));
+        return Err(AllocError);
+    };
     let clauses = question.problem(encoded).clauses.len() as u32;
     let source = Source {
         clauses,
         gained: shared.len(),
         records,
     };
-    let moved = moved_as(
+    let Ok(moved) = moved_as(
         alloc,
         question,
         encoded,
@@ -59,14 +62,23 @@ pub(crate) fn told_subjects<G, Q: Question>(
         &source,
         listed.as_slice(),
         answers.as_slice(),
-    )?;
+    ) else {
+        drop((shared, listed, answers));
+        return Err(AllocError);
+    };
     let certifying = Certifying { source, moved };
-    let body = subject_records(alloc, encoded, task, listed, answers, &certifying)?;
-    let Certifying { moved, .. } = certifying;
-    Ok(Told {
-        shared: shared_by(moved, shared),
-        body,
-    })
+    let told = subject_records(alloc, encoded, task, listed, answers, &certifying);
+    let moved = certifying.moved;
+    match told {
+        Ok(body) => Ok(Told {
+            shared: shared_by(moved, shared),
+            body,
+        }),
+        Err(error) => {
+            drop((moved, shared));
+            Err(error)
+        }
+    }
 }
 
 // What moves in the window as certificates are told: nothing where they are told whole.
@@ -112,26 +124,42 @@ fn subject_records<G, Q: Question>(
     ensures { IfOk result (TellsSubjects (Q.form task.now.question.now) (Q.window_in encoded.now) (known_of (Q.form task.now.question.now) (Q.window_in encoded.now) task.now.budget certifying.now.source.records.now) (steps_by certifying.now.moved)
         (certificates_all certifying.now.source.clauses certifying.now.source.gained certifying.now.source.records.now listed answers)) }
 {
+    let mut listed = Left::of(listed);
+    let mut answers = Left::of(answers);
+    let own = left_records(alloc, encoded, task, certifying, &mut listed, &mut answers);
+    drop((listed, answers));
+    own
+}
+
+// The same, of what is left.
+fn left_records<G, Q: Question>(
+    alloc: Global,
+    encoded: &Q::Encoded,
+    task: &Instructions<'_, Q, G>,
+    certifying: &Certifying<'_>,
+    listed: &mut Left<Option<Row<Asked<Q::Shown>>>>,
+    answers: &mut Left<WorkAnswer>,
+) -> Result<Row<PropertyRecordOf<Q::Shown>>, AllocError>
+    requires fits { (Q.form task.now.question.now).left_out (Q.window_in encoded.now) ≡ None }
+    requires listed { listed.old ≡ listed_from (Q.form task.now.question.now) (Q.window_in encoded.now) 0 (Q.form task.now.question.now).subjects }
+    requires answers { AnswerEach ((Q.form task.now.question.now).problem (Q.window_in encoded.now)) task.now.budget certifying.now.source.records.now 0 (queries_from (Q.form task.now.question.now) (Q.window_in encoded.now) 0 (Q.form task.now.question.now).subjects) answers.old }
+    requires source { IsSourceOf (Q.form task.now.question.now) (Q.window_in encoded.now) certifying.now.source }
+    requires grown { HasGrown certifying.now.moved }
+    ensures { IfOk result (TellsSubjects (Q.form task.now.question.now) (Q.window_in encoded.now) (known_of (Q.form task.now.question.now) (Q.window_in encoded.now) task.now.budget certifying.now.source.records.now) (steps_by certifying.now.moved)
+        (certificates_all certifying.now.source.clauses certifying.now.source.gained certifying.now.source.records.now listed.old answers.old)) }
+{
     refuted_means();
     shares_nothing();
     raised_refutes();
     let question = task.question;
     question.laws();
     question.window_of(encoded).comes_from_recording();
-    let mut listed = Left::of(listed);
-    let mut answers = Left::of(answers);
     let mut own = Row::new(alloc);
     let mut left = question.subjects();
     while let Some((subject, more)) = left.split_first() {
         let asked = listed.take_first();
         own.push(subject_record(
-            alloc,
-            question,
-            encoded,
-            subject,
-            asked,
-            certifying,
-            &mut answers,
+            alloc, question, encoded, subject, asked, certifying, answers,
         )?)?;
         left = more;
     }

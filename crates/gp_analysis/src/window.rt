@@ -42,7 +42,10 @@ pub(crate) fn window_record<R: Threads + Wait + Sync, G: Gate + Sync, Q: Questio
     match task.question.encode(alloc, window) {
         Ok(encoded) => answered_record(rt, alloc, &encoded, task, order),
         Err(EncodeFault::LeftOut(why)) => Ok((left_out_record(alloc, number, why), order)),
-        Err(EncodeFault::Memory) => Err(AllocError),
+        Err(EncodeFault::Memory) => {
+            drop(order);
+            Err(AllocError)
+        }
     }
 }
 
@@ -90,11 +93,18 @@ fn answered_record<R: Threads + Wait + Sync, G: Gate + Sync, Q: Question>(
     let question = task.question;
     question.laws();
     let number = question.window_of(encoded).number();
-    let Listing { listed, queries } = listing_of(alloc, question, encoded)?;
+    let Ok(listing) = listing_of(alloc, question, encoded) else {
+        drop(order);
+        return Err(AllocError);
+    };
+    let Listing { listed, queries } = listing;
     let problem = question.problem(encoded);
     let worked = work(rt, alloc, problem, queries.as_slice(), task, order);
     drop(queries);
-    let (done, next) = worked?;
+    let Ok((done, next)) = worked else {
+        drop(listed);
+        return Err(AllocError);
+    };
     let WindowWork {
         answers,
         records,

@@ -1,7 +1,7 @@
 use Rattle.std.proofs.Common.{length}
 use Rattle.gp_analysis.specs.Certificates.{certificates_all, steps_by}
 use Rattle.gp_analysis.proofs.SubjectsTold.{AreTelling}
-use Rattle.gp_analysis.proofs.subjects.subject_records.Given as goal
+use Rattle.gp_analysis.proofs.subjects.left_records.Given as goal
 
 abbrev pub invariant-loop-subject : goal.invariant-loop-subject
 invariant-loop-subject g l =

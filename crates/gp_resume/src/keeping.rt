@@ -86,9 +86,16 @@ fn kept_answers<'a>(
     let entries = entries_named(property.name(), told.body.properties());
     let first = Answers::first_of(alloc, entries)?;
     match instances(alloc, test.window(), property, number) {
-        Ok(listed) => standing(alloc, test, property, listed.as_slice(), first),
+        Ok(listed) => {
+            let kept = standing(alloc, test, property, listed.as_slice(), first);
+            drop(listed);
+            kept
+        }
         Err(InstancesFault::TooMany) => Ok(first),
-        Err(InstancesFault::Memory) => Err(AllocError),
+        Err(InstancesFault::Memory) => {
+            drop(first);
+            Err(AllocError)
+        }
     }
 }
 

@@ -142,7 +142,12 @@ fn is_shown(
             drop(end);
             Ok(matches(property, instance, schedule))
         }
-        Err(ReplayFault::Stuck { .. }) => Ok(false),
+        Err(
+            ReplayFault::Stuck {
+                place: _place,
+                rule: _rule,
+            },
+        ) => Ok(false),
         Err(ReplayFault::Memory) => Err(AllocError),
     }
 }

@@ -65,8 +65,28 @@ fn put_windows<S: Sink>(
     ensures err { OnErr result (AppendsFront (S.written sink.old) (S.written sink.new) (text_after (show_form command.now) 0 (answers_of properties.now (all_windows recording.now) records.now))) }
     ensures failed { result ≡ Err PutFault.Failed → Rose (S.faults sink.old) (S.faults sink.new) }
 {
-    let mut asked = 0u64;
     let mut windows = Windows::new(alloc, recording)?;
+    let asked = put_each_window(alloc, sink, command, properties, records, &mut windows);
+    drop(windows);
+    asked
+}
+
+/// The same of the windows that are to come.
+fn put_each_window<S: Sink>(
+    alloc: Global,
+    sink: &mut S,
+    command: &ShowCommand<'_>,
+    properties: &[Property],
+    records: &[WindowRecord],
+    windows: &mut Windows,
+) -> Result<u64, PutFault>
+    ensures later { S.faults sink.old ≤ S.faults sink.new }
+    ensures count { IfOk result (λ count. count ≡ 0 + asked_count (show_form command.now) (answers_of properties.now windows.old records.now)) }
+    ensures ok { OnOk result (Appends (S.written sink.old) (S.written sink.new) (text_after (show_form command.now) 0 (answers_of properties.now windows.old records.now))) }
+    ensures err { OnErr result (AppendsFront (S.written sink.old) (S.written sink.new) (text_after (show_form command.now) 0 (answers_of properties.now windows.old records.now))) }
+    ensures failed { result ≡ Err PutFault.Failed → Rose (S.faults sink.old) (S.faults sink.new) }
+{
+    let mut asked = 0u64;
     for told in records {
         let Some(window) = windows.next(alloc)? else {
             return Ok(asked);
@@ -92,7 +112,11 @@ fn put_window<S: Sink>(
     ensures failed { result ≡ Err PutFault.Failed → Rose (S.faults sink.old) (S.faults sink.new) }
 {
     match base(alloc, window) {
-        Ok(encoded) => put_encoded(alloc, sink, command, properties, &encoded, told, asked),
+        Ok(encoded) => {
+            let put = put_encoded(alloc, sink, command, properties, &encoded, told, asked);
+            drop(encoded);
+            put
+        }
         Err(BaseFault::TooLarge { .. }) => Ok(asked),
         Err(BaseFault::Memory) => Err(PutFault::Memory),
     }

@@ -58,7 +58,10 @@ pub fn shown_at<'a, R: AllocGlobal + Threads + Sync, F: Folder>(
     ensures limit { stops_at_limit result ≡ false }
 {
     let submission = submission_at(rt, folder, command.folder)?;
-    let checked = checked_report(rt.alloc(), &submission)?;
+    let Ok(checked) = checked_report(rt.alloc(), &submission) else {
+        drop(submission);
+        return Err(Stop::Memory);
+    };
     Ok(Shown {
         command: *command,
         submission,

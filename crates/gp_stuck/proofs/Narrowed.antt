@@ -24,7 +24,7 @@ use Rattle.gp_stuck.specs.declared.link.Link.{Link}
 use Rattle.gp_stuck.specs.declared.link.Others.{Others}
 use Rattle.gp_stuck.specs.declared.link.Others.TheVariants.{Nobody, One, Several}
 use Rattle.gp_stuck.specs.declared.link.Step.{Step}
-use Rattle.gp_stuck.specs.Closing.{IsFirst, closer_of, has_other, is_clear, may_be_second, may_close, one_closes, some_clear, two_close}
+use Rattle.gp_stuck.specs.Closing.{IsNarrowed, closer_of, has_other, is_clear, may_be_second, may_close, one_closes, some_clear, two_close}
 use Rattle.gp_stuck.specs.Cycle.{are_apart, keeps_out, waits_by, waits_for}
 use Rattle.gp_stuck.specs.Links.{AreLinked, IsHolding, IsLink, link_of}
 use Rattle.gp_stuck.specs.Search.{closed, completions, going_on, is_take, may_follow, takers_of, takes_lock}
@@ -101,7 +101,7 @@ some_from passed own (One other) thread has clear = ap (is_clear passed own) (eq
 some_from passed own Several thread has clear = refl
 
 -- no event that follows waits for the first one, where no thread is noted that closes
-none_waits : (window : WindowForm) (first : First) (passed : List EventId) (id : EventId) (mode : LockMode) (lock : List ℕ) → IsFirst window first
+none_waits : (window : WindowForm) (first : First) (passed : List EventId) (id : EventId) (mode : LockMode) (lock : List ℕ) → IsNarrowed window first
     → one_closes first.closers passed id.thread mode lock ≡ false
     → (next : EventId) → Contains (takers_of window) next → (way : FollowsBy window mode lock first.holding.id (passed ++ id ∷ []) next)
     → keeps_out way.wanted (mode_held first.holding.held way.wants) ≡ false
@@ -112,7 +112,7 @@ none_waits window first passed id mode lock is one next among way =
     let passes = and_from (exclude way.how mode) (is_clear passed id.thread next.thread) way.against (clear_both passed id next.thread way.clear) in
     true≢false (sym (any_there (λ (closer : Closer). exclude closer.mode mode && is_clear passed id.thread closer.thread) (entry_at first.closers lock) (closer_of link) there_too passes) ∙ one))
 
-none_one : (window : WindowForm) (first : First) (passed : List EventId) (id : EventId) (mode : LockMode) (lock : List ℕ) → IsFirst window first
+none_one : (window : WindowForm) (first : First) (passed : List EventId) (id : EventId) (mode : LockMode) (lock : List ℕ) → IsNarrowed window first
     → use_at window id ≡ Some (Take mode lock) → keeps_out mode (mode_held first.holding.held lock) ≡ false → one_closes first.closers passed id.thread mode lock ≡ false
     → completions window (takers_of window) first.holding.id (passed ++ id ∷ []) id 1 ≡ []
 none_one window first passed id mode lock is takes free one =
@@ -121,7 +121,7 @@ none_one window first passed id mode lock is takes free one =
     not_closed window first ((passed ++ id ∷ []) ++ next ∷ []) next way.wanted way.wants is.holding way.takes (none_waits window first passed id mode lock is one next among way))
 
 -- no thread is noted that closes behind one that follows, where none is noted that comes before one that closes
-none_behind : (window : WindowForm) (first : First) (passed : List EventId) (id : EventId) (mode : LockMode) (lock : List ℕ) → IsFirst window first
+none_behind : (window : WindowForm) (first : First) (passed : List EventId) (id : EventId) (mode : LockMode) (lock : List ℕ) → IsNarrowed window first
     → two_close first.steps passed id.thread mode lock ≡ false
     → (next : EventId) → Contains (takers_of window) next → (way : FollowsBy window mode lock first.holding.id (passed ++ id ∷ []) next)
     → one_closes first.closers (passed ++ id ∷ []) next.thread way.wanted way.wants ≡ false
@@ -140,7 +140,7 @@ none_behind window first passed id mode lock is two next among way =
     true≢false (sym (any_there (λ (step : Step). exclude step.mode mode && (is_clear passed id.thread step.thread && some_clear passed id.thread step.others)) (entry_at first.steps lock)
     (record { thread = next.thread; mode = way.how; others = step.0 }) step.1 passes) ∙ two))
 
-none_two : (window : WindowForm) (first : First) (passed : List EventId) (id : EventId) (mode : LockMode) (lock : List ℕ) → IsFirst window first
+none_two : (window : WindowForm) (first : First) (passed : List EventId) (id : EventId) (mode : LockMode) (lock : List ℕ) → IsNarrowed window first
     → use_at window id ≡ Some (Take mode lock) → keeps_out mode (mode_held first.holding.held lock) ≡ false → one_closes first.closers passed id.thread mode lock ≡ false
     → two_close first.steps passed id.thread mode lock ≡ false
     → completions window (takers_of window) first.holding.id (passed ++ id ∷ []) id 2 ≡ []
@@ -175,7 +175,7 @@ may_not keeps one two left e =
     }
 
 -- where a chain may not close with so many more behind an event, none complete it
-pub none_complete : (window : WindowForm) (first : First) (passed : List EventId) (id : EventId) (mode : LockMode) (lock : List ℕ) (left : ℕ) → IsFirst window first
+pub none_complete : (window : WindowForm) (first : First) (passed : List EventId) (id : EventId) (mode : LockMode) (lock : List ℕ) (left : ℕ) → IsNarrowed window first
     → use_at window id ≡ Some (Take mode lock) → may_close first passed id.thread mode lock left ≡ false
     → completions window (takers_of window) first.holding.id (passed ++ id ∷ []) id left ≡ []
 none_complete window first passed id mode lock left is takes fails =
@@ -189,7 +189,7 @@ none_complete window first passed id mode lock left is takes fails =
     by_left (suc (suc (suc more))) fails = absurd (omega (arith, fails.few))
 
 -- where no link may be that of a second event, no cycle begins with the first one
-pub none_begins : (window : WindowForm) (first : First) (links : List Link) (mode : LockMode) (lock : List ℕ) → IsFirst window first → AreLinked window (takers_of window) links
+pub none_begins : (window : WindowForm) (first : First) (links : List Link) (mode : LockMode) (lock : List ℕ) → IsNarrowed window first → AreLinked window (takers_of window) links
     → use_at window first.holding.id ≡ Some (Take mode lock) → list_any (may_be_second first mode lock) links ≡ false
     → completions window (takers_of window) first.holding.id [] first.holding.id 3 ≡ []
 none_begins window first links mode lock is linked takes fails =

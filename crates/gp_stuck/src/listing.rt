@@ -1,4 +1,4 @@
-ghost use Rattle.std.specs.Prelude.{◌≡◌, ◌≢◌, [], map, Err, IfOk, OnOk};
+ghost use Rattle.std.specs.Prelude.{◌≡◌, ◌≢◌, [], map, true, Err, IfOk, OnOk};
 ghost use Rattle.gp_instance.specs.Instances.{numbered};
 ghost use Rattle.gp_instance.specs.Search.{first_instances};
 ghost use Rattle.gp_window.specs.Formed.{IsFormed};
@@ -9,7 +9,7 @@ ghost use Rattle.gp_stuck.specs.Search.{found_cycles, takers_of};
 use crate::first::{First, begin_with};
 use crate::holding::first_holding;
 use crate::link::Link;
-use crate::links::links_of;
+use crate::links::{MOST_LINKS, links_of};
 use crate::search::{MOST_CYCLES, extend_first};
 use crate::waiting::Waiting;
 use gp_base::Row;
@@ -21,13 +21,14 @@ use std::alloc::{AllocError, Global};
 /// All cycles of a window, in lexicographic order of their events by thread and index.
 ///
 /// First one walk over the events notes which locks a thread holds at each that takes one: that takes the
-/// time of the events, and of the locks held at those that take one. A second walk notes, once each, the ways to
+/// time of the events, and of the locks held at those that take one. A second walk notes, seldom twice, the ways to
 /// wait: which thread takes which lock while it holds which other. Of these, for each event that takes a lock while
 /// its thread holds another, two tables are made: which threads wait for what is held there, and which for these. The
 /// search then goes from that event over those alone that hold the lock that is waited for, and enters one only where
 /// the tables have threads that close the chain with the events that are left of four, so that all that it enters
 /// stands in a cycle. It stops one cycle past the limit. The worst case is of the order of n times w for n notes and w
-/// ways to wait, by the tables, and of n for each event of a cycle that is listed.
+/// ways to wait, by the tables, and of n for each event of a cycle that is listed; where there are more than 16,384 ways to
+/// wait, as where a thread holds hundreds of locks at once, no tables are made, and it is of the order of n to the power of 5.
 pub fn cycles(alloc: Global, window: &Window) -> Result<Row<Instance>, InstancesFault>
     ensures { result ≢ Err InstancesFault.Memory → result ≡ due_cycles window.now }
 {
@@ -52,6 +53,7 @@ fn found(alloc: Global, waiting: &Waiting) -> Result<Row<Instance>, AllocError>
         holding,
         closers: Groups::new(alloc),
         steps: Groups::new(alloc),
+        narrows: links.len() <= MOST_LINKS,
     };
     let mut found = Row::new(alloc);
     find_all(alloc, waiting, links.as_slice(), &mut first, &mut found)?;
@@ -66,7 +68,7 @@ fn find_all(
     found: &mut Row<Instance>,
 ) -> Result<(), AllocError>
     requires formed { IsFormed waiting.now }
-    requires linked { AreLinked waiting.now (takers_of waiting.now) links.now }
+    requires linked { first.old.narrows ≡ true → AreLinked waiting.now (takers_of waiting.now) links.now }
     requires holding { IsHolding waiting.now first.old.holding }
     requires nothing { found.old ≡ [] }
     ensures { OnOk result (found.new ≡ first_instances [] (map (numbered 0) (found_cycles waiting.now))) }

@@ -1,4 +1,4 @@
-ghost use Rattle.std.specs.Prelude.{◌≡◌, ◌==◌, ◌&&◌, ◌||◌, ◌∷◌, ◌++◌, ℕ, [], not, nat_lt, false};
+ghost use Rattle.std.specs.Prelude.{◌≡◌, ◌==◌, ◌&&◌, ◌||◌, ◌∷◌, ◌++◌, ℕ, [], not, nat_lt, true, false};
 ghost use Rattle.std.specs.List.{list_all, list_any};
 ghost use Rattle.gp_constraint.specs.Tables.{entry_at};
 ghost use Rattle.gp_constraint.specs.Sections.{exclude};
@@ -18,9 +18,12 @@ use gp_window::EventId;
 /// Whether cycles may begin with the first event.
 pub fn may_begin(waiting: &Waiting, first: &First, links: &[Link]) -> bool
     requires first { IsFirst waiting.now first.now }
-    requires linked { AreLinked waiting.now (takers_of waiting.now) links.now }
+    requires linked { first.now.narrows ≡ true → AreLinked waiting.now (takers_of waiting.now) links.now }
     ensures { result ≡ false → completions waiting.now (takers_of waiting.now) first.now.holding.id [] first.now.holding.id 3 ≡ [] }
 {
+    if !first.narrows {
+        return true;
+    }
     let Some(lock_use) = use_at(waiting.window(), first.holding.id) else {
         return true;
     };
@@ -58,6 +61,9 @@ pub fn may_go_on(
     requires { IsFirst waiting.now first.now }
     ensures { result ≡ false → completions waiting.now (takers_of waiting.now) first.now.holding.id (passed.now ++ id ∷ []) id fewer ≡ [] }
 {
+    if !first.narrows {
+        return true;
+    }
     let Some(lock_use) = use_at(waiting.window(), id) else {
         return true;
     };

@@ -1,4 +1,4 @@
-ghost use Rattle.std.specs.Prelude.{◌≡◌, ◌∷◌, ◌++◌, ◌≤◌, ◌&&◌, [], filter, if◌then◌else◌, length, map, nat_lt, IfOk, OnOk};
+ghost use Rattle.std.specs.Prelude.{◌≡◌, ◌∷◌, ◌++◌, ◌≤◌, ◌&&◌, [], filter, if◌then◌else◌, length, map, nat_lt, true, IfOk, OnOk};
 ghost use Rattle.std.specs.List.{flat_map, list_all};
 ghost use Rattle.gp_instance.specs.Instances.{numbered};
 ghost use Rattle.gp_instance.specs.Search.{first_instances, instance_after};
@@ -35,7 +35,7 @@ pub fn extend_first(
     found: &mut Row<Instance>,
 ) -> Result<(), AllocError>
     requires first { IsFirst waiting.now first.now }
-    requires linked { AreLinked waiting.now (takers_of waiting.now) links.now }
+    requires linked { first.now.narrows ≡ true → AreLinked waiting.now (takers_of waiting.now) links.now }
     requires room { length found.old ≤ 10001 }
     ensures { OnOk result (found.new ≡ first_instances found.old (map (instance_after 0 (first.now.holding.id ∷ [])) (completions waiting.now (takers_of waiting.now) first.now.holding.id [] first.now.holding.id 3))) }
 {

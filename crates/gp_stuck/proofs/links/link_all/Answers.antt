@@ -20,7 +20,7 @@ loop-id-preserved c = record {
 }
 
 pub returns : goal.returns
-returns c = λ link id among is.
+returns c = λ few link id among is.
     each_all (λ (one : EventId). (link : Link) → IsLink c.args.waiting.now link one → Contains c.loop-id.links link) c.starts-id-items.result.now c.loop-id.id-index c.loop-id-test.false
     (λ one old way waits. c.loop-id.invariant.linked way one old waits)
     id (c.starts-id-items.ensures.all id link.held link.mode among is.may is.holds) link is

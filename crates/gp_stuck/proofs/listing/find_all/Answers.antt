@@ -17,6 +17,7 @@ returns-then-len-gt-MOST_CYCLES c = full _ _ (omega arith) c.loop-id.invariant.r
 pub loop-id-preserved : goal.loop-id-preserved
 loop-id-preserved c = record {
   holding = c.in_ok-begin_with.ensures.first.holding;
+  narrows = c.in_ok-begin_with.ensures.narrows ∙ c.loop-id.invariant.narrows;
   room = rw c.in_ok-extend_first.ensures (within_limit _ _);
   walk = start_step c.args.waiting.now c.loop-id.found c.extend_first.new.found c.starts-id-items.result.now c.loop-id.id-index (record { thread = 0; index = 0 })
       (first_instances [] (map (numbered 0) (found_cycles c.args.waiting.now)))
@@ -38,3 +39,9 @@ begin_with-requires-clause-among c =
     let id : EventId = record { thread = 0; index = 0 } in
     c.starts-id-items.ensures.among (get_or c.starts-id-items.result.now c.loop-id.id-index id)
     (Contains-get_or c.starts-id-items.result.now c.loop-id.id-index id c.loop-id-test.true)
+
+pub begin_with-requires-clause-linked : goal.begin_with-requires-clause-linked
+begin_with-requires-clause-linked c = λ narrows. c.requires.linked (sym c.loop-id.invariant.narrows ∙ narrows)
+
+pub extend_first-requires-clause-linked : goal.extend_first-requires-clause-linked
+extend_first-requires-clause-linked c = λ narrows. c.requires.linked (sym c.loop-id.invariant.narrows ∙ sym c.in_ok-begin_with.ensures.narrows ∙ narrows)

@@ -12,4 +12,4 @@ pub returns-in-Take : goal.returns-in-Take
 returns-in-Take c = λ none.
     let uses : ◌≡◌ {A = Option LockUse} (use_at c.args.waiting.now c.args.first.now.holding.id) (Some (Take c.in-Take.mode c.in-Take.lock)) =
     ap (λ (w : WindowForm). use_at w c.args.first.now.holding.id) (sym c.window.ensures) ∙ sym c.use_at.ensures ∙ c.in-Some.is ∙ ap Some c.in-Take.is in
-    none_begins c.args.waiting.now c.args.first.now c.args.links.now c.in-Take.mode c.in-Take.lock c.requires.first c.requires.linked uses (sym c.has_second.ensures ∙ none)
+    none_begins c.args.waiting.now c.args.first.now c.args.links.now c.in-Take.mode c.in-Take.lock (c.requires.first.narrowed c.if-not-first.false) (c.requires.linked c.if-not-first.false) uses (sym c.has_second.ensures ∙ none)

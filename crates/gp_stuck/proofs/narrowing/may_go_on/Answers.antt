@@ -12,4 +12,4 @@ pub returns-in-Take : goal.returns-in-Take
 returns-in-Take c = λ none.
     let uses : ◌≡◌ {A = Option LockUse} (use_at c.args.waiting.now c.args.id) (Some (Take c.in-Take.mode c.in-Take.lock)) =
     ap (λ (w : WindowForm). use_at w c.args.id) (sym c.window.ensures) ∙ sym c.use_at.ensures ∙ c.in-Some.is ∙ ap Some c.in-Take.is in
-    none_complete c.args.waiting.now c.args.first.now c.args.passed.now c.args.id c.in-Take.mode c.in-Take.lock c.args.fewer c.requires uses (sym c.may_close.ensures ∙ none)
+    none_complete c.args.waiting.now c.args.first.now c.args.passed.now c.args.id c.in-Take.mode c.in-Take.lock c.args.fewer (c.requires.narrowed c.if-not-first.false) uses (sym c.may_close.ensures ∙ none)

@@ -1,6 +1,5 @@
 // Clauses, and the bounds that kinds of variables set.
 use gp_clause::{BadClause, Clause, Edge, Kind, Lit};
-use std::test::Fail;
 
 const A: Lit = Lit {
     variable: 0,
@@ -23,7 +22,7 @@ const C: Lit = Lit {
 };
 
 #[test]
-fn sorts_literals_and_refuses_a_variable_twice(rt: HostRuntime) -> Result<(), Fail> {
+fn sorts_literals_and_refuses_a_variable_twice(rt: HostRuntime) {
     let rows: [(&[Lit], Option<&[Lit]>); 6] = [
         (&[], Some(&[])),
         (&[B], Some(&[B])),
@@ -33,11 +32,11 @@ fn sorts_literals_and_refuses_a_variable_twice(rt: HostRuntime) -> Result<(), Fa
         (&[C, B, NOT_A, C], None),
     ];
     for (given, want) in rows {
-        match Clause::of(Vec::from_slice(rt.alloc(), given)?) {
+        match Clause::of(Vec::from_slice(rt.alloc(), given).expect(&rt, "memory")) {
             Ok(clause) => {
                 assert_eq!(rt; Some(clause.lits()), want);
-                assert_eq!(rt; clause.clone()?.lits(), clause.lits());
-                assert!(rt; clause.clone()? == clause);
+                assert_eq!(rt; clause.clone().expect(&rt, "memory").lits(), clause.lits());
+                assert!(rt; clause.clone().expect(&rt, "memory") == clause);
                 assert_eq!(rt; clause.len(), given.len());
                 assert_eq!(rt; clause.is_empty(), given.is_empty());
                 assert_eq!(rt; Some(clause.into_vec().as_slice()), want);
@@ -45,7 +44,6 @@ fn sorts_literals_and_refuses_a_variable_twice(rt: HostRuntime) -> Result<(), Fa
             Err(BadClause) => assert_eq!(rt; None, want),
         }
     }
-    Ok(())
 }
 
 #[test]

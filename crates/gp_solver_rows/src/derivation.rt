@@ -4,16 +4,15 @@ ghost use Rattle.gp_clause.specs.Problem.{IsValidProblem, IsValidQuery};
 ghost use Rattle.gp_certificate.specs.Certificate.{clauses_of};
 
 use crate::fixture::{
-    Rows, are_lits, are_named, is_asked, is_valid, lits_of, problem_of, query_of,
+    Rows, are_lits, are_named, clause_of, is_asked, is_valid, problem_of, query_of, row_of,
 };
 use gp_base::Row;
 use gp_certificate::{Certificate, Step, check_certificate, check_shared};
-use gp_clause::{Clause, Edge, Kind, Problem, Query};
+use gp_clause::{Edge, Kind, Problem, Query};
 use gp_derivation::{LogEntry, Origin, can_be_numbered, cone, tight};
 use std::alloc::Global;
 use std::process::Abort;
 use std::sync::Arc;
-use std::test::Fail;
 
 // The literals of a step's clause, and its hints.
 pub type Line<'a> = (&'a [i32], &'a [u32]);
@@ -21,63 +20,59 @@ pub type Line<'a> = (&'a [i32], &'a [u32]);
 // An entry, and the lines of its certificate where it is taken.
 pub type Entry<'a> = (Line<'a>, Option<&'a [Line<'a>]>);
 
-pub fn step(alloc: Global, line: &Line) -> Result<Step, Fail> {
+pub fn step(rt: &impl Abort, alloc: Global, line: &Line) -> Step {
     let (words, hints) = line;
-    Ok(Step {
-        clause: Clause::of(lits_of(alloc, words)?)?,
-        hints: Row::from_vec(Vec::from_slice(alloc, hints)?),
-    })
+    Step {
+        clause: clause_of(rt, alloc, words),
+        hints: row_of(rt, alloc, hints),
+    }
 }
 
-fn push_step(alloc: Global, all: &mut Row<Step>, line: &Line) -> Result<(), Fail> {
-    let next = step(alloc, line)?;
-    all.push(next)?;
-    Ok(())
+fn push_step(rt: &impl Abort, alloc: Global, all: &mut Row<Step>, line: &Line) {
+    all.push(step(rt, alloc, line)).expect(rt, "memory");
 }
 
-fn steps(alloc: Global, lines: &[Line]) -> Result<Row<Step>, Fail> {
+fn steps(rt: &impl Abort, alloc: Global, lines: &[Line]) -> Row<Step> {
     let mut all = Row::new(alloc);
     for line in lines {
-        push_step(alloc, &mut all, line)?;
+        push_step(rt, alloc, &mut all, line);
     }
-    Ok(all)
+    all
 }
 
-fn certificate(alloc: Global, lines: &[Line]) -> Result<Certificate, Fail> {
-    Ok(Certificate {
-        steps: steps(alloc, lines)?,
-    })
+fn certificate(rt: &impl Abort, alloc: Global, lines: &[Line]) -> Certificate {
+    Certificate {
+        steps: steps(rt, alloc, lines),
+    }
 }
 
-fn entry(alloc: Global, entry: &Entry) -> Result<LogEntry, Fail> {
+fn entry(rt: &impl Abort, alloc: Global, entry: &Entry) -> LogEntry {
     let (line, lines) = entry;
     match lines {
-        None => Ok(LogEntry {
-            step: step(alloc, line)?,
+        None => LogEntry {
+            step: step(rt, alloc, line),
             origin: Origin::Learned,
-        }),
-        Some(lines) => Ok(LogEntry {
-            step: step(alloc, line)?,
+        },
+        Some(lines) => LogEntry {
+            step: step(rt, alloc, line),
             origin: Origin::Taken {
                 sender: 1,
-                certificate: Arc::new(alloc, certificate(alloc, lines)?)?,
+                certificate: Arc::new(alloc, certificate(rt, alloc, lines)).expect(rt, "memory"),
             },
-        }),
+        },
     }
 }
 
-fn push_entry(alloc: Global, log: &mut Row<LogEntry>, line: &Entry) -> Result<(), Fail> {
-    let next = entry(alloc, line)?;
-    log.push(next)?;
-    Ok(())
+fn push_entry(rt: &impl Abort, alloc: Global, log: &mut Row<LogEntry>, line: &Entry) {
+    log.push(entry(rt, alloc, line)).expect(rt, "memory");
 }
 
-pub fn log_of(alloc: Global, entries: &[Entry]) -> Result<Row<LogEntry>, Fail> {
+pub fn log_of(rt: &impl Abort, alloc: Global, entries: &[Entry]) -> Row<LogEntry> {
     let mut log = Row::new(alloc);
     for entry in entries {
-        push_entry(alloc, &mut log, entry)?;
+        push_entry(rt, alloc, &mut log, entry);
     }
-    Ok(log)
+    log
 }
 
 fn is_step(given: &Step, line: &Line) -> bool {
@@ -94,37 +89,30 @@ pub fn are_steps(given: &[Step], lines: &[Line]) -> bool {
 }
 
 // Whether the cone of a last step over three base clauses and a log has these steps.
-fn is_cone(
-    rt: &impl Abort,
-    alloc: Global,
-    log: &[LogEntry],
-    last: &Step,
-    lines: &[Line],
-) -> Result<bool, Fail> {
+fn is_cone(rt: &impl Abort, alloc: Global, log: &[LogEntry], last: &Step, lines: &[Line]) -> bool {
     assert!(rt; can_be_numbered(3, log, last));
-    let certificate = cone(alloc, 3, log, last)?;
-    Ok(are_steps(certificate.steps.as_slice(), lines))
+    let certificate = cone(alloc, 3, log, last).expect(rt, "memory");
+    are_steps(certificate.steps.as_slice(), lines)
 }
 
 // A log over three base clauses, so that hint 3 names its first entry, the hints of a last step, and the cone of that.
 type Cone<'a> = (&'a str, [Entry<'a>; 3], &'a [u32], &'a [Line<'a>]);
 
-fn has_cone(rt: &impl Abort, alloc: Global, row: &Cone) -> Result<bool, Fail> {
+fn has_cone(rt: &impl Abort, alloc: Global, row: &Cone) -> bool {
     let (_, entries, hints, lines) = row;
-    let last = step(alloc, &(&[20], hints))?;
-    let log = log_of(alloc, entries)?;
+    let last = step(rt, alloc, &(&[20], hints));
+    let log = log_of(rt, alloc, entries);
     is_cone(rt, alloc, log.as_slice(), &last, lines)
 }
 
-fn have_cones(rt: &impl Abort, alloc: Global, rows: &[Cone]) -> Result<(), Fail> {
+fn have_cones(rt: &impl Abort, alloc: Global, rows: &[Cone]) {
     for row in rows {
-        assert!(rt; has_cone(rt, alloc, row)?, "{}", row.0);
+        assert!(rt; has_cone(rt, alloc, row), "{}", row.0);
     }
-    Ok(())
 }
 
 #[test]
-fn cones_of_small_logs(rt: HostRuntime) -> Result<(), Fail> {
+fn cones_of_small_logs(rt: HostRuntime) {
     const FIRST: Entry = ((&[10], &[0, 1]), None);
     const ROWS: [Cone; 7] = [
         (
@@ -191,22 +179,21 @@ fn cones_of_small_logs(rt: HostRuntime) -> Result<(), Fail> {
 // How many base clauses there are, the entry of a log, the hints of a last step, and whether they can be numbered.
 type Numbered<'a> = (&'a str, u32, [Entry<'a>; 1], &'a [u32], bool);
 
-fn is_numbered(alloc: Global, row: &Numbered) -> Result<bool, Fail> {
+fn is_numbered(rt: &impl Abort, alloc: Global, row: &Numbered) -> bool {
     let (_, bases, entries, hints, due) = row;
-    let last = step(alloc, &(&[20], hints))?;
-    let log = log_of(alloc, entries)?;
-    Ok(can_be_numbered(*bases, log.as_slice(), &last) == *due)
+    let last = step(rt, alloc, &(&[20], hints));
+    let log = log_of(rt, alloc, entries);
+    can_be_numbered(*bases, log.as_slice(), &last) == *due
 }
 
-fn are_numbered(rt: &impl Abort, alloc: Global, rows: &[Numbered]) -> Result<(), Fail> {
+fn are_numbered(rt: &impl Abort, alloc: Global, rows: &[Numbered]) {
     for row in rows {
-        assert!(rt; is_numbered(alloc, row)?, "{}", row.0);
+        assert!(rt; is_numbered(rt, alloc, row), "{}", row.0);
     }
-    Ok(())
 }
 
 #[test]
-fn logs_that_can_and_cannot_be_numbered(rt: HostRuntime) -> Result<(), Fail> {
+fn logs_that_can_and_cannot_be_numbered(rt: HostRuntime) {
     const FEW: [Entry; 1] = [((&[10], &[0, 0]), None)];
     const BEFORE: [Entry; 1] = [((&[10], &[2, 0]), None)];
     const ITSELF: [Entry; 1] = [((&[10], &[3, 0]), None)];
@@ -288,11 +275,11 @@ struct Posed {
     query: Query,
 }
 
-fn pose(alloc: Global, rows: &Rows, locals: &[Kind]) -> Result<Posed, Fail> {
-    Ok(Posed {
-        problem: problem_of(alloc, rows)?,
-        query: query_of(alloc, locals, &[])?,
-    })
+fn pose(rt: &impl Abort, alloc: Global, rows: &Rows, locals: &[Kind]) -> Posed {
+    Posed {
+        problem: problem_of(rt, alloc, rows),
+        query: query_of(rt, alloc, locals, &[]),
+    }
 }
 
 fn passes(
@@ -301,50 +288,43 @@ fn passes(
     posed: &Posed,
     shared: &[Step],
     own: &Certificate,
-) -> Result<bool, Fail> {
+) -> bool {
     let Posed { problem, query } = posed;
     assert!(rt; is_valid(problem));
     assert!(rt; is_asked(problem, query));
     assert!(rt; are_within(problem.kinds.len() + query.locals.len(), shared));
-    Ok(check_certificate(alloc, problem, shared, query, own)?)
+    check_certificate(alloc, problem, shared, query, own).expect(rt, "memory")
 }
 
 // Shared steps and own ones, and whether each own one passes over the shared ones.
 type Passing<'a> = (&'a str, &'a [Line<'a>], &'a [Line<'a>], bool);
 
-fn is_passing(rt: &impl Abort, alloc: Global, posed: &Posed, row: &Passing) -> Result<bool, Fail> {
+fn is_passing(rt: &impl Abort, alloc: Global, posed: &Posed, row: &Passing) -> bool {
     let (_, shared, own, due) = row;
-    let shared = steps(alloc, shared)?;
-    let own = certificate(alloc, own)?;
-    Ok(passes(rt, alloc, posed, shared.as_slice(), &own)? == *due)
+    let shared = steps(rt, alloc, shared);
+    let own = certificate(rt, alloc, own);
+    passes(rt, alloc, posed, shared.as_slice(), &own) == *due
 }
 
-fn are_passing(
-    rt: &impl Abort,
-    alloc: Global,
-    posed: &Posed,
-    rows: &[Passing],
-) -> Result<(), Fail> {
+fn are_passing(rt: &impl Abort, alloc: Global, posed: &Posed, rows: &[Passing]) {
     for row in rows {
-        assert!(rt; is_passing(rt, alloc, posed, row)?, "{}", row.0);
+        assert!(rt; is_passing(rt, alloc, posed, row), "{}", row.0);
     }
-    Ok(())
 }
 
 #[test]
-fn checks_a_step_without_hints(rt: HostRuntime) -> Result<(), Fail> {
+fn checks_a_step_without_hints(rt: HostRuntime) {
     const ROWS: [Passing; 2] = [
         ("{a} by all clauses", &[], &[(&[1], &[])], true),
         ("{b}", &[], &[(&[2], &[])], false),
     ];
-    let posed = pose(rt.alloc(), &TWO, &[])?;
-    let hold = are_passing(&rt, rt.alloc(), &posed, &ROWS);
+    let posed = pose(&rt, rt.alloc(), &TWO, &[]);
+    are_passing(&rt, rt.alloc(), &posed, &ROWS);
     drop(posed);
-    hold
 }
 
 #[test]
-fn checks_each_own_step(rt: HostRuntime) -> Result<(), Fail> {
+fn checks_each_own_step(rt: HostRuntime) {
     const LAST: Line = (&[-2, -5, 9], &[2, 5, 7]);
     const OVER: Line = (&[-2, -5, 9], &[8, 5, 7]);
     const MOVED: Line = (&[4, -5], &[2]);
@@ -359,52 +339,36 @@ fn checks_each_own_step(rt: HostRuntime) -> Result<(), Fail> {
         ("after an own step", &[], &[MOVED, OVER], true),
         ("the second fails", &[], &[LAST, (&[-4], &[])], false),
     ];
-    let posed = pose(rt.alloc(), &FLAG, &ORDER)?;
-    let hold = are_passing(&rt, rt.alloc(), &posed, &ROWS);
+    let posed = pose(&rt, rt.alloc(), &FLAG, &ORDER);
+    are_passing(&rt, rt.alloc(), &posed, &ROWS);
     drop(posed);
-    hold
 }
 
 // The first shared step that fails.
-fn first_of(
-    rt: &impl Abort,
-    alloc: Global,
-    problem: &Problem,
-    shared: &[Step],
-) -> Result<Option<u64>, Fail> {
+fn first_of(rt: &impl Abort, alloc: Global, problem: &Problem, shared: &[Step]) -> Option<u64> {
     assert!(rt; is_valid(problem));
-    Ok(check_shared(alloc, problem, shared)?)
+    check_shared(alloc, problem, shared).expect(rt, "memory")
 }
 
 // Shared steps, and the first of them that fails.
 type Failing<'a> = (&'a [Line<'a>], Option<u64>);
 
-fn is_first(
-    rt: &impl Abort,
-    alloc: Global,
-    problem: &Problem,
-    row: &Failing,
-) -> Result<bool, Fail> {
+fn is_first(rt: &impl Abort, alloc: Global, problem: &Problem, row: &Failing) -> bool {
     let (shared, due) = row;
-    let shared = steps(alloc, shared)?;
-    Ok(first_of(rt, alloc, problem, shared.as_slice())? == *due)
+    let shared = steps(rt, alloc, shared);
+    first_of(rt, alloc, problem, shared.as_slice()) == *due
 }
 
-fn are_first(
-    rt: &impl Abort,
-    alloc: Global,
-    problem: &Problem,
-    rows: &[Failing],
-) -> Result<bool, Fail> {
+fn are_first(rt: &impl Abort, alloc: Global, problem: &Problem, rows: &[Failing]) -> bool {
     let mut all = true;
     for row in rows {
-        all &= is_first(rt, alloc, problem, row)?;
+        all &= is_first(rt, alloc, problem, row);
     }
-    Ok(all)
+    all
 }
 
 #[test]
-fn tells_the_first_shared_step_that_fails(rt: HostRuntime) -> Result<(), Fail> {
+fn tells_the_first_shared_step_that_fails(rt: HostRuntime) {
     const GOOD: Line = (&[4, -5], &[2]);
     const BAD: Line = (&[3, -5], &[2]);
     const LOCAL: Line = (&[-2, -5, 9], &[2, 5, 7]);
@@ -415,11 +379,10 @@ fn tells_the_first_shared_step_that_fails(rt: HostRuntime) -> Result<(), Fail> {
         (&[GOOD, BAD, BAD], Some(1)),
         (&[GOOD, LOCAL], Some(1)),
     ];
-    let problem = problem_of(rt.alloc(), &FLAG)?;
+    let problem = problem_of(&rt, rt.alloc(), &FLAG);
     let all = are_first(&rt, rt.alloc(), &problem, &ROWS);
     drop(problem);
-    assert!(rt; all?);
-    Ok(())
+    assert!(rt; all);
 }
 
 // The step of a certificate that has one.
@@ -439,39 +402,32 @@ fn tightened(
     problem: &Problem,
     query: &Query,
     certificate: Certificate,
-) -> Result<Step, Fail>
+) -> Step
     requires valid { IsValidProblem problem.now }
     requires asked { IsValidQuery problem.now query.now }
 {
-    assert!(rt; check_certificate(alloc, problem, &[], query, &certificate)?);
+    assert!(rt; check_certificate(alloc, problem, &[], query, &certificate).expect(rt, "memory"));
     let step = only_step(rt, certificate);
     assert!(rt; !step.hints.is_empty());
-    Ok(tight(alloc, problem, query, &[], step)?)
+    tight(alloc, problem, query, &[], step).expect(rt, "memory")
 }
 
 // Whether the one step of a certificate is this one when it is made tight.
-fn is_tightened(
-    rt: &impl Abort,
-    alloc: Global,
-    posed: &Posed,
-    lines: &[Line],
-    due: &Line,
-) -> Result<bool, Fail> {
+fn is_tightened(rt: &impl Abort, alloc: Global, posed: &Posed, lines: &[Line], due: &Line) -> bool {
     let Posed { problem, query } = posed;
     assert!(rt; is_valid(problem));
     assert!(rt; is_asked(problem, query));
-    let only = certificate(alloc, lines)?;
-    let short = tightened(rt, alloc, problem, query, only)?;
-    Ok(is_step(&short, due))
+    let only = certificate(rt, alloc, lines);
+    let short = tightened(rt, alloc, problem, query, only);
+    is_step(&short, due)
 }
 
 #[test]
-fn leaves_out_what_can_be_left_out(rt: HostRuntime) -> Result<(), Fail> {
+fn leaves_out_what_can_be_left_out(rt: HostRuntime) {
     const LONG: [Line; 1] = [(&[1, 2], &[0, 1])];
     const SHORT: Line = (&[1], &[0, 1]);
-    let posed = pose(rt.alloc(), &TWO, &[])?;
+    let posed = pose(&rt, rt.alloc(), &TWO, &[]);
     let tightened = is_tightened(&rt, rt.alloc(), &posed, &LONG, &SHORT);
     drop(posed);
-    assert!(rt; tightened?);
-    Ok(())
+    assert!(rt; tightened);
 }

@@ -8,7 +8,7 @@ use gp_base::Row;
 use gp_clause::{Clause, Edge, Kind, Lit, Problem, Query};
 use gp_difference::keeps;
 use std::alloc::{AllocError, Global};
-use std::test::Fail;
+use std::process::Abort;
 
 /// The literal that a number spells: its variable plus one, with a minus where it is negated.
 pub fn lit(word: i32) -> Lit {
@@ -24,6 +24,12 @@ pub fn lits_of(alloc: Global, words: &[i32]) -> Result<Vec<Lit>, AllocError> {
         lits.push(lit(*word))?;
     }
     Ok(lits)
+}
+
+/// The clause of the literals that the numbers spell.
+pub fn clause_of(rt: &impl Abort, alloc: Global, words: &[i32]) -> Clause {
+    let lits = lits_of(alloc, words).expect(rt, "memory");
+    Clause::of(lits).expect(rt, "a clause")
 }
 
 /// Whether these are the literals that the numbers spell.
@@ -55,29 +61,32 @@ pub const EIGHT: [&[i32]; 8] = [
     &[-1, -2, -3],
 ];
 
-pub fn clauses_of(alloc: Global, clauses: &[&[i32]]) -> Result<Row<Clause>, Fail> {
+pub fn clauses_of(rt: &impl Abort, alloc: Global, clauses: &[&[i32]]) -> Row<Clause> {
     let mut all = Row::new(alloc);
     for words in clauses {
-        let clause = Clause::of(lits_of(alloc, words)?)?;
-        all.push(clause)?;
+        all.push(clause_of(rt, alloc, words)).expect(rt, "memory");
     }
-    Ok(all)
+    all
 }
 
-pub fn problem_of(alloc: Global, rows: &Rows) -> Result<Problem, Fail> {
-    Ok(Problem {
+pub fn row_of<T: Copy + Drop>(rt: &impl Abort, alloc: Global, all: &[T]) -> Row<T> {
+    Row::from_vec(Vec::from_slice(alloc, all).expect(rt, "memory"))
+}
+
+pub fn problem_of(rt: &impl Abort, alloc: Global, rows: &Rows) -> Problem {
+    Problem {
         points: rows.points,
-        kinds: Row::from_vec(Vec::from_slice(alloc, rows.kinds)?),
-        edges: Row::from_vec(Vec::from_slice(alloc, rows.edges)?),
-        clauses: clauses_of(alloc, rows.clauses)?,
-    })
+        kinds: row_of(rt, alloc, rows.kinds),
+        edges: row_of(rt, alloc, rows.edges),
+        clauses: clauses_of(rt, alloc, rows.clauses),
+    }
 }
 
-pub fn query_of(alloc: Global, locals: &[Kind], assumed: &[i32]) -> Result<Query, Fail> {
-    Ok(Query {
-        locals: Row::from_vec(Vec::from_slice(alloc, locals)?),
-        assumed: Row::from_vec(lits_of(alloc, assumed)?),
-    })
+pub fn query_of(rt: &impl Abort, alloc: Global, locals: &[Kind], assumed: &[i32]) -> Query {
+    Query {
+        locals: row_of(rt, alloc, locals),
+        assumed: Row::from_vec(lits_of(alloc, assumed).expect(rt, "memory")),
+    }
 }
 
 fn is_kind(points: u32, kind: Kind) -> bool

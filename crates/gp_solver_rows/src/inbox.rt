@@ -3,7 +3,7 @@ ghost use Rattle.crossbeam_queue.specs.Passes.{view};
 ghost use Rattle.gp_clause.specs.Problem.{IsValidProblem};
 ghost use Rattle.gp_inbox.specs.Passes.{IsOf};
 ghost use Rattle.gp_inbox.specs.Views.{IsDrained, IsWhole, MayPush, sender_view, taker_view};
-ghost use Rattle.std.specs.Prelude.{◌≡◌, ◌<◌, ◌+◌, true, Some, [], ◌∷◌, IfOk, IfSome, IsTrue, length};
+ghost use Rattle.std.specs.Prelude.{◌≡◌, ◌<◌, ◌+◌, true, Some, [], ◌∷◌, IfSome, IsTrue, length};
 
 use crate::fixture::{Rows, are_lits, is_valid, problem_of};
 use crate::passing::shared_of;
@@ -13,7 +13,6 @@ use gp_inbox::{Inbox, Pass};
 use std::alloc::Global;
 use std::process::Abort;
 use std::sync::Wait;
-use std::test::Fail;
 
 // Four free variables and a clause that is false, by which every clause passes. The points tell one problem from another.
 fn no_way_out(points: u32) -> Rows<'static> {
@@ -41,22 +40,21 @@ fn send<R: Wait + Abort>(
     pass: &mut Pass,
     sender: u32,
     word: i32,
-) -> Result<(), Fail>
+)
     requires base { IsValidProblem base.now }
     requires own { IsOf inbox.now pass.old }
     requires same { (view pass.old).base ≡ Some base.now }
     requires number { MayPush (view pass.old) sender }
     requires few { length (view pass.old).pushed < 1000 }
-    ensures own { IfOk result (λ _. IsOf inbox.now pass.new) }
-    ensures same { IfOk result (λ _. (view pass.new).base ≡ (view pass.old).base) }
-    ensures senders { IfOk result (λ _. (view pass.new).senders ≡ (view pass.old).senders) }
-    ensures numbers { IfOk result (λ _. (view pass.new).numbers ≡ (view pass.old).numbers) }
-    ensures takes { IfOk result (λ _. (view pass.new).takes ≡ (view pass.old).takes) }
-    ensures more { IfOk result (λ _. length (view pass.new).pushed ≡ length (view pass.old).pushed + 1) }
+    ensures own { IsOf inbox.now pass.new }
+    ensures same { (view pass.new).base ≡ (view pass.old).base }
+    ensures senders { (view pass.new).senders ≡ (view pass.old).senders }
+    ensures numbers { (view pass.new).numbers ≡ (view pass.old).numbers }
+    ensures takes { (view pass.new).takes ≡ (view pass.old).takes }
+    ensures more { length (view pass.new).pushed ≡ length (view pass.old).pushed + 1 }
 {
-    let shared = shared_of(rt, alloc, base, sender, &[word])?;
+    let shared = shared_of(rt, alloc, base, sender, &[word]);
     inbox.offer(rt, pass, shared);
-    Ok(())
 }
 
 // Takes the next clause. All else that the pass knows stays.
@@ -82,7 +80,7 @@ fn exchange<R: Wait + Abort>(
     two: Pass,
     three: Pass,
     taker: Pass,
-) -> Result<bool, Fail>
+) -> bool
     requires base { IsValidProblem base.now }
     requires two { IsOf inbox.now two × (view two ≡ sender_view base.now (2 ∷ 3 ∷ []) 2) }
     requires three { IsOf inbox.now three × (view three ≡ sender_view base.now (2 ∷ 3 ∷ []) 3) }
@@ -92,27 +90,25 @@ fn exchange<R: Wait + Abort>(
     let mut three = three;
     let mut taker = taker;
     let none = next(rt, inbox, &mut taker);
-    send(rt, alloc, inbox, base, &mut two, 2, 1)?;
-    send(rt, alloc, inbox, base, &mut three, 3, 2)?;
-    send(rt, alloc, inbox, base, &mut two, 2, 3)?;
+    send(rt, alloc, inbox, base, &mut two, 2, 1);
+    send(rt, alloc, inbox, base, &mut three, 3, 2);
+    send(rt, alloc, inbox, base, &mut two, 2, 3);
     let first = next(rt, inbox, &mut taker);
     let second = next(rt, inbox, &mut taker);
     let third = next(rt, inbox, &mut taker);
     let empty = next(rt, inbox, &mut taker);
     inbox.rejoin(&mut taker, two);
     inbox.rejoin(&mut taker, three);
-    send(rt, alloc, inbox, base, &mut taker, 3, 4)?;
+    send(rt, alloc, inbox, base, &mut taker, 3, 4);
     let last = next(rt, inbox, &mut taker);
     let end = next(rt, inbox, &mut taker);
-    Ok(
-        none.is_none()
-            && is_unit(&first, 2, 1)
-            && is_unit(&second, 3, 2)
-            && is_unit(&third, 2, 3)
-            && empty.is_none()
-            && is_unit(&last, 3, 4)
-            && end.is_none(),
-    )
+    none.is_none()
+        && is_unit(&first, 2, 1)
+        && is_unit(&second, 3, 2)
+        && is_unit(&third, 2, 3)
+        && empty.is_none()
+        && is_unit(&last, 3, 4)
+        && end.is_none()
 }
 
 // Whether all that was pushed under the numbers of the pass was taken.
@@ -135,7 +131,7 @@ fn renew<R: Wait + Abort>(
     two: Pass,
     three: Pass,
     taker: Pass,
-) -> Result<bool, Fail>
+) -> bool
     requires first { IsValidProblem first.now }
     requires second { IsValidProblem second.now }
     requires two { IsOf inbox.now two × (view two ≡ sender_view first.now (2 ∷ 3 ∷ []) 2) }
@@ -144,49 +140,49 @@ fn renew<R: Wait + Abort>(
 {
     let mut two = two;
     let mut taker = taker;
-    send(rt, alloc, inbox, first, &mut two, 2, 4)?;
+    send(rt, alloc, inbox, first, &mut two, 2, 4);
     let got = next(rt, inbox, &mut taker);
     inbox.rejoin(&mut taker, two);
     inbox.rejoin(&mut taker, three);
     if !is_drained(rt, inbox, &mut taker) {
-        return Ok(false);
+        return false;
     }
-    match renewed(alloc, inbox, &mut taker, second)? {
-        Some((two, three)) => Ok(
-            is_unit(&got, 2, 4) && exchange(rt, alloc, second, inbox, two, three, taker)?,
-        ),
-        None => Ok(false),
+    match renewed(rt, alloc, inbox, &mut taker, second) {
+        Some((two, three)) => {
+            is_unit(&got, 2, 4) && exchange(rt, alloc, second, inbox, two, three, taker)
+        }
+        None => false,
     }
 }
 
 // The passes of two senders, once an inbox that is empty serves another problem.
 fn renewed(
+    rt: &impl Abort,
     alloc: Global,
     inbox: &Inbox,
     taker: &mut Pass,
     base: &Problem,
-) -> Result<Option<(Pass, Pass)>, Fail>
+) -> Option<(Pass, Pass)>
     requires own { IsOf inbox.now taker.old }
     requires whole { IsWhole (view taker.old) }
     requires same { (view taker.old).senders ≡ 2 ∷ 3 ∷ [] }
-    ensures senders { IfOk result (λ some. IfSome some (λ made. (IsOf inbox.now made.0 × (view made.0 ≡ sender_view base.now (2 ∷ 3 ∷ []) 2)) × (IsOf inbox.now made.1 × (view made.1 ≡ sender_view base.now (2 ∷ 3 ∷ []) 3)))) }
-    ensures taker { IfOk result (λ _. IsOf inbox.now taker.new × (view taker.new ≡ taker_view base.now (2 ∷ 3 ∷ []))) }
+    ensures senders { IfSome result (λ made. (IsOf inbox.now made.0 × (view made.0 ≡ sender_view base.now (2 ∷ 3 ∷ []) 2)) × (IsOf inbox.now made.1 × (view made.1 ≡ sender_view base.now (2 ∷ 3 ∷ []) 3))) }
+    ensures taker { IsOf inbox.now taker.new × (view taker.new ≡ taker_view base.now (2 ∷ 3 ∷ [])) }
 {
-    let passes = inbox.renew(alloc, taker, base, &[2, 3])?;
-    match both(passes) {
-        Some((two, three)) => Ok(Some((two, three))),
-        None => Ok(None),
-    }
+    let passes = inbox
+        .renew(alloc, taker, base, &[2, 3])
+        .expect(rt, "memory");
+    both(passes)
 }
 
 // An inbox of two senders, their passes and the taker's.
-fn of_two(alloc: Global, base: &Problem) -> Result<Option<(Inbox, Pass, Pass, Pass)>, Fail>
-    ensures { IfOk result (λ some. IfSome some (λ made. (IsOf made.0 made.1 × (view made.1 ≡ sender_view base.now (2 ∷ 3 ∷ []) 2)) × (IsOf made.0 made.2 × (view made.2 ≡ sender_view base.now (2 ∷ 3 ∷ []) 3)) × (IsOf made.0 made.3 × (view made.3 ≡ taker_view base.now (2 ∷ 3 ∷ []))))) }
+fn of_two(rt: &impl Abort, alloc: Global, base: &Problem) -> Option<(Inbox, Pass, Pass, Pass)>
+    ensures { IfSome result (λ made. (IsOf made.0 made.1 × (view made.1 ≡ sender_view base.now (2 ∷ 3 ∷ []) 2)) × (IsOf made.0 made.2 × (view made.2 ≡ sender_view base.now (2 ∷ 3 ∷ []) 3)) × (IsOf made.0 made.3 × (view made.3 ≡ taker_view base.now (2 ∷ 3 ∷ [])))) }
 {
-    let (inbox, passes, taker) = Inbox::new(alloc, base, &[2, 3])?;
+    let (inbox, passes, taker) = Inbox::new(alloc, base, &[2, 3]).expect(rt, "memory");
     match both(passes) {
-        Some((two, three)) => Ok(Some((inbox, two, three, taker))),
-        None => Ok(None),
+        Some((two, three)) => Some((inbox, two, three, taker)),
+        None => None,
     }
 }
 
@@ -202,37 +198,53 @@ fn both(passes: Vec<Pass>) -> Option<(Pass, Pass)>
     Some((first, second))
 }
 
-#[test]
-fn in_the_order_of_the_offers(rt: HostRuntime) -> Result<(), Fail> {
-    let alloc = rt.alloc();
-    let base = problem_of(alloc, &no_way_out(0))?;
-    assert!(rt; is_valid(&base));
-    match of_two(alloc, &base)? {
+// Whether the clauses of two senders come in the order of their offers.
+fn is_in_order<R: Wait + Abort>(rt: &R, alloc: Global, base: &Problem) -> bool
+    requires { IsValidProblem base.now }
+{
+    match of_two(rt, alloc, base) {
         Some((inbox, two, three, taker)) => {
-            let due = exchange(&rt, alloc, &base, &inbox, two, three, taker)?;
-            assert!(rt; due);
+            let due = exchange(rt, alloc, base, &inbox, two, three, taker);
+            drop(inbox);
+            due
         }
-        None => {
-            assert!(rt; false);
-        }
+        None => false,
     }
-    Ok(())
 }
 
 #[test]
-fn serves_one_problem_after_another(rt: HostRuntime) -> Result<(), Fail> {
+fn in_the_order_of_the_offers(rt: HostRuntime) {
     let alloc = rt.alloc();
-    let first = problem_of(alloc, &no_way_out(0))?;
-    let second = problem_of(alloc, &no_way_out(1))?;
-    assert!(rt; is_valid(&first) && is_valid(&second));
-    match of_two(alloc, &first)? {
+    let base = problem_of(&rt, alloc, &no_way_out(0));
+    assert!(rt; is_valid(&base));
+    let due = is_in_order(&rt, alloc, &base);
+    drop(base);
+    assert!(rt; due);
+}
+
+// Whether an inbox of the first problem serves the second one.
+fn serves_both<R: Wait + Abort>(rt: &R, alloc: Global, first: &Problem, second: &Problem) -> bool
+    requires first { IsValidProblem first.now }
+    requires second { IsValidProblem second.now }
+{
+    match of_two(rt, alloc, first) {
         Some((inbox, two, three, taker)) => {
-            let due = renew(&rt, alloc, &first, &second, &inbox, two, three, taker)?;
-            assert!(rt; due);
+            let due = renew(rt, alloc, first, second, &inbox, two, three, taker);
+            drop(inbox);
+            due
         }
-        None => {
-            assert!(rt; false);
-        }
+        None => false,
     }
-    Ok(())
+}
+
+#[test]
+fn serves_one_problem_after_another(rt: HostRuntime) {
+    let alloc = rt.alloc();
+    let first = problem_of(&rt, alloc, &no_way_out(0));
+    let second = problem_of(&rt, alloc, &no_way_out(1));
+    assert!(rt; is_valid(&first) && is_valid(&second));
+    let due = serves_both(&rt, alloc, &first, &second);
+    drop(second);
+    drop(first);
+    assert!(rt; due);
 }

@@ -1,12 +1,12 @@
 ghost use Rattle.std.specs.Arc.{arc_value};
-ghost use Rattle.std.specs.Prelude.{◌≡◌, ◌∷◌, [], All, IfOk, IsTrue};
+ghost use Rattle.std.specs.Prelude.{◌≡◌, ◌++◌, ◌∷◌, [], All, IfOk, IsTrue};
 ghost use Rattle.gp_clause.specs.Problem.{IsValidProblem};
 ghost use Rattle.gp_derivation.specs.Exchange.{IsGood, IsGoodBy};
 ghost use Rattle.gp_clause.specs.Edge.{IsSolvable};
 
 use crate::derivation::TWO;
 use crate::fixture::{
-    EIGHT, FREE, Rows, are_lits, are_named, is_asked, is_solvable, is_valid, lits_of, problem_of,
+    EIGHT, FREE, Rows, are_lits, are_named, clause_of, is_asked, is_solvable, is_valid, problem_of,
     query_of,
 };
 use crate::memory_mail::{Letters, MemoryMail, Offer};
@@ -17,26 +17,27 @@ use gp_certificate::{Certificate, Step, check_certificate, shares_nothing};
 use gp_clause::{Clause, Kind, Problem, Query};
 use gp_derivation::{LogEntry, Origin, SharedClause};
 use gp_search::{Search, Verdict};
-use std::alloc::Global;
+use std::alloc::{AllocError, Global};
 use std::collections::VecDeque;
 use std::marker::Brand;
 use std::process::Abort;
 use std::sync::Arc;
-use std::test::Fail;
 
 // The number under which the clauses come that a mail gives.
 const SENDER: u32 = 2;
 
 // A certificate of one step without hints.
-fn plain(alloc: Global, clause: &Clause) -> Result<Certificate, Fail>
-    ensures { IfOk result (λ certificate. certificate.steps ≡ record { clause = clause.now; hints = [] } ∷ []) }
+fn plain(rt: &impl Abort, alloc: Global, clause: &Clause) -> Certificate
+    ensures { result.steps ≡ record { clause = clause.now; hints = [] } ∷ [] }
 {
     let mut steps = Row::new(alloc);
-    steps.push(Step {
-        clause: clause.clone()?,
-        hints: Row::new(alloc),
-    })?;
-    Ok(Certificate { steps })
+    steps
+        .push(Step {
+            clause: clause.clone().expect(rt, "memory"),
+            hints: Row::new(alloc),
+        })
+        .expect(rt, "memory");
+    Certificate { steps }
 }
 
 // The query that has no locals and assumes nothing.
@@ -56,7 +57,7 @@ fn is_good(
     query: &Query,
     clause: &Clause,
     certificate: &Certificate,
-) -> Result<bool, Fail>
+) -> Result<bool, AllocError>
     requires valid { IsValidProblem problem.now }
     requires none { query.now.locals ≡ [] }
     requires plain { certificate.now.steps ≡ record { clause = clause.now; hints = [] } ∷ [] }
@@ -76,19 +77,20 @@ fn is_good(
 }
 
 fn with_sender(
+    rt: &impl Abort,
     alloc: Global,
     sender: u32,
     clause: Clause,
     certificate: Certificate,
-) -> Result<SharedClause, Fail>
-    ensures sender { IfOk result (λ shared. shared.sender ≡ sender) }
-    ensures parts { IfOk result (λ shared. (shared.clause ≡ clause) × (arc_value shared.certificate ≡ certificate)) }
+) -> SharedClause
+    ensures sender { result.sender ≡ sender }
+    ensures parts { (result.clause ≡ clause) × (arc_value result.certificate ≡ certificate) }
 {
-    Ok(SharedClause {
+    SharedClause {
         sender,
         clause,
-        certificate: Arc::new(alloc, certificate)?,
-    })
+        certificate: Arc::new(alloc, certificate).expect(rt, "memory"),
+    }
 }
 
 /// A clause of a sender that is good by one step without hints.
@@ -98,16 +100,22 @@ pub fn shared_of(
     problem: &Problem,
     sender: u32,
     words: &[i32],
-) -> Result<SharedClause, Fail>
+) -> SharedClause
     requires { IsValidProblem problem.now }
-    ensures sender { IfOk result (λ shared. shared.sender ≡ sender) }
-    ensures good { IfOk result (IsGood problem.now) }
+    ensures sender { result.sender ≡ sender }
+    ensures good { IsGood problem.now result }
 {
-    let clause = Clause::of(lits_of(alloc, words)?)?;
-    let certificate = plain(alloc, &clause)?;
+    let clause = clause_of(rt, alloc, words);
+    let certificate = plain(rt, alloc, &clause);
     let query = nothing(alloc);
-    assert!(rt; is_good(alloc, problem, &query, &clause, &certificate)?);
-    with_sender(alloc, sender, clause, certificate)
+    assert!(rt; is_good(alloc, problem, &query, &clause, &certificate).expect(rt, "memory"));
+    with_sender(rt, alloc, sender, clause, certificate)
+}
+
+fn wait(rt: &impl Abort, waiting: &mut VecDeque<SharedClause>, shared: SharedClause)
+    ensures { waiting.new.items ≡ waiting.old.items ++ shared ∷ [] }
+{
+    waiting.push_back(shared).expect(rt, "memory");
 }
 
 fn waiting_of(
@@ -115,16 +123,16 @@ fn waiting_of(
     alloc: Global,
     problem: &Problem,
     clauses: &[&[i32]],
-) -> Result<VecDeque<SharedClause>, Fail>
+) -> VecDeque<SharedClause>
     requires { IsValidProblem problem.now }
-    ensures { IfOk result (λ waiting. All (IsGood problem.now) waiting.items) }
+    ensures { All (IsGood problem.now) result.items }
 {
     let mut waiting = VecDeque::new(alloc);
     for words in clauses {
-        let shared = shared_of(rt, alloc, problem, SENDER, words)?;
-        waiting.push_back(shared)?;
+        let shared = shared_of(rt, alloc, problem, SENDER, words);
+        wait(rt, &mut waiting, shared);
     }
-    Ok(waiting)
+    waiting
 }
 
 // What a search over a problem is asked by a mail in which clauses wait: its locals, what is assumed, the verdict, how long
@@ -200,14 +208,14 @@ fn are_fit(
     problem: &Problem,
     log: &[LogEntry],
     places: &[u32],
-) -> Result<bool, Fail> {
+) -> bool {
     assert!(rt; log.len() < 1000);
     let mut all = true;
     for (place, entry) in log.iter().enumerate() {
         let due = places.contains(&(place as u32));
-        all &= !is_learned(entry) || is_fit(rt, alloc, problem, log, place as u32)? == due;
+        all &= !is_learned(entry) || is_fit(rt, alloc, problem, log, place as u32) == due;
     }
-    Ok(all)
+    all
 }
 
 // Whether a search answers what it is asked next as it is due.
@@ -218,17 +226,21 @@ fn answers_again<L: Letters>(
     search: &mut Search,
     mail: &mut MemoryMail<L>,
     again: &Again,
-) -> Result<bool, Fail>
+) -> bool
     requires valid { IsValidProblem problem.now }
     requires same { search.old.problem ≡ problem.now }
     requires mail { mail.old.problem.now ≡ problem.now }
 {
-    let query = query_of(alloc, &[], again.assumed)?;
+    let query = query_of(rt, alloc, &[], again.assumed);
     assert!(rt; is_asked(problem, &query));
     assert!(rt; problem.clauses.len() < 1000 && search.log().len() < 1000);
-    let verdict = search.ask(&query, 27, mail)?;
+    let verdict = search.ask(&query, 27, mail).expect(rt, "memory");
     let log = search.log();
-    Ok(is_due(alloc, problem, log, &verdict, &again.due, &[])? && log.len() == again.logged)
+    let due = is_due(rt, alloc, problem, log, &verdict, &again.due, &[]);
+    let logged = log.len() == again.logged;
+    drop(verdict);
+    drop(query);
+    due && logged
 }
 
 // The same, where it is asked again.
@@ -239,14 +251,14 @@ fn ends_again<L: Letters>(
     search: &mut Search,
     mail: &mut MemoryMail<L>,
     again: &Option<Again>,
-) -> Result<bool, Fail>
+) -> bool
     requires valid { IsValidProblem problem.now }
     requires same { search.old.problem ≡ problem.now }
     requires mail { mail.old.problem.now ≡ problem.now }
 {
     match again {
         Some(again) => answers_again(rt, alloc, problem, search, mail, again),
-        None => Ok(true),
+        None => true,
     }
 }
 
@@ -258,7 +270,7 @@ fn asks<L: Letters>(
     query: &Query,
     waiting: VecDeque<SharedClause>,
     mailed: &Mailed,
-) -> Result<bool, Fail>
+) -> bool
     requires valid { IsValidProblem problem.now }
     requires solvable { IsSolvable problem.now.edges }
     requires good { All (IsGood problem.now) waiting.items }
@@ -266,11 +278,15 @@ fn asks<L: Letters>(
 {
     assert!(rt; is_asked(problem, query));
     assert!(rt; problem.clauses.len() < 1000);
-    let mut search = Search::new(alloc, problem)?;
+    let mut search = Search::new(alloc, problem).expect(rt, "memory");
     let mut mail: MemoryMail<L> = MemoryMail::new(alloc, problem, waiting);
-    let verdict = search.ask(query, 27, &mut mail)?;
-    let told = is_told(rt, alloc, problem, &search, &verdict, &mail, mailed)?;
-    Ok(told && ends_again(rt, alloc, problem, &mut search, &mut mail, &mailed.again)?)
+    let verdict = search.ask(query, 27, &mut mail).expect(rt, "memory");
+    let told = is_told(rt, alloc, problem, &search, &verdict, &mail, mailed);
+    drop(verdict);
+    let ends = told && ends_again(rt, alloc, problem, &mut search, &mut mail, &mailed.again);
+    drop(mail);
+    drop(search);
+    ends
 }
 
 // Whether a search that was asked by a mail has taken, learned and offered what is due.
@@ -282,35 +298,28 @@ fn is_told<L: Letters>(
     verdict: &Verdict,
     mail: &MemoryMail<L>,
     mailed: &Mailed,
-) -> Result<bool, Fail> {
+) -> bool {
     let log = search.log();
-    Ok(
-        is_due(alloc, problem, log, verdict, &mailed.due, &[])?
-            && log.len() == mailed.logged
-            && search.learned_from() as usize == mailed.waiting.len()
-            && takes_all(log, mailed.waiting)
-            && mail.empty() == 1
-            && are_offers(log, mail.offered(), mailed.offered)
-            && are_fit(rt, alloc, problem, log, mailed.offered)?,
-    )
+    is_due(rt, alloc, problem, log, verdict, &mailed.due, &[])
+        && log.len() == mailed.logged
+        && search.learned_from() as usize == mailed.waiting.len()
+        && takes_all(log, mailed.waiting)
+        && mail.empty() == 1
+        && are_offers(log, mail.offered(), mailed.offered)
+        && are_fit(rt, alloc, problem, log, mailed.offered)
 }
 
-fn is_answered(
-    rt: &impl Abort,
-    alloc: Global,
-    problem: &Problem,
-    mailed: &Mailed,
-) -> Result<bool, Fail>
+fn is_answered(rt: &impl Abort, alloc: Global, problem: &Problem, mailed: &Mailed) -> bool
     requires valid { IsValidProblem problem.now }
     requires solvable { IsSolvable problem.now.edges }
 {
-    let waiting = waiting_of(rt, alloc, problem, mailed.waiting)?;
-    let query = query_of(alloc, mailed.locals, mailed.assumed)?;
+    let waiting = waiting_of(rt, alloc, problem, mailed.waiting);
+    let query = query_of(rt, alloc, mailed.locals, mailed.assumed);
     asks::<Brand>(rt, alloc, problem, &query, waiting, mailed)
 }
 
-fn answers(rt: &impl Abort, alloc: Global, rows: &Rows, mailed: &Mailed) -> Result<bool, Fail> {
-    let problem = problem_of(alloc, rows)?;
+fn answers(rt: &impl Abort, alloc: Global, rows: &Rows, mailed: &Mailed) -> bool {
+    let problem = problem_of(rt, alloc, rows);
     assert!(rt; is_valid(&problem));
     assert!(rt; is_solvable(&[], problem.edges.as_slice()));
     let answered = is_answered(rt, alloc, &problem, mailed);
@@ -318,11 +327,10 @@ fn answers(rt: &impl Abort, alloc: Global, rows: &Rows, mailed: &Mailed) -> Resu
     answered
 }
 
-fn all_answer(rt: &impl Abort, alloc: Global, rows: &[(&str, Rows, Mailed)]) -> Result<(), Fail> {
+fn all_answer(rt: &impl Abort, alloc: Global, rows: &[(&str, Rows, Mailed)]) {
     for (name, problem, mailed) in rows {
-        assert!(rt; answers(rt, alloc, problem, mailed)?, "{name}");
+        assert!(rt; answers(rt, alloc, problem, mailed), "{name}");
     }
-    Ok(())
 }
 
 // No valuation meets these clauses.
@@ -334,7 +342,7 @@ const NONE: Rows = Rows {
 };
 
 #[test]
-fn takes_and_offers_by_a_mail(rt: HostRuntime) -> Result<(), Fail> {
+fn takes_and_offers_by_a_mail(rt: HostRuntime) {
     const ROWS: [(&str, Rows, Mailed); 5] = [
         (
             "one clause waits",

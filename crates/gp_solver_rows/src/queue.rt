@@ -3,7 +3,6 @@ ghost use Rattle.std.specs.Prelude.{◌≡◌, IfOk};
 
 use gp_queue::LinkQueue;
 use std::alloc::{AllocError, Global};
-use std::test::Fail;
 
 // The numbers in their order, which the contracts of `first` and `after` give to any caller.
 fn numbers(alloc: Global, queue: &LinkQueue) -> Result<Vec<u32>, AllocError>
@@ -19,38 +18,39 @@ fn numbers(alloc: Global, queue: &LinkQueue) -> Result<Vec<u32>, AllocError>
 }
 
 #[test]
-fn keeps_the_order_of_the_rest(rt: HostRuntime) -> Result<(), Fail> {
-    let mut queue = LinkQueue::new(rt.alloc(), 4)?;
+fn keeps_the_order_of_the_rest(rt: HostRuntime) {
+    let mut queue = LinkQueue::new(rt.alloc(), 4).expect(&rt, "memory");
     assert_eq!(rt;
-        numbers(rt.alloc(), &queue)?.as_slice(),
+        numbers(rt.alloc(), &queue).expect(&rt, "memory").as_slice(),
         [0, 1, 2, 3].as_slice()
     );
     for (number, order) in [(2, [2, 0, 1, 3]), (2, [2, 0, 1, 3]), (3, [3, 2, 0, 1])] {
         assert!(rt; number < queue.len());
         queue.to_front(number);
         assert_eq!(rt;
-            numbers(rt.alloc(), &queue)?.as_slice(),
+            numbers(rt.alloc(), &queue).expect(&rt, "memory").as_slice(),
             order.as_slice(),
             "after {number}"
         );
     }
     assert!(rt; queue.len() == 4);
     assert_eq!(rt; queue.after(1), None);
-    queue.grow(5)?;
+    queue.grow(5).expect(&rt, "memory");
     assert_eq!(rt;
-        numbers(rt.alloc(), &queue)?.as_slice(),
+        numbers(rt.alloc(), &queue).expect(&rt, "memory").as_slice(),
         [3, 2, 0, 1, 4].as_slice()
     );
-    Ok(())
 }
 
 #[test]
-fn grows_from_nothing(rt: HostRuntime) -> Result<(), Fail> {
-    let mut queue = LinkQueue::new(rt.alloc(), 0)?;
+fn grows_from_nothing(rt: HostRuntime) {
+    let mut queue = LinkQueue::new(rt.alloc(), 0).expect(&rt, "memory");
     assert_eq!(rt; queue.first(), None);
-    queue.grow(2)?;
-    assert_eq!(rt; numbers(rt.alloc(), &queue)?.as_slice(), [0, 1].as_slice());
-    queue.grow(1)?;
+    queue.grow(2).expect(&rt, "memory");
+    assert_eq!(rt;
+        numbers(rt.alloc(), &queue).expect(&rt, "memory").as_slice(),
+        [0, 1].as_slice()
+    );
+    queue.grow(1).expect(&rt, "memory");
     assert_eq!(rt; queue.len(), 2);
-    Ok(())
 }

@@ -4,12 +4,11 @@ ghost use Rattle.gp_sat.specs.State.{assigned};
 ghost use Rattle.gp_sat.specs.Standing.{IsFalse, Each};
 ghost use Rattle.gp_sat.specs.Changes.{HasPresent, IsOfLevel};
 
-use crate::fixture::{are_lits, lit, lits_of};
+use crate::fixture::{are_lits, clause_of, lit};
 use gp_clause::{Clause, Lit};
 use gp_sat::{Learned, Propagated, Solver};
-use std::alloc::{AllocError, Global};
+use std::alloc::Global;
 use std::process::Abort;
-use std::test::Fail;
 
 // Whether a clause names variables of a solver alone.
 fn is_named(clause: &Clause, variables: u32) -> bool
@@ -64,11 +63,11 @@ fn has_present(solver: &Solver, lits: &[Lit]) -> bool
     false
 }
 
-fn attach(rt: &impl Abort, solver: &mut Solver, clause: &Clause) -> Result<u32, Fail> {
+fn attach(rt: &impl Abort, solver: &mut Solver, clause: &Clause) -> u32 {
     assert!(rt; solver.level() == 0);
     assert!(rt; solver.clause_count() < 1_000_000);
     assert!(rt; is_named(clause, solver.variables()));
-    Ok(solver.attach(clause)?)
+    solver.attach(clause).expect(rt, "memory")
 }
 
 fn decide(rt: &impl Abort, solver: &mut Solver, word: i32) {
@@ -83,62 +82,34 @@ fn decide(rt: &impl Abort, solver: &mut Solver, word: i32) {
     }
 }
 
-fn conflict_at(
-    rt: &impl Abort,
-    alloc: Global,
-    solver: &Solver,
-    number: u32,
-) -> Result<Vec<Lit>, AllocError> {
+fn conflict_at(rt: &impl Abort, alloc: Global, solver: &Solver, number: u32) -> Vec<Lit> {
     assert!(rt; number < solver.clause_count());
-    Vec::from_slice(alloc, solver.clause(number))
+    Vec::from_slice(alloc, solver.clause(number)).expect(rt, "memory")
 }
 
-fn analyse(
-    rt: &impl Abort,
-    alloc: Global,
-    solver: &mut Solver,
-    number: u32,
-) -> Result<Learned, Fail> {
-    let conflict = conflict_at(rt, alloc, solver, number)?;
+fn analyse(rt: &impl Abort, alloc: Global, solver: &mut Solver, number: u32) -> Learned {
+    let conflict = conflict_at(rt, alloc, solver, number);
     assert!(rt; solver.level() > 0);
     assert!(rt; are_false(solver, &conflict));
     assert!(rt; has_present(solver, &conflict));
-    Ok(solver.analyse(&conflict)?)
+    solver.analyse(&conflict).expect(rt, "memory")
 }
 
-fn analyse_final(
-    rt: &impl Abort,
-    alloc: Global,
-    solver: &mut Solver,
-    number: u32,
-) -> Result<Learned, Fail> {
-    let conflict = conflict_at(rt, alloc, solver, number)?;
+fn analyse_final(rt: &impl Abort, alloc: Global, solver: &mut Solver, number: u32) -> Learned {
+    let conflict = conflict_at(rt, alloc, solver, number);
     assert!(rt; are_false(solver, &conflict));
-    Ok(solver.analyse_final(&conflict)?)
+    solver.analyse_final(&conflict).expect(rt, "memory")
 }
 
 // Attaches the clause of some literals.
-fn attach_lits(
-    rt: &impl Abort,
-    alloc: Global,
-    solver: &mut Solver,
-    words: &[i32],
-) -> Result<(), Fail> {
-    let clause = Clause::of(lits_of(alloc, words)?)?;
-    attach(rt, solver, &clause)?;
-    Ok(())
+fn attach_lits(rt: &impl Abort, alloc: Global, solver: &mut Solver, words: &[i32]) {
+    attach(rt, solver, &clause_of(rt, alloc, words));
 }
 
-fn attach_all(
-    rt: &impl Abort,
-    alloc: Global,
-    solver: &mut Solver,
-    clauses: &[&[i32]],
-) -> Result<(), Fail> {
+fn attach_all(rt: &impl Abort, alloc: Global, solver: &mut Solver, clauses: &[&[i32]]) {
     for words in clauses {
-        attach_lits(rt, alloc, solver, words)?;
+        attach_lits(rt, alloc, solver, words);
     }
-    Ok(())
 }
 
 fn is_quiet(solver: &mut Solver) -> bool {
@@ -190,47 +161,39 @@ fn retire(rt: &impl Abort, solver: &mut Solver, number: u32) {
     solver.retire(number);
 }
 
-fn grow(rt: &impl Abort, solver: &mut Solver, variables: u32) -> Result<(), Fail> {
+fn grow(rt: &impl Abort, solver: &mut Solver, variables: u32) {
     assert!(rt; solver.variables() <= variables);
-    Ok(solver.grow(variables)?)
+    solver.grow(variables).expect(rt, "memory");
 }
 
 // Goes back to level 0 with what was learned. Tells whether it is the unit clause of a literal, which is then true.
-fn takes_up(
-    rt: &impl Abort,
-    solver: &mut Solver,
-    learned: &Learned,
-    word: i32,
-) -> Result<bool, Fail> {
+fn takes_up(rt: &impl Abort, solver: &mut Solver, learned: &Learned, word: i32) -> bool {
     go_back(solver);
-    let number = attach(rt, solver, &learned.clause)?;
+    let number = attach(rt, solver, &learned.clause);
     let quiet = is_quiet(solver);
-    Ok(
-        quiet
-            && number == 2
-            && learned.level == 0
-            && are_lits(learned.clause.lits(), &[word])
-            && has_trail(solver, &[word]),
-    )
+    quiet
+        && number == 2
+        && learned.level == 0
+        && are_lits(learned.clause.lits(), &[word])
+        && has_trail(solver, &[word])
 }
 
 // Decides the first variable false, learns from the conflict, and goes on with what was learned.
-fn goes_on(rt: &impl Abort, alloc: Global, solver: &mut Solver) -> Result<bool, Fail> {
-    attach_all(rt, alloc, solver, &[&[1, 2], &[1, -2]])?;
+fn goes_on(rt: &impl Abort, alloc: Global, solver: &mut Solver) -> bool {
+    attach_all(rt, alloc, solver, &[&[1, 2], &[1, -2]]);
     let quiet = is_quiet(solver);
     decide(rt, solver, -1);
     let fails = is_false_at(solver, 0);
-    let learned = analyse(rt, alloc, solver, 0)?;
-    Ok(takes_up(rt, solver, &learned, 1)? && quiet && fails)
+    let learned = analyse(rt, alloc, solver, 0);
+    takes_up(rt, solver, &learned, 1) && quiet && fails
 }
 
 #[test]
-fn learns_a_unit_and_goes_on(rt: HostRuntime) -> Result<(), Fail> {
-    let mut solver = Solver::new(rt.alloc(), 2)?;
+fn learns_a_unit_and_goes_on(rt: HostRuntime) {
+    let mut solver = Solver::new(rt.alloc(), 2).expect(&rt, "memory");
     let holds = goes_on(&rt, rt.alloc(), &mut solver);
     drop(solver);
-    assert!(rt; holds?);
-    Ok(())
+    assert!(rt; holds);
 }
 
 // Clauses and decisions, the clause that is false then, and what is learned from it, first and finally.
@@ -245,24 +208,14 @@ struct Row<'a> {
     last: &'a [i32],
 }
 
-fn learns_first(
-    rt: &impl Abort,
-    alloc: Global,
-    solver: &mut Solver,
-    row: &Row,
-) -> Result<bool, Fail> {
-    let learned = analyse(rt, alloc, solver, row.conflict)?;
-    Ok(is_learned(&learned, row.lits, row.level, row.hints))
+fn learns_first(rt: &impl Abort, alloc: Global, solver: &mut Solver, row: &Row) -> bool {
+    let learned = analyse(rt, alloc, solver, row.conflict);
+    is_learned(&learned, row.lits, row.level, row.hints)
 }
 
-fn learns_last(
-    rt: &impl Abort,
-    alloc: Global,
-    solver: &mut Solver,
-    row: &Row,
-) -> Result<bool, Fail> {
-    let learned = analyse_final(rt, alloc, solver, row.conflict)?;
-    Ok(are_lits(learned.clause.lits(), row.last))
+fn learns_last(rt: &impl Abort, alloc: Global, solver: &mut Solver, row: &Row) -> bool {
+    let learned = analyse_final(rt, alloc, solver, row.conflict);
+    are_lits(learned.clause.lits(), row.last)
 }
 
 fn decide_all(rt: &impl Abort, solver: &mut Solver, words: &[i32]) {
@@ -271,32 +224,32 @@ fn decide_all(rt: &impl Abort, solver: &mut Solver, words: &[i32]) {
     }
 }
 
-fn learns(rt: &impl Abort, alloc: Global, solver: &mut Solver, row: &Row) -> Result<bool, Fail> {
-    attach_all(rt, alloc, solver, row.clauses)?;
+fn learns(rt: &impl Abort, alloc: Global, solver: &mut Solver, row: &Row) -> bool {
+    attach_all(rt, alloc, solver, row.clauses);
     decide_all(rt, solver, row.decisions);
     let fails = is_false_at(solver, row.conflict);
-    let first = learns_first(rt, alloc, solver, row)?;
-    let last = learns_last(rt, alloc, solver, row)?;
-    Ok(fails && first && last)
+    let first = learns_first(rt, alloc, solver, row);
+    let last = learns_last(rt, alloc, solver, row);
+    fails && first && last
 }
 
-fn holds(rt: &impl Abort, alloc: Global, row: &Row) -> Result<bool, Fail> {
-    let mut solver = Solver::new(alloc, 4)?;
+fn holds(rt: &impl Abort, alloc: Global, row: &Row) -> bool {
+    let mut solver = Solver::new(alloc, 4).expect(rt, "memory");
     let holds = learns(rt, alloc, &mut solver, row);
     drop(solver);
     holds
 }
 
-fn all_hold(rt: &impl Abort, alloc: Global, rows: &[Row]) -> Result<bool, Fail> {
+fn all_hold(rt: &impl Abort, alloc: Global, rows: &[Row]) -> bool {
     let mut all = true;
     for row in rows {
-        all &= holds(rt, alloc, row)?;
+        all &= holds(rt, alloc, row);
     }
-    Ok(all)
+    all
 }
 
 #[test]
-fn learns_from_conflicts(rt: HostRuntime) -> Result<(), Fail> {
+fn learns_from_conflicts(rt: HostRuntime) {
     const ROWS: [Row; 3] = [
         Row {
             clauses: &[&[-1, -2, 3], &[-2, -3]],
@@ -326,8 +279,7 @@ fn learns_from_conflicts(rt: HostRuntime) -> Result<(), Fail> {
             last: &[-2],
         },
     ];
-    assert!(rt; all_hold(&rt, rt.alloc(), &ROWS)?);
-    Ok(())
+    assert!(rt; all_hold(&rt, rt.alloc(), &ROWS));
 }
 
 // Whether the final analysis of a conflict without a decision gives the empty clause, by one clause.
@@ -337,42 +289,40 @@ fn is_refuted(
     solver: &mut Solver,
     conflict: u32,
     hint: u32,
-) -> Result<bool, Fail> {
-    let last = analyse_final(rt, alloc, solver, conflict)?;
-    Ok(last.clause.is_empty() && last.hints.as_slice() == [hint].as_slice())
+) -> bool {
+    let last = analyse_final(rt, alloc, solver, conflict);
+    last.clause.is_empty() && last.hints.as_slice() == [hint].as_slice()
 }
 
 // Finds a false clause, takes everything back, retires the other one, and grows.
-fn starts_again(rt: &impl Abort, alloc: Global, solver: &mut Solver) -> Result<bool, Fail> {
-    attach_all(rt, alloc, solver, &[&[1], &[-1]])?;
+fn starts_again(rt: &impl Abort, alloc: Global, solver: &mut Solver) -> bool {
+    attach_all(rt, alloc, solver, &[&[1], &[-1]]);
     let fails = is_false_at(solver, 1);
-    let refuted = is_refuted(rt, alloc, solver, 1, 0)?;
+    let refuted = is_refuted(rt, alloc, solver, 1, 0);
     let full = is_next(solver, None);
     clear(solver);
     retire(rt, solver, 0);
-    grow(rt, solver, 3)?;
+    grow(rt, solver, 3);
     let quiet = is_quiet(solver);
-    Ok(fails && refuted && full && quiet && has_trail(solver, &[-1]) && is_next(solver, Some(1)))
+    fails && refuted && full && quiet && has_trail(solver, &[-1]) && is_next(solver, Some(1))
 }
 
 #[test]
-fn clears_retires_and_grows(rt: HostRuntime) -> Result<(), Fail> {
-    let mut solver = Solver::new(rt.alloc(), 1)?;
+fn clears_retires_and_grows(rt: HostRuntime) {
+    let mut solver = Solver::new(rt.alloc(), 1).expect(&rt, "memory");
     let holds = starts_again(&rt, rt.alloc(), &mut solver);
     drop(solver);
-    assert!(rt; holds?);
-    Ok(())
+    assert!(rt; holds);
 }
 
 const PAIRS: i32 = 400_000;
 
 // Attaches a clause for each pair, of its two variables.
-fn attach_pairs(rt: &impl Abort, alloc: Global, solver: &mut Solver) -> Result<(), Fail> {
+fn attach_pairs(rt: &impl Abort, alloc: Global, solver: &mut Solver) {
     for number in 0..PAIRS {
         let first = number.saturating_mul(2).saturating_add(1);
-        attach_lits(rt, alloc, solver, &[first, first.saturating_add(1)])?;
+        attach_lits(rt, alloc, solver, &[first, first.saturating_add(1)]);
     }
-    Ok(())
 }
 
 // Whether each pair's second literal is forced by its first one.
@@ -389,18 +339,17 @@ fn forces_each(rt: &impl Abort, solver: &mut Solver) -> bool {
     all
 }
 
-fn forces_pairs(rt: &impl Abort, alloc: Global, solver: &mut Solver) -> Result<bool, Fail> {
-    attach_pairs(rt, alloc, solver)?;
-    Ok(forces_each(rt, solver))
+fn forces_pairs(rt: &impl Abort, alloc: Global, solver: &mut Solver) -> bool {
+    attach_pairs(rt, alloc, solver);
+    forces_each(rt, solver)
 }
 
 #[test]
-fn visits_only_what_watches(rt: HostRuntime) -> Result<(), Fail> {
-    let mut solver = Solver::new(rt.alloc(), 800_000)?;
+fn visits_only_what_watches(rt: HostRuntime) {
+    let mut solver = Solver::new(rt.alloc(), 800_000).expect(&rt, "memory");
     let holds = forces_pairs(&rt, rt.alloc(), &mut solver);
     drop(solver);
-    assert!(rt; holds?);
-    Ok(())
+    assert!(rt; holds);
 }
 
 // Follows the order of the queue, with a raised variable first, and passes by what is not in use.
@@ -417,10 +366,9 @@ fn follows_the_order(rt: &impl Abort, solver: &mut Solver) -> bool {
 }
 
 #[test]
-fn decides_in_the_order_of_the_queue(rt: HostRuntime) -> Result<(), Fail> {
-    let mut solver = Solver::new(rt.alloc(), 3)?;
+fn decides_in_the_order_of_the_queue(rt: HostRuntime) {
+    let mut solver = Solver::new(rt.alloc(), 3).expect(&rt, "memory");
     let holds = follows_the_order(&rt, &mut solver);
     drop(solver);
     assert!(rt; holds);
-    Ok(())
 }

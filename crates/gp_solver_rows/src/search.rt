@@ -12,7 +12,6 @@ use gp_derivation::{LogEntry, can_be_numbered, cone};
 use gp_search::{NoMail, Search, Verdict};
 use std::alloc::Global;
 use std::process::Abort;
-use std::test::Fail;
 
 // 1 verdict: the entries that were learned, the last clause of a certificate, or literals that are true.
 #[derive(Drop, Clone, Copy)]
@@ -33,44 +32,48 @@ fn all_true(truth: &[bool], words: &[i32]) -> bool {
 
 // Whether the certificate that a step stands for over a log ends with this clause.
 fn ends_with(
+    rt: &impl Abort,
     alloc: Global,
     problem: &Problem,
     log: &[LogEntry],
     last: &Step,
     lits: &[i32],
-) -> Result<bool, Fail> {
+) -> bool {
     let clauses = problem.clauses.len();
     if clauses >= 1000 {
-        return Ok(false);
+        return false;
     }
     let clauses = clauses as u32;
     if !can_be_numbered(clauses, log, last) {
-        return Ok(false);
+        return false;
     }
-    let certificate = cone(alloc, clauses, log, last)?;
+    let certificate = cone(alloc, clauses, log, last).expect(rt, "memory");
     match certificate.steps.as_slice().last() {
-        Some(step) => Ok(are_lits(step.clause.lits(), lits)),
-        None => Ok(false),
+        Some(step) => are_lits(step.clause.lits(), lits),
+        None => false,
     }
 }
 
 // Whether the verdict of a search with a log is the one that is due. The places of a model keep these edges.
 pub fn is_due(
+    rt: &impl Abort,
     alloc: Global,
     problem: &Problem,
     log: &[LogEntry],
     verdict: &Verdict,
     due: &Due,
     kept: &[Edge],
-) -> Result<bool, Fail> {
+) -> bool {
     match (verdict, due) {
-        (Verdict::Spent { from, to }, Due::Spent(first, end)) => Ok(from == first && to == end),
-        (Verdict::Refuted(last), Due::Refuted(lits)) => ends_with(alloc, problem, log, last, lits),
+        (Verdict::Spent { from, to }, Due::Spent(first, end)) => from == first && to == end,
+        (Verdict::Refuted(last), Due::Refuted(lits)) => ends_with(
+            rt, alloc, problem, log, last, lits,
+        ),
         (Verdict::Model(valuation), Due::Model(lits)) => {
             let met = are_kept(valuation.places.as_slice(), kept);
-            Ok(met && all_true(valuation.truth.as_slice(), lits))
+            met && all_true(valuation.truth.as_slice(), lits)
         }
-        _ => Ok(false),
+        _ => false,
     }
 }
 
@@ -96,7 +99,7 @@ fn is_answered(
     query: &Query,
     kept: &[Edge],
     asked: &Asked,
-) -> Result<bool, Fail>
+) -> bool
     requires valid { IsValidProblem problem.now }
     requires same { search.old.problem ≡ problem.now }
     ensures { search.new.problem ≡ problem.now }
@@ -106,9 +109,12 @@ fn is_answered(
     assert!(rt; problem.clauses.len() < 1000 && search.log().len() < 1000);
     assert!(rt; 0 < *budget && *budget < 1000);
     let mut mail = NoMail::new(problem);
-    let verdict = search.ask(query, *budget, &mut mail)?;
+    let verdict = search.ask(query, *budget, &mut mail).expect(rt, "memory");
     let log = search.log();
-    Ok(is_due(alloc, problem, log, &verdict, due, kept)? && has_length(log.len(), *logged))
+    let met = is_due(rt, alloc, problem, log, &verdict, due, kept);
+    let long = has_length(log.len(), *logged);
+    drop(verdict);
+    met && long
 }
 
 // Asks a search a query.
@@ -119,12 +125,12 @@ fn asks(
     search: &mut Search,
     kept: &[Edge],
     asked: &Asked,
-) -> Result<bool, Fail>
+) -> bool
     requires valid { IsValidProblem problem.now }
     requires same { search.old.problem ≡ problem.now }
     ensures { search.new.problem ≡ problem.now }
 {
-    let query = query_of(alloc, asked.0, asked.1)?;
+    let query = query_of(rt, alloc, asked.0, asked.1);
     let answered = is_answered(rt, alloc, problem, search, &query, kept, asked);
     drop(query);
     answered
@@ -138,15 +144,15 @@ fn all_answered(
     search: &mut Search,
     kept: &[Edge],
     asked: &[Asked],
-) -> Result<bool, Fail>
+) -> bool
     requires valid { IsValidProblem problem.now }
     requires same { search.old.problem ≡ problem.now }
 {
     let mut all = true;
     for one in asked {
-        all &= asks(rt, alloc, problem, search, kept, one)?;
+        all &= asks(rt, alloc, problem, search, kept, one);
     }
-    Ok(all)
+    all
 }
 
 // Whether a search gives its whole log.
@@ -156,20 +162,14 @@ fn gives_log(search: Search) -> bool {
 }
 
 // Whether a search over a problem answers what it is asked as it is due, and gives its log.
-fn finds(
-    rt: &impl Abort,
-    alloc: Global,
-    problem: &Problem,
-    kept: &[Edge],
-    asked: &[Asked],
-) -> Result<bool, Fail>
+fn finds(rt: &impl Abort, alloc: Global, problem: &Problem, kept: &[Edge], asked: &[Asked]) -> bool
     requires valid { IsValidProblem problem.now }
     requires solvable { IsSolvable problem.now.edges }
 {
-    let mut search = Search::new(alloc, problem)?;
+    let mut search = Search::new(alloc, problem).expect(rt, "memory");
     let all = all_answered(rt, alloc, problem, &mut search, kept, asked);
     let whole = gives_log(search);
-    Ok(all? && whole)
+    all && whole
 }
 
 fn answers(
@@ -179,8 +179,8 @@ fn answers(
     start: &[i64],
     kept: &[Edge],
     asked: &[Asked],
-) -> Result<bool, Fail> {
-    let problem = problem_of(alloc, rows)?;
+) -> bool {
+    let problem = problem_of(rt, alloc, rows);
     assert!(rt; is_valid(&problem));
     assert!(rt; is_solvable(start, problem.edges.as_slice()));
     let all = finds(rt, alloc, &problem, kept, asked);
@@ -211,7 +211,7 @@ const ALL_BUT_LAST: [&[i32]; 7] = [
 // Clauses over three free variables, and the queries that one search over them is asked one after another.
 type Counted<'a> = (&'a [&'a [i32]], &'a [Asked<'a>]);
 
-fn all_counted(rt: &impl Abort, alloc: Global, rows: &[Counted]) -> Result<bool, Fail> {
+fn all_counted(rt: &impl Abort, alloc: Global, rows: &[Counted]) -> bool {
     let mut all = true;
     for (clauses, asked) in rows {
         let problem = Rows {
@@ -220,13 +220,13 @@ fn all_counted(rt: &impl Abort, alloc: Global, rows: &[Counted]) -> Result<bool,
             edges: &[],
             clauses,
         };
-        all &= answers(rt, alloc, &problem, &[], &[], asked)?;
+        all &= answers(rt, alloc, &problem, &[], &[], asked);
     }
-    Ok(all)
+    all
 }
 
 #[test]
-fn counts_what_it_learns(rt: HostRuntime) -> Result<(), Fail> {
+fn counts_what_it_learns(rt: HostRuntime) {
     const ROWS: [Counted; 9] = [
         (&EIGHT, &[(&[], &[], 1, Due::Spent(0, 1), Some(1))]),
         (&EIGHT, &[(&[], &[], 2, Due::Spent(0, 2), Some(2))]),
@@ -262,8 +262,7 @@ fn counts_what_it_learns(rt: HostRuntime) -> Result<(), Fail> {
             ],
         ),
     ];
-    assert!(rt; all_counted(&rt, rt.alloc(), &ROWS)?);
-    Ok(())
+    assert!(rt; all_counted(&rt, rt.alloc(), &ROWS));
 }
 
 const TURN: [Kind; 3] = [
@@ -291,7 +290,7 @@ type Placed<'a> = (
     &'a [Asked<'a>],
 );
 
-fn all_placed(rt: &impl Abort, alloc: Global, rows: &[Placed]) -> Result<bool, Fail> {
+fn all_placed(rt: &impl Abort, alloc: Global, rows: &[Placed]) -> bool {
     let mut all = true;
     for (kinds, edges, start, kept, asked) in rows {
         let problem = Rows {
@@ -300,13 +299,13 @@ fn all_placed(rt: &impl Abort, alloc: Global, rows: &[Placed]) -> Result<bool, F
             edges,
             clauses: &[],
         };
-        all &= answers(rt, alloc, &problem, start, kept, asked)?;
+        all &= answers(rt, alloc, &problem, start, kept, asked);
     }
-    Ok(all)
+    all
 }
 
 #[test]
-fn asks_the_places(rt: HostRuntime) -> Result<(), Fail> {
+fn asks_the_places(rt: HostRuntime) {
     const ROWS: [Placed; 5] = [
         (
             &TURN,
@@ -345,8 +344,7 @@ fn asks_the_places(rt: HostRuntime) -> Result<(), Fail> {
             &[(&[], &[], 1, Due::Model(&[1, 2, -3]), Some(0))],
         ),
     ];
-    assert!(rt; all_placed(&rt, rt.alloc(), &ROWS)?);
-    Ok(())
+    assert!(rt; all_placed(&rt, rt.alloc(), &ROWS));
 }
 
 // The first variable brings two orders of three points where it is false, and cannot be true.
@@ -378,13 +376,12 @@ const ON: [Kind; 1] = [Kind::Order { a: 0, b: 2 }];
 
 // What was learned of a query's local serves that query alone: a later query may call another order by its number.
 #[test]
-fn forgets_what_rests_on_a_local(rt: HostRuntime) -> Result<(), Fail> {
+fn forgets_what_rests_on_a_local(rt: HostRuntime) {
     const ROWS: [Asked; 4] = [
         (&BACK, &[6], 27, Due::Refuted(&[-6]), Some(2)),
         (&ON, &[6], 27, Due::Model(&[-1, 4, 5, 6]), None),
         (&BACK, &[6], 27, Due::Refuted(&[-6]), None),
         (&[], &[], 27, Due::Model(&[-1, 4, 5]), None),
     ];
-    assert!(rt; answers(&rt, rt.alloc(), &ORDERED, &[0, 0, 0], &[], &ROWS)?);
-    Ok(())
+    assert!(rt; answers(&rt, rt.alloc(), &ORDERED, &[0, 0, 0], &[], &ROWS));
 }

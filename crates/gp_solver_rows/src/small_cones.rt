@@ -1,14 +1,13 @@
 ghost use Rattle.std.specs.Prelude.{◌<◌, length};
 
 use crate::derivation::{Entry, Line, are_steps, log_of, step};
-use crate::fixture::{Rows, problem_of};
+use crate::fixture::{Rows, problem_of, row_of};
 use gp_base::Row;
 use gp_certificate::{Certificate, Step};
 use gp_clause::{Clause, Kind, Lit, Problem};
 use gp_derivation::{LogEntry, Origin, can_be_numbered, small_cone};
 use std::alloc::Global;
 use std::process::Abort;
-use std::test::Fail;
 
 // The cone of the entry at a place of a log, where it is fit to share.
 fn cone_at(
@@ -17,11 +16,11 @@ fn cone_at(
     problem: &Problem,
     log: &[LogEntry],
     place: u32,
-) -> Result<Option<Certificate>, Fail> {
+) -> Option<Certificate> {
     assert!(rt; (place as usize) < log.len() && problem.clauses.len() < 1000);
     let bases = problem.clauses.len() as u32;
     assert!(rt; can_be_numbered(bases, log, &log[place as usize].step));
-    Ok(small_cone(alloc, problem, log, place)?)
+    small_cone(alloc, problem, log, place).expect(rt, "memory")
 }
 
 /// Whether the entry at a place of a log is fit to share.
@@ -31,9 +30,9 @@ pub fn is_fit(
     problem: &Problem,
     log: &[LogEntry],
     place: u32,
-) -> Result<bool, Fail> {
-    let cone = cone_at(rt, alloc, problem, log, place)?;
-    Ok(cone.is_some())
+) -> bool {
+    let cone = cone_at(rt, alloc, problem, log, place);
+    cone.is_some()
 }
 
 // 160 free variables, and three base clauses, so that hint 3 names the first entry of a log.
@@ -55,27 +54,21 @@ fn is_due(cone: &Option<Certificate>, due: &Option<&[Line]>) -> bool {
 // A log, the place of an entry, and the cone of that where it is fit to share.
 type Small<'a> = (&'a str, &'a [Entry<'a>], u32, Option<&'a [Line<'a>]>);
 
-fn is_small(rt: &impl Abort, alloc: Global, problem: &Problem, row: &Small) -> Result<bool, Fail> {
+fn is_small(rt: &impl Abort, alloc: Global, problem: &Problem, row: &Small) -> bool {
     let (_, entries, place, due) = row;
-    let log = log_of(alloc, entries)?;
-    let cone = cone_at(rt, alloc, problem, log.as_slice(), *place)?;
-    Ok(is_due(&cone, due))
+    let log = log_of(rt, alloc, entries);
+    let cone = cone_at(rt, alloc, problem, log.as_slice(), *place);
+    is_due(&cone, due)
 }
 
-fn are_small(
-    rt: &impl Abort,
-    alloc: Global,
-    problem: &Problem,
-    rows: &[Small],
-) -> Result<(), Fail> {
+fn are_small(rt: &impl Abort, alloc: Global, problem: &Problem, rows: &[Small]) {
     for row in rows {
-        assert!(rt; is_small(rt, alloc, problem, row)?, "{}", row.0);
+        assert!(rt; is_small(rt, alloc, problem, row), "{}", row.0);
     }
-    Ok(())
 }
 
 #[test]
-fn cones_of_what_is_fit_to_share(rt: HostRuntime) -> Result<(), Fail> {
+fn cones_of_what_is_fit_to_share(rt: HostRuntime) {
     const FIRST: Line = (&[10], &[0, 1]);
     const SECOND: Line = (&[11, -12], &[3, 2]);
     const EIGHT: Line = (&[1, 2, 3, 4, 5, 6, 7, 8], &[0]);
@@ -122,76 +115,77 @@ fn cones_of_what_is_fit_to_share(rt: HostRuntime) -> Result<(), Fail> {
             Some(&[FOREIGN, SECOND]),
         ),
     ];
-    let problem = problem_of(rt.alloc(), &BASE)?;
-    let hold = are_small(&rt, rt.alloc(), &problem, &ROWS);
+    let problem = problem_of(&rt, rt.alloc(), &BASE);
+    are_small(&rt, rt.alloc(), &problem, &ROWS);
     drop(problem);
-    hold
 }
 
 // The clause of so many of the first variables.
-fn wide(alloc: Global, width: u32) -> Result<Clause, Fail> {
+fn wide(rt: &impl Abort, alloc: Global, width: u32) -> Clause {
     let mut lits = Vec::new(alloc);
     for variable in 0..width {
         lits.push(Lit {
             variable,
             positive: true,
-        })?;
+        })
+        .expect(rt, "memory");
     }
-    Ok(Clause::of(lits)?)
+    Clause::of(lits).expect(rt, "a clause")
 }
 
 // An entry of so many literals with one hint.
-fn link(alloc: Global, width: u32, hint: u32) -> Result<LogEntry, Fail> {
-    let mut hints = Row::new(alloc);
-    hints.push(hint)?;
-    let clause = wide(alloc, width)?;
-    Ok(LogEntry {
+fn link(rt: &impl Abort, alloc: Global, width: u32, hint: u32) -> LogEntry {
+    let clause = wide(rt, alloc, width);
+    let hints = row_of(rt, alloc, &[hint]);
+    LogEntry {
         step: Step { clause, hints },
         origin: Origin::Learned,
-    })
+    }
+}
+
+fn push_link(rt: &impl Abort, alloc: Global, log: &mut Row<LogEntry>, width: u32, hint: u32) {
+    log.push(link(rt, alloc, width, hint)).expect(rt, "memory");
 }
 
 // So many entries of so many literals each, and one entry of `last` literals. The first rests on a base clause, and each
 // later one on the one before it.
-fn chain(alloc: Global, entries: u8, width: u32, last: u32) -> Result<Row<LogEntry>, Fail> {
+fn chain(rt: &impl Abort, alloc: Global, entries: u8, width: u32, last: u32) -> Row<LogEntry> {
     let mut log = Row::new(alloc);
     for place in 0..entries {
-        log.push(link(alloc, width, 2 + place as u32)?)?;
+        push_link(rt, alloc, &mut log, width, 2 + place as u32);
     }
-    log.push(link(alloc, last, 2 + entries as u32)?)?;
-    Ok(log)
+    push_link(rt, alloc, &mut log, last, 2 + entries as u32);
+    log
 }
 
 // A chain, and how many steps the cone of its last entry has where that is fit to share.
 type Long<'a> = (&'a str, u8, u32, u32, Option<usize>);
 
-fn is_long(rt: &impl Abort, alloc: Global, problem: &Problem, row: &Long) -> Result<bool, Fail> {
+fn is_long(rt: &impl Abort, alloc: Global, problem: &Problem, row: &Long) -> bool {
     let (_, entries, width, last, due) = row;
-    let log = chain(alloc, *entries, *width, *last)?;
-    let cone = cone_at(rt, alloc, problem, log.as_slice(), *entries as u32)?;
+    let log = chain(rt, alloc, *entries, *width, *last);
+    let cone = cone_at(rt, alloc, problem, log.as_slice(), *entries as u32);
     match cone {
-        Some(certificate) => Ok(Some(certificate.steps.len()) == *due),
-        None => Ok(due.is_none()),
+        Some(certificate) => Some(certificate.steps.len()) == *due,
+        None => due.is_none(),
     }
 }
 
-fn are_long(rt: &impl Abort, alloc: Global, problem: &Problem, rows: &[Long]) -> Result<(), Fail> {
+fn are_long(rt: &impl Abort, alloc: Global, problem: &Problem, rows: &[Long]) {
     for row in rows {
-        assert!(rt; is_long(rt, alloc, problem, row)?, "{}", row.0);
+        assert!(rt; is_long(rt, alloc, problem, row), "{}", row.0);
     }
-    Ok(())
 }
 
 #[test]
-fn cones_that_are_just_small(rt: HostRuntime) -> Result<(), Fail> {
+fn cones_that_are_just_small(rt: HostRuntime) {
     const ROWS: [Long; 4] = [
         ("64 steps", 63, 1, 1, Some(64)),
         ("65 steps", 64, 1, 1, None),
         ("2,048 literals", 51, 40, 8, Some(52)),
         ("2,049 literals", 13, 157, 8, None),
     ];
-    let problem = problem_of(rt.alloc(), &BASE)?;
-    let hold = are_long(&rt, rt.alloc(), &problem, &ROWS);
+    let problem = problem_of(&rt, rt.alloc(), &BASE);
+    are_long(&rt, rt.alloc(), &problem, &ROWS);
     drop(problem);
-    hold
 }

@@ -1,4 +1,4 @@
-ghost use Rattle.std.specs.Prelude.{◌≤◌, All, IfOk, IsTrue};
+ghost use Rattle.std.specs.Prelude.{◌≤◌, All, IsTrue};
 ghost use Rattle.gp_clause.specs.Problem.{IsValidProblem, IsValidQuery};
 ghost use Rattle.gp_workers.specs.Post.{IsPost};
 ghost use Rattle.gp_workers.specs.Work.{CanBeCertified, CanBeWorked};
@@ -14,11 +14,10 @@ use gp_workers::{Post, WindowWork, WorkAnswer, certificate_by, work_all, work_in
 use std::alloc::{AllocError, Global};
 use std::process::Abort;
 use std::sync::Wait;
-use std::test::Fail;
 use std::thread::Threads;
 
 // Whether two drawers of two tickets draw one each, and are then told, again and again, that none is left.
-fn two_draw_two(alloc: Global) -> Result<bool, Fail> {
+fn two_draw_two(alloc: Global) -> Result<bool, AllocError> {
     let (tickets, mut drawers) = Tickets::new(alloc, 2, 2)?;
     let Some(mut one) = drawers.pop() else {
         return Ok(false);
@@ -31,9 +30,8 @@ fn two_draw_two(alloc: Global) -> Result<bool, Fail> {
 }
 
 #[test]
-fn draws_tickets_until_none_is_left(rt: HostRuntime) -> Result<(), Fail> {
-    assert!(rt; two_draw_two(rt.alloc())?);
-    Ok(())
+fn draws_tickets_until_none_is_left(rt: HostRuntime) {
+    assert!(rt; two_draw_two(rt.alloc()).expect(&rt, "memory"));
 }
 
 // Enough for a verdict: 3 to the number of variables.
@@ -51,12 +49,14 @@ const ROWS: Rows = Rows {
 const CLAUSES: u32 = 8;
 
 // Three queries that assume nothing.
-fn queries(alloc: Global) -> Result<Vec<Query>, Fail> {
+fn queries(rt: &impl Abort, alloc: Global) -> Vec<Query> {
     let mut queries = Vec::new(alloc);
     for _ in 0..3 {
-        queries.push(query_of(alloc, &[], &[])?)?;
+        queries
+            .push(query_of(rt, alloc, &[], &[]))
+            .expect(rt, "memory");
     }
-    Ok(queries)
+    queries
 }
 
 // Whether each query may be asked of a problem.
@@ -89,63 +89,63 @@ fn can_be_certified(records: &[WorkerRecord], worker: u32, last: &Step) -> bool
 
 // Whether the certificate of a refutation ends with the clause of no literal.
 fn ends_empty(
+    rt: &impl Abort,
     alloc: Global,
     records: &[WorkerRecord],
     worker: u32,
     last: &Step,
-) -> Result<bool, AllocError> {
+) -> bool {
     if !can_be_certified(records, worker, last) {
-        return Ok(false);
+        return false;
     }
-    let certificate = certificate_by(alloc, CLAUSES, records, worker, last)?;
+    let certificate = certificate_by(alloc, CLAUSES, records, worker, last).expect(rt, "memory");
     match certificate.steps.as_slice().last() {
-        Some(step) => Ok(step.clause.lits().is_empty()),
-        None => Ok(false),
+        Some(step) => step.clause.lits().is_empty(),
+        None => false,
     }
 }
 
 // Whether an answer is a refutation whose certificate ends so.
 fn is_refuted(
+    rt: &impl Abort,
     alloc: Global,
     records: &[WorkerRecord],
     answer: &WorkAnswer,
-) -> Result<bool, AllocError> {
+) -> bool {
     match answer {
-        WorkAnswer::Refuted { worker, last } => ends_empty(alloc, records, *worker, last),
-        _ => Ok(false),
+        WorkAnswer::Refuted { worker, last } => ends_empty(rt, alloc, records, *worker, last),
+        _ => false,
     }
 }
 
 // Whether all answers are.
-fn are_refuted(alloc: Global, work: &WindowWork) -> Result<bool, AllocError> {
+fn are_refuted(rt: &impl Abort, alloc: Global, work: &WindowWork) -> bool {
     let mut all = true;
     for answer in work.answers.as_slice() {
-        all &= is_refuted(alloc, work.records.as_slice(), answer)?;
+        all &= is_refuted(rt, alloc, work.records.as_slice(), answer);
     }
-    Ok(all)
+    all
 }
 
 // The tickets of the turns of all workers, sorted.
-fn tickets_of(alloc: Global, workers: &[WorkerRecord]) -> Result<Vec<u64>, AllocError> {
+fn tickets_of(rt: &impl Abort, alloc: Global, workers: &[WorkerRecord]) -> Vec<u64> {
     let mut tickets = Vec::new(alloc);
     for worker in workers {
         for turn in worker.turns.as_slice() {
-            tickets.push(turn.ticket)?;
+            tickets.push(turn.ticket).expect(rt, "memory");
         }
     }
     tickets.sort_unstable();
-    Ok(tickets)
+    tickets
 }
 
 // Whether so many workers refuted three queries, in one turn for each.
-fn is_due(alloc: Global, work: &WindowWork, workers: usize) -> Result<bool, AllocError> {
-    let tickets = tickets_of(alloc, work.records.as_slice())?;
-    Ok(
-        work.answers.len() == 3
-            && are_refuted(alloc, work)?
-            && work.records.len() == workers
-            && tickets.as_slice() == [0, 1, 2].as_slice(),
-    )
+fn is_due(rt: &impl Abort, alloc: Global, work: &WindowWork, workers: usize) -> bool {
+    let tickets = tickets_of(rt, alloc, work.records.as_slice());
+    work.answers.len() == 3
+        && are_refuted(rt, alloc, work)
+        && work.records.len() == workers
+        && tickets.as_slice() == [0, 1, 2].as_slice()
 }
 
 // Whether an offer was pushed to each of so many others.
@@ -199,14 +199,14 @@ fn work_on<R: Threads + Wait + Sync + Abort, G: Gate + Sync>(
     queries: &[Query],
     workers: u32,
     gate: &G,
-) -> Result<WindowWork, Fail>
+) -> WindowWork
     requires { (1 ≤ workers) × (workers ≤ 16) }
 {
     assert!(rt; is_valid(problem));
     assert!(rt; is_solvable(&[], problem.edges.as_slice()));
     assert!(rt; are_asked(problem, queries));
     assert!(rt; are_few(problem, queries));
-    Ok(work_all(rt, alloc, problem, queries, workers, BUDGET, gate)?)
+    work_all(rt, alloc, problem, queries, workers, BUDGET, gate).expect(rt, "memory")
 }
 
 // The work of so many workers on three queries that assume nothing.
@@ -215,12 +215,15 @@ fn work_on_three<R: Threads + Wait + Sync + Abort, G: Gate + Sync>(
     alloc: Global,
     workers: u32,
     gate: &G,
-) -> Result<WindowWork, Fail>
+) -> WindowWork
     requires { (1 ≤ workers) × (workers ≤ 16) }
 {
-    let problem = problem_of(alloc, &ROWS)?;
-    let queries = queries(alloc)?;
-    work_on(rt, alloc, &problem, queries.as_slice(), workers, gate)
+    let problem = problem_of(rt, alloc, &ROWS);
+    let queries = queries(rt, alloc);
+    let work = work_on(rt, alloc, &problem, queries.as_slice(), workers, gate);
+    drop(queries);
+    drop(problem);
+    work
 }
 
 // The work of so many workers, one after another, on three queries that assume nothing, and the post for the next window.
@@ -229,47 +232,52 @@ fn work_in_turn_on_three<R: Wait + Abort>(
     alloc: Global,
     workers: u32,
     post: Post,
-) -> Result<(WindowWork, Post), Fail>
+) -> (WindowWork, Post)
     requires workers { (1 ≤ workers) × (workers ≤ 16) }
     requires post { IsPost workers post }
-    ensures { IfOk result (λ made. IsPost workers made.1) }
+    ensures { IsPost workers result.1 }
 {
-    let problem = problem_of(alloc, &ROWS)?;
-    let queries = queries(alloc)?;
+    let problem = problem_of(rt, alloc, &ROWS);
+    let queries = queries(rt, alloc);
     let asked = queries.as_slice();
     assert!(rt; is_valid(&problem));
     assert!(rt; is_solvable(&[], problem.edges.as_slice()));
     assert!(rt; are_asked(&problem, asked));
     assert!(rt; are_few(&problem, asked));
-    Ok(work_in_turn(rt, alloc, &problem, asked, workers, BUDGET, &FreeGate, post)?)
+    let made = work_in_turn(rt, alloc, &problem, asked, workers, BUDGET, &FreeGate, post);
+    let made = made.expect(rt, "memory");
+    drop(queries);
+    drop(problem);
+    made
 }
 
 // Whether so many workers that go one after another refute three queries in each of two windows, and share in both: the
 // inboxes of the first serve the second.
-fn refute_three_twice<R: Wait + Abort>(rt: &R, alloc: Global, workers: u32) -> Result<bool, Fail>
+fn refute_three_twice<R: Wait + Abort>(rt: &R, alloc: Global, workers: u32) -> bool
     requires { (1 ≤ workers) × (workers ≤ 16) }
 {
-    let (first, post) = work_in_turn_on_three(rt, alloc, workers, Post::none(alloc))?;
-    let (second, _) = work_in_turn_on_three(rt, alloc, workers, post)?;
+    let (first, post) = work_in_turn_on_three(rt, alloc, workers, Post::none(alloc));
+    let (second, post) = work_in_turn_on_three(rt, alloc, workers, post);
+    drop(post);
     let workers = workers as usize;
     let others = workers.saturating_sub(1);
-    let due = is_due(alloc, &first, workers)? && is_due(alloc, &second, workers)?;
-    Ok(due && share_in_turn(&first, others) && share_in_turn(&second, others))
+    let due = is_due(rt, alloc, &first, workers) && is_due(rt, alloc, &second, workers);
+    let shared = share_in_turn(&first, others) && share_in_turn(&second, others);
+    drop(second);
+    drop(first);
+    due && shared
 }
 
 // Whether one worker, two and four do.
-fn crews_refute_three_twice<R: Wait + Abort>(rt: &R, alloc: Global) -> Result<bool, Fail> {
-    Ok(
-        refute_three_twice(rt, alloc, 1)?
-            && refute_three_twice(rt, alloc, 2)?
-            && refute_three_twice(rt, alloc, 4)?,
-    )
+fn crews_refute_three_twice<R: Wait + Abort>(rt: &R, alloc: Global) -> bool {
+    refute_three_twice(rt, alloc, 1)
+        && refute_three_twice(rt, alloc, 2)
+        && refute_three_twice(rt, alloc, 4)
 }
 
 #[test]
-fn inboxes_serve_one_window_after_another(rt: HostRuntime) -> Result<(), Fail> {
-    assert!(rt; crews_refute_three_twice(&rt, rt.alloc())?);
-    Ok(())
+fn inboxes_serve_one_window_after_another(rt: HostRuntime) {
+    assert!(rt; crews_refute_three_twice(&rt, rt.alloc()));
 }
 
 // Whether so many workers refute three queries, in one turn for each, and share what they learn.
@@ -278,34 +286,30 @@ fn refute_three<R: Threads + Wait + Sync + Abort, G: Gate + Sync>(
     alloc: Global,
     workers: u32,
     gate: &G,
-) -> Result<bool, Fail>
+) -> bool
     requires { (1 ≤ workers) × (workers ≤ 16) }
 {
-    let work = work_on_three(rt, alloc, workers, gate)?;
+    let work = work_on_three(rt, alloc, workers, gate);
     let workers = workers as usize;
-    Ok(is_due(alloc, &work, workers)? && shares(&work, workers))
+    let due = is_due(rt, alloc, &work, workers) && shares(&work, workers);
+    drop(work);
+    due
 }
 
 // Whether one worker, two, four and sixteen do, and two, of which the second passes the gate while the first is held at it.
-fn crews_refute_three<R: Threads + Wait + Sync + Abort>(
-    rt: &R,
-    alloc: Global,
-) -> Result<bool, Fail> {
+fn crews_refute_three<R: Threads + Wait + Sync + Abort>(rt: &R, alloc: Global) -> bool {
     let gate = HoldGate::new(10_000_000);
-    Ok(
-        refute_three(rt, alloc, 1, &FreeGate)?
-            && refute_three(rt, alloc, 2, &gate)?
-            && gate.met()
-            && refute_three(rt, alloc, 2, &FreeGate)?
-            && refute_three(rt, alloc, 4, &FreeGate)?
-            && refute_three(rt, alloc, 16, &FreeGate)?,
-    )
+    refute_three(rt, alloc, 1, &FreeGate)
+        && refute_three(rt, alloc, 2, &gate)
+        && gate.met()
+        && refute_three(rt, alloc, 2, &FreeGate)
+        && refute_three(rt, alloc, 4, &FreeGate)
+        && refute_three(rt, alloc, 16, &FreeGate)
 }
 
 #[test]
-fn several_workers_refute_what_one_refutes(rt: HostRuntime) -> Result<(), Fail> {
-    assert!(rt; crews_refute_three(&rt, rt.alloc())?);
-    Ok(())
+fn several_workers_refute_what_one_refutes(rt: HostRuntime) {
+    assert!(rt; crews_refute_three(&rt, rt.alloc()));
 }
 
 // Whether an entry was taken from the worker of this number.
@@ -344,20 +348,17 @@ fn takes_from_second(work: &WindowWork) -> bool {
 
 // Whether two workers refute three queries, and the first, held until the second has answered one, begins with what that
 // one learned.
-fn two_meet<R: Threads + Wait + Sync + Abort>(
-    rt: &R,
-    alloc: Global,
-    gate: &MeetGate,
-) -> Result<bool, Fail> {
-    let work = work_on_three(rt, alloc, 2, gate)?;
-    Ok(is_due(alloc, &work, 2)? && shares(&work, 2) && takes_from_second(&work))
+fn two_meet<R: Threads + Wait + Sync + Abort>(rt: &R, alloc: Global, gate: &MeetGate) -> bool {
+    let work = work_on_three(rt, alloc, 2, gate);
+    let due = is_due(rt, alloc, &work, 2) && shares(&work, 2) && takes_from_second(&work);
+    drop(work);
+    due
 }
 
 #[test]
-fn a_worker_begins_with_what_another_learned(rt: HostRuntime) -> Result<(), Fail> {
+fn a_worker_begins_with_what_another_learned(rt: HostRuntime) {
     let gate = MeetGate::new(10_000_000);
     let taken = two_meet(&rt, rt.alloc(), &gate);
     assert!(rt; gate.met(), "the turns were spent before the workers met");
-    assert!(rt; taken?);
-    Ok(())
+    assert!(rt; taken);
 }

@@ -14,5 +14,5 @@ sent_within sender clauses =
 
 pub offer-requires-clause-room : goal.offer-requires-clause-room
 offer-requires-clause-room g c =
-    let part : length (sent_by c.in_ok-shared.shared.sender (view c.args.pass.now).pushed) ≤ length (view c.args.pass.now).pushed = sent_within _ _ in
+    let part : length (sent_by c.shared_of-shared.result.sender (view c.args.pass.now).pushed) ≤ length (view c.args.pass.now).pushed = sent_within _ _ in
     omega (arith, part, c.requires.few)

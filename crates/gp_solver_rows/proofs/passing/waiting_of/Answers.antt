@@ -6,5 +6,5 @@ use Rattle.gp_solver_rows.proofs.passing.waiting_of.Goals as goal
 
 pub loop-words-preserved : goal.loop-words-preserved
 loop-words-preserved g c =
-    subst (All (IsGood c.args.problem.now)) (sym c.in_ok-push_back.ensures.items)
-    (All-push (IsGood c.args.problem.now) c.loop-words.waiting.items c.in_ok-shared.shared c.loop-words.invariant c.in_ok-shared.ensures.good)
+    subst (All (IsGood c.args.problem.now)) (sym c.wait.ensures)
+    (All-push (IsGood c.args.problem.now) c.loop-words.waiting.items c.shared_of-shared.result c.loop-words.invariant c.shared_of-shared.ensures.good)

@@ -1,7 +1,7 @@
 -- What a decision needs, and how it goes further.
 use Rattle.std.proofs.Common.{◌≡◌, refl, sym, subst, ◌∙◌, ap, ℕ, ◌+◌, ◌<◌, ◌≤◌, Bool, false, Option, Some, None, List, [], ◌∷◌, ◌++◌, length, Contains, inl, inr, arith}
 use Rattle.std.specs.Option.{option_map, is_some}
-use Rattle.std.specs.Prelude.{Result, Ok, Err, OnErr}
+use Rattle.std.specs.Prelude.{Result, Ok, Err, OnErr, OnOk}
 use Rattle.std.proofs.lemmas.Bool.{cases_lt, true≢false}
 use Rattle.std.proofs.lemmas.List.{length_push, length-append, length-set}
 use Rattle.std.proofs.lemmas.List.Elements.{All-contains}
@@ -76,10 +76,14 @@ keeps_moved old new moves = record {
 pub settled_moved : (old new : Engine) → MovesNext old new → IsSettled old → IsSettled new
 settled_moved old new moves settled = subst (λ (e : Engine). IsSettled e) (sym moves) (record { closed = settled.closed; all = settled.all })
 
--- what holds anyway holds on an error
+-- what holds anyway holds on an error, and where there is none
 pub on_any : {T E P : Type 0} (r : Result T E) → P → OnErr r P
 on_any (Ok x) p = tt
 on_any (Err e) p = p
+
+pub ok_any : {T E P : Type 0} (r : Result T E) → P → OnOk r P
+ok_any (Ok x) p = p
+ok_any (Err e) p = tt
 
 -- what was learned after a backjump was learned at the end of the log before it
 pub learns_on : (old mid back new : Engine) (level : ℕ) → mid ≡ old → IsBackAt mid back level → LearnsOne back new → LearnsOne old new

@@ -80,17 +80,33 @@ turned_before problem log turn place later entry low before high got =
     get_or-take (later - b) (drop b log) (place - b) entry (omega (arith, low, before)) ∙ (get_or-drop b log (place - b) entry ∙ (ap (λ (n : ℕ). get_or log n entry) split ∙ get_or_from_slice_get log place entry entry got)) in
     Contains-append_right problem.clauses (map clause_of front) (clause_of entry) (contains_map clause_of front entry (place - b, within, is))
 
+-- what stands behind a place
+behind : (low place k : ℕ) → low ≤ place → low ≤ place + k
+behind low place k under = omega (arith, under)
+
+further : (place i j : ℕ) → i < j → place + i < place + j
+further place i j before = omega (arith, before)
+
+up_to : (place count : ℕ) → place < count → place ≤ count
+up_to place count within = omega (arith, within)
+
+earlier : (i j count : ℕ) → i < j → j < count → i < count
+earlier i j count before within = omega (arith, before, within)
+
+itself : (place : ℕ) → place ≤ place
+itself place = omega arith
+
 -- the clauses that a turn learned are different, and of its variables
 all_distinct : (problem : Problem) (query : Query) (engine : Engine) → IsTurning problem query engine → AreDistinctClauses (length problem.kinds + length query.locals) (map clause_of (drop engine.learned engine.log.items))
 all_distinct problem query engine turning = record {
   rising = λ k d within.
       let one = own_clause engine.log.items engine.learned k d within in
-      subst IsRising (sym one.2) (turning.taught.rising (engine.learned + k) one.0 one.1 (omega arith));
+      subst IsRising (sym one.2) (turning.taught.rising (engine.learned + k) one.0 one.1 (behind engine.learned engine.learned k (itself engine.learned)));
   named = λ k d within.
       let one = own_clause engine.log.items engine.learned k d within in
-      let own : IsLearned one.0.origin = turning.whole.log.learned (engine.learned + k) one.0 one.1 (omega arith) in
+      let own : IsLearned one.0.origin = turning.whole.log.learned (engine.learned + k) one.0 one.1 (behind engine.learned engine.learned k (itself engine.learned)) in
       let named : NamesBelow (length (problem.kinds ++ query.locals)) one.0.step.clause =
-      own_named problem query.locals engine.log.items engine.begins (engine.learned + k) one.0.step one.0.origin own (turning.whole.log.passes.current (engine.learned + k) one.0 one.1 (omega (arith, turning.whole.log.began))) in
+      own_named problem query.locals engine.log.items engine.begins (engine.learned + k) one.0.step one.0.origin own (turning.whole.log.passes.current (engine.learned + k) one.0 one.1 (behind engine.begins engine.learned k turning.whole.log.began)) in
       let P : ℕ → Type 0 = λ n. NamesBelow n one.0.step.clause in
       let Q : List Lit → Type 0 = λ c. NamesBelow (length problem.kinds + length query.locals) c in
       subst Q (sym one.2) (subst P (length-append problem.kinds query.locals) named);
@@ -100,11 +116,11 @@ all_distinct problem query engine turning = record {
       let inside = news.1.within in
       omega (arith, inside.1, ap (λ (c : List Lit). length c) one.2);
   distinct = λ i j d before within.
-      let first = own_clause engine.log.items engine.learned i d (omega (arith, before, within)) in
+      let first = own_clause engine.log.items engine.learned i d (earlier i j _ before within) in
       let second = own_clause engine.log.items engine.learned j d within in
       let news = new_at j second.0 second.1 within in
       let among : Contains (turned problem engine.log.items (turn_from engine.begins engine.learned (length engine.log.items)) (engine.learned + j)) first.0.step.clause =
-      turned_before problem engine.log.items (turn_from engine.begins engine.learned (length engine.log.items)) (engine.learned + i) (engine.learned + j) first.0 (omega (arith, turning.whole.log.began)) (omega (arith, before)) (omega (arith, place_within j within)) first.1 in
+      turned_before problem engine.log.items (turn_from engine.begins engine.learned (length engine.log.items)) (engine.learned + i) (engine.learned + j) first.0 (behind engine.begins engine.learned i turning.whole.log.began) (further engine.learned i j before) (up_to (engine.learned + j) (length engine.log.items) (place_within j within)) first.1 in
       λ same.
       let equal : first.0.step.clause ≡ second.0.step.clause = sym first.2 ∙ (same ∙ second.2) in
       let clauses : List (List Lit) = turned problem engine.log.items (turn_from engine.begins engine.learned (length engine.log.items)) (engine.learned + j) in
@@ -116,7 +132,7 @@ all_distinct problem query engine turning = record {
 
     new_at : (k : ℕ) (entry : LogEntry) → slice_get engine.log.items (engine.learned + k) ≡ Some entry → k < length (map clause_of (drop engine.learned engine.log.items))
         → (lit : Lit) × IsNewBy problem query (turned problem engine.log.items (turn_from engine.begins engine.learned (length engine.log.items)) (engine.learned + k)) entry.step.clause lit
-    new_at k entry got within = turning.taught.news (engine.learned + k) entry got (omega arith) (omega (arith, place_within k within))
+    new_at k entry got within = turning.taught.news (engine.learned + k) entry got (behind engine.learned engine.learned k (itself engine.learned)) (place_within k within)
 
 -- so they are fewer than three to the power of the number of variables
 pub few_learned : (problem : Problem) (query : Query) (engine : Engine) (budget : ℕ) → ClausesAreFew → IsTurning problem query engine → length engine.log.items ≡ engine.learned + budget → budget < 3 ^ (length problem.kinds + length query.locals)

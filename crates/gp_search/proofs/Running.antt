@@ -16,7 +16,7 @@ use Rattle.gp_base.specs.ListLaws.{all_from_got, slice_get_back}
 use Rattle.gp_search.specs.declared.engine.Engine.{Engine}
 use Rattle.gp_search.specs.Inside.{IsWhole, IsTurning, turn_from}
 use Rattle.gp_search.specs.Mail.{MailForm, Offers, SharesWith, taken_entry}
-use Rattle.gp_search.specs.Moves.{Adds, AddsFew, AddsFewAndOffers, GrowsAndShares, HasGivenAll, IsGrown, KeepsLog, LearnsOne, OffersAll, TakesAll, TakesSome}
+use Rattle.gp_search.specs.Moves.{Adds, AddsFew, AddsFewAndOffers, GrowsAndShares, HasGivenAll, IsGrown, KeepsLog, LearnsOne, OffersAll, StaysTurning, TakesAll, TakesSome}
 use Rattle.gp_search.specs.Verdict.{IsUsedUp, Learns, LearnsAndShares}
 use Rattle.gp_search.proofs.Refuting.{numbered_behind}
 
@@ -48,6 +48,28 @@ pub added_length : (count : ℕ) (old now new : Engine) → Adds count old now �
 added_length count old now new adds keeps =
     let same : length new.log.items ≡ length (old.log.items ++ adds.added) = ap (λ (es : List LogEntry). length es) (keeps.log ∙ adds.longer) in
     omega (arith, same, length-append old.log.items adds.added, adds.counted)
+
+pub counted_length : (count : ℕ) (old now : Engine) → Adds count old now → length now.log.items ≡ length old.log.items + count
+counted_length count old now adds =
+    let same : length now.log.items ≡ length (old.log.items ++ adds.added) = ap (λ (es : List LogEntry). length es) adds.longer in
+    omega (arith, same, length-append old.log.items adds.added, adds.counted)
+
+-- a turn goes on where the log stays, and where one entry more was learned
+pub stays_on : (problem : Problem) (query : Query) (old now new : Engine) → StaysTurning problem query old now → IsTurning problem query new → KeepsLog now new → StaysTurning problem query old new
+stays_on problem query old now new stays turning keeps = record { turning = turning; begins = keeps.begins ∙ stays.begins; learned = keeps.learned ∙ stays.learned }
+
+pub stays_learning : (problem : Problem) (query : Query) (old now kept new : Engine) → StaysTurning problem query old now → KeepsLog now kept → IsTurning problem query new → KeepsLog kept new ⊎ LearnsOne kept new
+    → StaysTurning problem query old new
+stays_learning problem query old now kept new stays keeps turning (inl also) = record {
+  turning = turning;
+  begins = also.begins ∙ (keeps.begins ∙ stays.begins);
+  learned = also.learned ∙ (keeps.learned ∙ stays.learned);
+}
+stays_learning problem query old now kept new stays keeps turning (inr one) = record {
+  turning = turning;
+  begins = one.begins ∙ (keeps.begins ∙ stays.begins);
+  learned = one.learned ∙ (keeps.learned ∙ stays.learned);
+}
 
 -- where as many entries were added as the budget, it is used up
 pub used_up : (problem : Problem) (query : Query) (budget : ℕ) (begins learned : ℕ) (new : Engine) (from to : ℕ) → IsTurning problem query new → new.begins ≡ begins → new.learned ≡ learned → from ≡ new.learned

@@ -32,7 +32,7 @@ use Rattle.gp_search.specs.declared.turn.Descent.{Descent}
 use Rattle.gp_search.specs.declared.turn.Descent.TheVariants.{Verdict as Ended, Conflict as Stuck}
 use Rattle.gp_search.specs.declared.verdict.Verdict.{Verdict}
 use Rattle.gp_search.specs.declared.verdict.Verdict.TheVariants.{Model, Refuted, Spent}
-use Rattle.gp_search.specs.Inside.{all_kinds, turn_from, IsConflict, IsBlank, false_lit}
+use Rattle.gp_search.specs.Inside.{all_kinds, turn_from, IsConflict, IsBlank, IsTurning, false_lit}
 use Rattle.gp_search.specs.Mail.{Gives, MailForm, Offers, SharesWith, WasOffered, taken_entry}
 use Rattle.gp_base.specs.Counts.{one_more}
 
@@ -42,6 +42,12 @@ pub record KeepsLog (old new : Engine) : Type 0 where
   pub begins : new.begins ≡ old.begins
   pub learned : new.learned ≡ old.learned
   pub variables : length new.solver.values ≡ length old.solver.values
+
+-- a turn goes on: the places where it begins and begins to learn stay
+pub record StaysTurning (problem : Problem) (query : Query) (old new : Engine) : Type 0 where
+  pub turning : IsTurning problem query new
+  pub begins : new.begins ≡ old.begins
+  pub learned : new.learned ≡ old.learned
 
 -- only the place of the next assumption changes
 abbrev pub MovesNext : Engine → Engine → Type 0

@@ -1,7 +1,8 @@
-ghost use Rattle.std.specs.Prelude.{◌≡◌, ◌+◌, ◌<◌, ◌^◌, ◌⊎◌, length, All, OnOk, OnErr, IsTrue, ◌↔◌, true};
+ghost use Rattle.std.specs.Prelude.{◌≡◌, ◌+◌, ◌<◌, ◌^◌, ◌⊎◌, length, All, OnOk, OnErr, IsTrue, ◌↔◌, true, vec_capacity, vec_len};
 ghost use Rattle.gp_clause.specs.Clause.{NamesBelow};
 ghost use Rattle.gp_sat.specs.Changes.{MayAttach};
 ghost use Rattle.gp_sat.specs.Sound.{IsSound};
+ghost use Rattle.gp_sat.specs.State.{with_clause};
 ghost use Rattle.gp_search.specs.Inside.{IsTurning, IsConflict, most_steps};
 ghost use Rattle.gp_search.specs.Moves.{IsLesson, IsBackAt, KeepsLog, LearnsAndOffers, LearnsOne, raised, RestsOnMarked, is_marked};
 
@@ -10,7 +11,7 @@ use crate::engine::{Conflict, Engine};
 use crate::lesson::LearnedStep;
 use crate::mail::Mail;
 use gp_certificate::Step;
-use gp_clause::{Lit, Problem};
+use gp_clause::{Clause, Lit, Problem};
 use gp_derivation::{LogEntry, Origin, log_grows};
 use gp_sat::Solver;
 use std::alloc::AllocError;
@@ -82,9 +83,15 @@ impl Engine {
         ensures err { OnErr result (KeepsLog self.old self.new) }
     {
         log_grows();
-        self.log.reserve(1)?;
-        self.pure.reserve(1)?;
-        self.solver.attach(&step.clause)?;
+        let Ok(()) = attach_next(
+            &mut self.solver,
+            &mut self.log,
+            &mut self.pure,
+            &step.clause,
+        ) else {
+            drop(step);
+            return Err(AllocError);
+        };
         raise_all(&mut self.solver, step.clause.lits());
         let pure = self.is_pure(asked.problem, &step);
         self.pure.push_reserved(pure);
@@ -107,6 +114,30 @@ impl Engine {
                 step.hints.as_slice(),
             )
     }
+}
+
+// Makes room for one entry more and its mark, and attaches its clause.
+fn attach_next(
+    solver: &mut Solver,
+    log: &mut Vec<LogEntry>,
+    pure: &mut Vec<bool>,
+    clause: &Clause,
+) -> Result<(), AllocError>
+    requires few { length solver.old.clauses + 1 < 2 ^ 32 }
+    requires named { NamesBelow (length solver.old.values) clause.now }
+    requires may { MayAttach solver.old clause.now }
+    ensures log { log.new.items ≡ log.old.items }
+    ensures pure { pure.new.items ≡ pure.old.items }
+    ensures log_room { OnOk result (vec_len log.new < vec_capacity log.new) }
+    ensures pure_room { OnOk result (vec_len pure.new < vec_capacity pure.new) }
+    ensures ok { OnOk result (solver.new ≡ with_clause solver.old clause.now) }
+    ensures err { OnErr result (solver.new ≡ solver.old) }
+    ensures sound { OnOk result (IsSound solver.new) }
+{
+    log.reserve(1)?;
+    pure.reserve(1)?;
+    solver.attach(clause)?;
+    Ok(())
 }
 
 // Moves the variables of literals to the front of the order of decisions, one after the other.

@@ -48,11 +48,14 @@ impl Engine {
         ensures same { self.new ≡ self.old }
         ensures studied { IfOk result (IsStudied asked.now.problem.now asked.now.query.now self.old) }
     {
-        let learned = self.analyse(conflict.lits.as_slice())?;
-        Ok(Step {
-            clause: learned.clause,
-            hints: add_number(learned.hints, conflict.number)?,
-        })
+        let Learned { clause, hints, .. } = self.analyse(conflict.lits.as_slice())?;
+        match add_number(hints, conflict.number) {
+            Ok(hints) => Ok(Step { clause, hints }),
+            Err(error) => {
+                drop(clause);
+                Err(error)
+            }
+        }
     }
 
     // The first unique implication point of a conflict.
@@ -78,16 +81,16 @@ impl Engine {
         closure_is_least();
         let _ = self.graph.places();
         let Step { clause, hints } = step;
-        let tight = self.tester.tighten(
-            asked.problem,
-            self.log.as_slice(),
-            hints.as_slice(),
-            clause,
-        )?;
-        Ok(Step {
-            clause: tight,
-            hints,
-        })
+        match self.tester.tighten(asked.problem, self.log.as_slice(), hints.as_slice(), clause) {
+            Ok(tight) => Ok(Step {
+                clause: tight,
+                hints,
+            }),
+            Err(error) => {
+                drop(hints);
+                Err(error)
+            }
+        }
     }
 
     // The highest level of the literals below the present level, and 0 where there is none.

@@ -1,7 +1,7 @@
 ghost use Rattle.std.specs.Prelude.{◌≡◌, ◌+◌, ◌*◌, ◌<◌, ◌≤◌, ◌^◌, false, length, IfOk, OnOk, OnErr};
 ghost use Rattle.gp_clause.specs.Problem.{IsValidQuery};
 ghost use Rattle.gp_search.specs.Inside.{IsTaking, IsTurning, IsWhole, IsIdle, most_steps};
-ghost use Rattle.gp_search.specs.Moves.{AddsFew, AddsFewAndOffers, GrowsAndShares, KeepsLog, IsEnded, IsGrown, IsRoomy, retired};
+ghost use Rattle.gp_search.specs.Moves.{AddsFew, AddsFewAndOffers, GrowsAndShares, KeepsLog, IsEnded, IsGrown, IsRoomy, StaysTurning, retired};
 ghost use Rattle.gp_search.specs.Verdict.{IsDue, ConcludesInTime};
 
 use crate::asked::Asked;
@@ -59,31 +59,46 @@ impl Engine {
         requires taking { IsTaking asked.now.problem.now asked.now.query.now self.old }
         requires few { length asked.now.problem.now.clauses + most_steps self.old.log.items self.old.learned + budget + 1 < 2 ^ 32 }
         requires mail { M.problem mail.old ≡ asked.now.problem.now }
-        ensures turning { IsTurning asked.now.problem.now asked.now.query.now self.new }
-        ensures begins { self.new.begins ≡ self.old.begins }
-        ensures learned { self.new.learned ≡ self.old.learned }
-        ensures problem { M.problem mail.new ≡ M.problem mail.old }
-        ensures number { M.number mail.new ≡ M.number mail.old }
-        ensures may_give { M.may_give mail.new ≡ M.may_give mail.old }
+        ensures turning { StaysTurning asked.now.problem.now asked.now.query.now self.old self.new }
+        ensures mail { (M.problem mail.new ≡ M.problem mail.old) × (M.number mail.new ≡ M.number mail.old) × (M.may_give mail.new ≡ M.may_give mail.old) }
         ensures adds { AddsFew budget self.old self.new }
         ensures offers { OnOk result (AddsFewAndOffers asked.now.problem.now budget self.old self.new (M.told mail.old) (M.told mail.new)) }
         ensures verdict { IfOk result (IsDue asked.now.problem.now asked.now.query.now budget self.new.log.items self.old.begins self.old.learned) }
         ensures enough { IfOk result (ConcludesInTime asked.now.problem.now asked.now.query.now budget) }
     {
         fit_stays();
-        clauses_are_few();
         for _ in 0..budget {
             match self.descend(asked)? {
                 Descent::Verdict(verdict) => return Ok(verdict),
-                Descent::Conflict(conflict) => self.learn(asked, &conflict, mail)?,
+                Descent::Conflict(conflict) => {
+                    let learned = self.learn(asked, &conflict, mail);
+                    drop(conflict);
+                    learned?;
+                }
             }
         }
+        self.conclude(asked, budget)
+    }
+
+    // Descends for the last time: as many clauses were learned as the budget, so a conflict more spends it.
+    fn conclude(&mut self, asked: &Asked<'_>, budget: u64) -> Result<Verdict, AllocError>
+        requires turning { IsTurning asked.now.problem.now asked.now.query.now self.old }
+        requires learned { length self.old.log.items ≡ self.old.learned + budget }
+        ensures turning { IsTurning asked.now.problem.now asked.now.query.now self.new }
+        ensures same { KeepsLog self.old self.new }
+        ensures verdict { IfOk result (IsDue asked.now.problem.now asked.now.query.now budget self.new.log.items self.old.begins self.old.learned) }
+        ensures enough { IfOk result (ConcludesInTime asked.now.problem.now asked.now.query.now budget) }
+    {
+        clauses_are_few();
         match self.descend(asked)? {
             Descent::Verdict(verdict) => Ok(verdict),
-            Descent::Conflict(_) => Ok(Verdict::Spent {
-                from: self.learned as u32,
-                to: self.log.len() as u32,
-            }),
+            Descent::Conflict(conflict) => {
+                drop(conflict);
+                Ok(Verdict::Spent {
+                    from: self.learned as u32,
+                    to: self.log.len() as u32,
+                })
+            }
         }
     }
 

@@ -11,10 +11,10 @@ returns-clause-turning c =
     logged c.args.asked.now.problem.now c.args.asked.now.query.now c.args.self.now _ (entry_of c.args.step) c.is_pure-pure.result c.requires.turning c.raise_all.ensures.sound
     (record {
       order = raised c.args.step.clause c.args.self.now.solver.order;
-      solver = c.raise_all.ensures.raised ∙ (λ i. record (c.in_ok-attach.ensures.ok i) { order = raised (c.lits.ensures.lits i) (c.in_ok-attach.ensures.ok i).order });
+      solver = c.raise_all.ensures.raised ∙ (λ i. record (c.in-Ok.ensures.ok i) { order = raised (c.lits.ensures.lits i) (c.in-Ok.ensures.ok i).order });
       graph = refl;
-      log = c.push_reserved-2.ensures.items ∙ ap (λ (es : List LogEntry). es ++ entry_of c.args.step ∷ []) c.reserve.ensures.items;
-      pure = c.push_reserved.ensures.items ∙ ap (λ (bs : List Bool). bs ++ c.is_pure-pure.result ∷ []) c.reserve-2.ensures.items;
+      log = c.push_reserved-2.ensures.items ∙ ap (λ (es : List LogEntry). es ++ entry_of c.args.step ∷ []) c.attach_next.ensures.log;
+      pure = c.push_reserved.ensures.items ∙ ap (λ (bs : List Bool). bs ++ c.is_pure-pure.result ∷ []) c.attach_next.ensures.pure;
       begins = refl;
       tester = refl;
       asserted = refl;
@@ -23,7 +23,7 @@ returns-clause-turning c =
       next = refl;
     })
     (may_learn c.args.asked.now.problem.now c.args.asked.now.query.now c.args.self.now c.args.step c.is_pure-pure.result c.log_grows.ensures c.requires.turning (
-      (λ is. subst P c.reserve-2.ensures.items (c.is_pure-pure.ensures.0 is)),
-      (λ rests. c.is_pure-pure.ensures.1 (subst P (sym c.reserve-2.ensures.items) rests)),
+      (λ is. subst P c.attach_next.ensures.pure (c.is_pure-pure.ensures.0 is)),
+      (λ rests. c.is_pure-pure.ensures.1 (subst P (sym c.attach_next.ensures.pure) rests)),
     )
     c.requires.lesson c.lits.ensures.rising c.requires.few)

@@ -4,8 +4,8 @@ use Rattle.gp_sat.specs.Learning.{IsFirstPoint}
 use Rattle.gp_search.proofs.Teaching.{studied}
 use Rattle.gp_search.proofs.engine.Engine.study.Goals as goal
 
-pub returns-clause-studied : goal.returns-clause-studied
-returns-clause-studied c =
-    let P : List Lit → Type 0 = λ ls. IsFirstPoint c.args.self.now.solver ls c.in_ok-learned.learned in
-    studied c.args.asked.now.problem.now c.args.asked.now.query.now c.args.self.now c.args.conflict.now.lits.items c.args.conflict.now.number c.in_ok-learned.learned _ c.requires.turning c.requires.conflict
-    (subst P c.as_slice.ensures.value c.in_ok-learned.ensures.learned) c.in_ok-add_number.ensures
+pub returns-in-Ok-clause-studied : goal.returns-in-Ok-clause-studied
+returns-in-Ok-clause-studied c =
+    let P : List Lit → Type 0 = λ ls. IsFirstPoint c.args.self.now.solver ls c.in_ok-clause.field-0 in
+    studied c.args.asked.now.problem.now c.args.asked.now.query.now c.args.self.now c.args.conflict.now.lits.items c.args.conflict.now.number c.in_ok-clause.field-0 _ c.requires.turning c.requires.conflict
+    (subst P c.as_slice.ensures.value c.in_ok-clause.ensures.learned) c.in-Ok.ensures

@@ -14,7 +14,7 @@ tighten-requires-clause-passes c =
     to_tester c.args.asked.now.problem.now c.args.asked.now.query.now c.args.self.now c.args.step.hints c.as_slice-2.result.now c.as_slice.result.now (λ es ks cs. Passes es ks cs c.args.step.clause) c.requires.turning c.as_slice.ensures.value c.as_slice-2.ensures
     c.requires.studied.passes.passes
 
-pub returns-clause-tightened : goal.returns-clause-tightened
-returns-clause-tightened c =
-    tightened c.closure_is_least.ensures c.args.asked.now.problem.now c.args.asked.now.query.now c.args.self.now c.args.step c.as_slice-2.result.now c.as_slice.result.now c.in_ok-tight.tight c.requires.turning c.places.ensures.feasible c.requires.above
-    c.requires.studied c.as_slice.ensures.value c.as_slice-2.ensures c.in_ok-tight.ensures.some c.in_ok-tight.ensures.passes c.in_ok-tight.ensures.tight
+pub returns-in-Ok-clause-tightened : goal.returns-in-Ok-clause-tightened
+returns-in-Ok-clause-tightened c =
+    tightened c.closure_is_least.ensures c.args.asked.now.problem.now c.args.asked.now.query.now c.args.self.now c.args.step c.as_slice-2.result.now c.as_slice.result.now c.in-Ok.tight c.requires.turning c.places.ensures.feasible c.requires.above
+    c.requires.studied c.as_slice.ensures.value c.as_slice-2.ensures c.in-Ok.ensures.some c.in-Ok.ensures.passes c.in-Ok.ensures.tight

@@ -23,23 +23,35 @@ run-requires-clause-few g c =
     omega (arith, c.requires.few, c.requires.budget, c.take_all.ensures.taking.learned, c.take_all.ensures.some.few, taken_up_to c.args.self.now c.begin.new.self c.take_all.new.self c.begin.ensures.same c.take_all.ensures.some)
 
 pub returns-clause-begins : goal.returns-clause-begins
-returns-clause-begins g c = c.run.ensures.begins ∙ (c.take_all.ensures.some.begins ∙ c.begin.ensures.begins)
+returns-clause-begins g c = c.run.ensures.turning.begins ∙ (c.take_all.ensures.some.begins ∙ c.begin.ensures.begins)
 
 pub returns-clause-none : goal.returns-clause-none
 returns-clause-none g c = λ never.
-    c.run.ensures.learned ∙ (c.take_all.ensures.taking.learned ∙ ap (λ (es : List LogEntry). length es) (c.take_all.ensures.none never ∙ c.begin.ensures.same))
+    c.run.ensures.turning.learned ∙ (c.take_all.ensures.taking.learned ∙ ap (λ (es : List LogEntry). length es) (c.take_all.ensures.none never ∙ c.begin.ensures.same))
 
 pub returns-clause-grown : goal.returns-clause-grown
 returns-clause-grown g c =
-    grown_on c.args.budget c.args.self.now c.begin.new.self c.take_all.new.self c.run.new.self c.begin.ensures.same c.take_all.ensures.some c.take_all.ensures.taking.learned c.run.ensures.adds c.run.ensures.learned
+    grown_on c.args.budget c.args.self.now c.begin.new.self c.take_all.new.self c.run.new.self c.begin.ensures.same c.take_all.ensures.some c.take_all.ensures.taking.learned c.run.ensures.adds c.run.ensures.turning.learned
 
 pub returns-clause-shares : goal.returns-clause-shares
 returns-clause-shares g c =
     all_shared c.run.result c.args.asked.now.problem.now c.args.budget c.args.self.now c.begin.new.self c.take_all.new.self c.run.new.self (g.M.Mail.told c.args.mail.now) (g.M.Mail.told c.take_all.new.mail) (g.M.Mail.told c.run.new.mail) c.begin.ensures.same
-    c.in_ok-take_all.ensures.all c.take_all.ensures.taking.learned c.run.ensures.offers c.run.ensures.learned
+    c.in_ok-take_all.ensures.all c.take_all.ensures.taking.learned c.run.ensures.offers c.run.ensures.turning.learned
 
 pub returns-clause-verdict : goal.returns-clause-verdict
 returns-clause-verdict g c =
     let P : ℕ → ℕ → Type 0 = λ m n. IfOk c.run.result (IsDue c.args.asked.now.problem.now c.args.asked.now.query.now c.args.budget c.run.new.self.log.items m n) in
-    subst (P (length c.args.self.now.log.items)) (sym c.run.ensures.learned)
+    subst (P (length c.args.self.now.log.items)) (sym c.run.ensures.turning.learned)
     (subst (λ (m : ℕ). P m c.take_all.new.self.learned) (c.take_all.ensures.some.begins ∙ c.begin.ensures.begins) c.run.ensures.verdict)
+
+pub returns-clause-whole : goal.returns-clause-whole
+returns-clause-whole g c = c.run.ensures.turning.turning.whole
+
+pub returns-clause-problem : goal.returns-clause-problem
+returns-clause-problem g c = c.run.ensures.mail.0 ∙ c.take_all.ensures.problem
+
+pub returns-clause-number : goal.returns-clause-number
+returns-clause-number g c = c.run.ensures.mail.1 ∙ c.take_all.ensures.number
+
+pub returns-clause-may_give : goal.returns-clause-may_give
+returns-clause-may_give g c = c.run.ensures.mail.2 ∙ c.take_all.ensures.may_give

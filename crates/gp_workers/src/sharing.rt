@@ -1,4 +1,4 @@
-ghost use Rattle.std.specs.Prelude.{◌≡◌, ◌-◌, ◌<◌, ◌≤◌, [], Some, IfOk, length, map};
+ghost use Rattle.std.specs.Prelude.{◌≡◌, ◌-◌, ◌<◌, ◌≤◌, ◌++◌, [], Some, IfOk, OnOk, length, map};
 ghost use Rattle.gp_workers.specs.Crew.{IsDone};
 ghost use Rattle.gp_workers.specs.Desk.{IsDesk, PassesAre, offers_of, told_by};
 ghost use Rattle.gp_workers.specs.Mail.{SharesSoFar};
@@ -140,10 +140,30 @@ fn parted(
 {
     let mut all = VecDeque::new(alloc);
     let mut rows = VecDeque::new(alloc);
+    let done = part_all(&mut crew, &mut all, &mut rows);
+    drop(crew);
+    match done {
+        Ok(()) => Ok((all, rows)),
+        Err(error) => {
+            drop((all, rows));
+            Err(error)
+        }
+    }
+}
+
+// Puts the work of each worker behind that of others, and its passes behind theirs.
+fn part_all(
+    crew: &mut VecDeque<Shared>,
+    all: &mut VecDeque<Worked>,
+    rows: &mut VecDeque<Vec<Pass>>,
+) -> Result<(), AllocError>
+    ensures worked { OnOk result (all.new.items ≡ all.old.items ++ map (λ shared. shared.worked) crew.old.items) }
+    ensures passes { OnOk result (rows.new.items ≡ rows.old.items ++ map (λ shared. shared.passes) crew.old.items) }
+{
     while let Some(shared) = crew.pop_front() {
         let Shared { worked, passes } = shared;
         all.push_back(worked)?;
         rows.push_back(passes)?;
     }
-    Ok((all, rows))
+    Ok(())
 }

@@ -1,5 +1,7 @@
 ghost use Rattle.std.specs.Prelude.{◌≡◌, ◌≤◌, ◌<◌, ◌-◌, ℕ, [], IfOk, Ok, length, map, slice_index_or};
-ghost use Rattle.gp_workers.specs.Post.{IsPost};
+ghost use Rattle.gp_tickets.specs.Tickets.{IsUnused};
+ghost use Rattle.gp_workers.specs.Desk.{PassesAre};
+ghost use Rattle.gp_workers.specs.Post.{IsPost, IsWholeOf};
 ghost use Rattle.gp_workers.specs.SharedCrew.{AreHandedBack, AreSharingJobs, IsHandedBack, IsSharingJob};
 ghost use Rattle.gp_workers.specs.Sharing.{AllShared, WorksAlone};
 ghost use Rattle.gp_workers.specs.Work.{CanBeAsked, IsWork};
@@ -12,10 +14,10 @@ use crate::work::WindowWork;
 use crate::worker::work;
 use gp_base::Row;
 use gp_clause::{Problem, Query};
-use gp_inbox::Inbox;
+use gp_inbox::{Inbox, Pass};
 use gp_outside::Gate;
 use gp_search::NoMail;
-use gp_tickets::Tickets;
+use gp_tickets::{Drawer, Tickets};
 use std::alloc::{AllocError, Global};
 use std::collections::VecDeque;
 use std::sync::Wait;
@@ -72,7 +74,6 @@ fn work_together<R: Threads + Wait + Sync, G: Gate + Sync>(
         workers,
         Post::none(alloc),
     )?;
-    let inboxes = inboxes.as_slice();
     let load = Workload {
         tickets: &tickets,
         problem,
@@ -80,10 +81,32 @@ fn work_together<R: Threads + Wait + Sync, G: Gate + Sync>(
         budget,
         gate,
     };
-    let crew = run_side_by_side(rt, alloc, &load, inboxes, jobs)?;
-    let (work, passes) = finish(rt, alloc, &load, inboxes, crew)?;
+    let made = work_side_by_side(rt, alloc, &load, inboxes.as_slice(), jobs);
+    drop(tickets);
+    drop(inboxes);
+    let (work, passes) = made?;
     let passes = Row::from_vec(passes);
     Ok(WindowWork { passes, ..work })
+}
+
+// The work of workers that were hired, side by side, and the pass of each inbox.
+fn work_side_by_side<R: Threads + Wait + Sync, G: Gate + Sync>(
+    rt: &R,
+    alloc: Global,
+    load: &Workload<'_, G>,
+    inboxes: &[Inbox],
+    jobs: Vec<SharingJob>,
+) -> Result<(WindowWork, Vec<Pass>), AllocError>
+    requires asked { CanBeAsked load.now.problem.now load.now.queries.now load.now.budget }
+    requires count { load.now.tickets.now.count ≡ length load.now.queries.now }
+    requires crew { load.now.tickets.now.crew ≡ length inboxes.now }
+    requires few { (1 ≤ length inboxes.now) × (length inboxes.now ≤ 16) × (length jobs.items ≡ length inboxes.now) }
+    requires jobs { AreSharingJobs load.now.tickets.now load.now.problem.now inboxes.now jobs.items }
+    ensures work { IfOk result (λ made. IsWork load.now.problem.now load.now.queries.now (length inboxes.now) load.now.budget made.0) }
+    ensures shared { IfOk result (λ made. AllShared load.now.problem.now (length inboxes.now) made.0.records made.1.items) }
+{
+    let crew = run_side_by_side(rt, alloc, load, inboxes, jobs)?;
+    finish(rt, alloc, load, inboxes, crew)
 }
 
 // What each worker hands back, by number, where they work side by side.
@@ -205,10 +228,37 @@ fn work_one_by_one<R: Wait, G: Gate>(
         budget,
         gate,
     };
-    let opened = inboxes.as_slice();
-    let crew = run_in_turn(rt, alloc, &load, opened, jobs)?;
-    let (work, passes) = finish(rt, alloc, &load, opened, crew)?;
-    Ok((work, Post { inboxes, passes }))
+    let made = work_after_another(rt, alloc, &load, inboxes.as_slice(), jobs);
+    drop(tickets);
+    match made {
+        Ok((work, passes)) => Ok((work, Post { inboxes, passes })),
+        Err(error) => {
+            drop(inboxes);
+            Err(error)
+        }
+    }
+}
+
+// The work of workers that were hired, one after another, and the pass of each inbox.
+fn work_after_another<R: Wait, G: Gate>(
+    rt: &R,
+    alloc: Global,
+    load: &Workload<'_, G>,
+    inboxes: &[Inbox],
+    jobs: Vec<SharingJob>,
+) -> Result<(WindowWork, Vec<Pass>), AllocError>
+    requires asked { CanBeAsked load.now.problem.now load.now.queries.now load.now.budget }
+    requires count { load.now.tickets.now.count ≡ length load.now.queries.now }
+    requires crew { load.now.tickets.now.crew ≡ length inboxes.now }
+    requires few { (1 ≤ length inboxes.now) × (length inboxes.now ≤ 16) × (length jobs.items ≡ length inboxes.now) }
+    requires jobs { AreSharingJobs load.now.tickets.now load.now.problem.now inboxes.now jobs.items }
+    ensures work { IfOk result (λ made. IsWork load.now.problem.now load.now.queries.now (length inboxes.now) load.now.budget made.0) }
+    ensures none { IfOk result (λ made. made.0.passes ≡ []) }
+    ensures shared { IfOk result (λ made. AllShared load.now.problem.now (length inboxes.now) made.0.records made.1.items) }
+    ensures whole { IfOk result (λ made. PassesAre inboxes.now (IsWholeOf (length inboxes.now)) made.1.items) }
+{
+    let crew = run_in_turn(rt, alloc, load, inboxes, jobs)?;
+    finish(rt, alloc, load, inboxes, crew)
 }
 
 // What each worker hands back, by number, where one works after another.
@@ -250,8 +300,7 @@ pub fn work_one<G: Gate>(
     let Some(drawer) = drawers.pop() else {
         unreachable!()
     };
-    let job = Job { number: 1, drawer };
-    let mut mail = NoMail::new(problem);
+    drop(drawers);
     let load = Workload {
         tickets: &tickets,
         problem,
@@ -259,6 +308,25 @@ pub fn work_one<G: Gate>(
         budget,
         gate,
     };
-    let worked = work(alloc, &load, job, &mut mail)?;
+    let made = work_alone(alloc, &load, drawer);
+    drop(tickets);
+    made
+}
+
+// The work of one worker, which draws all tickets.
+fn work_alone<G: Gate>(
+    alloc: Global,
+    load: &Workload<'_, G>,
+    drawer: Drawer,
+) -> Result<WindowWork, AllocError>
+    requires asked { CanBeAsked load.now.problem.now load.now.queries.now load.now.budget }
+    requires count { load.now.tickets.now.count ≡ length load.now.queries.now }
+    requires crew { load.now.tickets.now.crew ≡ 1 }
+    requires drawer { IsUnused load.now.tickets.now drawer }
+    ensures work { IfOk result (IsWork load.now.problem.now load.now.queries.now 1 load.now.budget) }
+    ensures alone { IfOk result WorksAlone }
+{
+    let mut mail = NoMail::new(load.problem);
+    let worked = work(alloc, load, Job { number: 1, drawer }, &mut mail)?;
     Gathered::of(alloc, worked)?.into_work(alloc)
 }

@@ -74,12 +74,16 @@ impl<'a> Worker<'a> {
         let verdict = self.search.ask(query, budget, mail)?;
         let learned = self.search.learned_from();
         let ends = self.search.log().len() as u32;
-        self.turns.push(Turn {
+        let Ok(()) = self.turns.push(Turn {
             ticket,
             begins,
             learned,
             ends,
-        })?;
+        })
+        else {
+            drop(verdict);
+            return Err(AllocError);
+        };
         Ok(answer_of(self.number, verdict))
     }
 
@@ -202,13 +206,46 @@ fn answer_drawn<G: Gate, M: BoundedMail>(
         HasWorked worker.old.search.problem load.now.queries.now load.now.budget (hand_of drawer.new).drawn worker.new answers.items (M.told mail.new)) }
 {
     let mut answers = Vec::new(alloc);
+    match answer_all(load, worker, drawer, mail, first, &mut answers) {
+        Ok(()) => Ok(answers),
+        Err(error) => {
+            drop(answers);
+            Err(error)
+        }
+    }
+}
+
+// Answers the query of the first ticket, and then those of the tickets that a worker draws.
+fn answer_all<G: Gate, M: BoundedMail>(
+    load: &Workload<'_, G>,
+    worker: &mut Worker,
+    drawer: &mut Drawer,
+    mail: &mut M,
+    first: u64,
+    answers: &mut Vec<Made<WorkAnswer>>,
+) -> Result<(), AllocError>
+    requires asked { CanBeAsked worker.old.search.problem load.now.queries.now load.now.budget }
+    requires count { load.now.tickets.now.count ≡ length load.now.queries.now }
+    requires fresh { IsFresh worker.old }
+    requires drawer { IsSingle load.now.tickets.now 0 drawer.old }
+    requires first { (hand_of drawer.old).drawn ≡ first ∷ [] }
+    requires within { first < length load.now.queries.now }
+    requires mail { M.problem mail.old ≡ worker.old.search.problem }
+    requires silent { IsSilent (M.told mail.old) }
+    requires none { answers.old.items ≡ [] }
+    ensures number { OnOk result (worker.new.number ≡ worker.old.number) }
+    ensures mail_number { M.number mail.new ≡ M.number mail.old }
+    ensures mail_problem { OnOk result (M.problem mail.new ≡ worker.new.search.problem) }
+    ensures drawer { OnOk result (IsSingle load.now.tickets.now 1 drawer.new) }
+    ensures worked { OnOk result (HasWorked worker.old.search.problem load.now.queries.now load.now.budget (hand_of drawer.new).drawn worker.new answers.new.items (M.told mail.new)) }
+{
     mail.gives_few();
-    answer_one(load, worker, first, mail, &mut answers)?;
+    answer_one(load, worker, first, mail, answers)?;
     while let Some(ticket) = load.tickets.draw(drawer) {
         mail.gives_few();
-        answer_one(load, worker, ticket, mail, &mut answers)?;
+        answer_one(load, worker, ticket, mail, answers)?;
     }
-    Ok(answers)
+    Ok(())
 }
 
 // Answers the query of one ticket more.

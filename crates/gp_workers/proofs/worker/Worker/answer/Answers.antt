@@ -13,6 +13,6 @@ returns-clause-answer g c =
     let own : WorkerRecord = record_of (record { number = old.number; search = c.ask.new.self; turns = c.push.new.self }) in
     let P : WorkAnswer → Type 0 = λ answer. IsAnswerBy old.search.problem c.args.query.now c.args.budget old.number own c.args.ticket answer in
     let last : own.turns ≡ old.turns.items ++ turn_of c.args.ticket (length old.search.log) c.ask.new.self.learned (length own.log) ∷ [] =
-    c.in_ok-push.ensures.items ∙ (λ i. old.turns.items ++ turn_of c.args.ticket (length (c.log.ensures i)) (c.learned_from-learned.ensures i) (length (c.log-2.ensures i)) ∷ []) in
+    c.in-Ok.ensures.items ∙ (λ i. old.turns.items ++ turn_of c.args.ticket (length (c.log.ensures i)) (c.learned_from-learned.ensures i) (length (c.log-2.ensures i)) ∷ []) in
     subst P (sym c.answer_of.ensures)
     (answer_due old.search.problem c.args.query.now c.args.budget old.number c.args.ticket (length old.search.log) c.ask.new.self.learned own old.turns.items c.in_ok-verdict.verdict last c.in_ok-verdict.ensures.verdict)

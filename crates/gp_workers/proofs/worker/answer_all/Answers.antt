@@ -6,7 +6,7 @@ use Rattle.gp_workers.specs.Worker.{HasWorked}
 use Rattle.gp_tickets.specs.Hand.{drew}
 use Rattle.gp_tickets.specs.TicketLaws.{still_single}
 use Rattle.gp_workers.proofs.WorkerTurns.{nothing_yet}
-use Rattle.gp_workers.proofs.worker.answer_drawn.Goals as goal
+use Rattle.gp_workers.proofs.worker.answer_all.Goals as goal
 
 pub loop-ticket-init : goal.loop-ticket-init
 loop-ticket-init g c =
@@ -18,7 +18,7 @@ loop-ticket-init g c =
       mail_number = c.in_ok-answer_one.ensures.mail_number;
       single = c.requires.drawer;
       worked = subst (λ (ns : List ℕ). HasWorked worker.search.problem queries c.args.load.now.budget ns c.answer_one.new.worker c.answer_one.new.answers.items (g.M.Mail.told c.answer_one.new.mail)) (sym c.requires.first)
-          (c.in_ok-answer_one.ensures.worked worker.search.problem [] (subst (λ rs. HasWorked worker.search.problem queries c.args.load.now.budget [] worker rs (g.M.Mail.told c.args.mail.now)) (sym c.new-answers.ensures.items)
+          (c.in_ok-answer_one.ensures.worked worker.search.problem [] (subst (λ rs. HasWorked worker.search.problem queries c.args.load.now.budget [] worker rs (g.M.Mail.told c.args.mail.now)) (sym c.requires.none)
           (nothing_yet queries c.args.load.now.budget worker (g.M.Mail.told c.args.mail.now) c.requires.fresh c.requires.silent)));
     }
 

@@ -4,16 +4,16 @@ use Rattle.std.specs.Prelude.{IfOk}
 use Rattle.gp_workers.specs.declared.work.WindowWork.{WindowWork}
 use Rattle.gp_workers.specs.Work.{IsWork}
 use Rattle.gp_workers.proofs.CrewAlone.{nothing_shared, same_if_ok}
-use Rattle.gp_workers.proofs.window.work_one.Goals as goal
+use Rattle.gp_workers.proofs.window.work_alone.Goals as goal
 
 pub returns-clause-work : goal.returns-clause-work
 returns-clause-work g c =
-    let tickets = c.in_ok-tickets.tickets in
-    let problem = c.args.problem.now in
-    let queries = c.args.queries.now in
-    let crew = c.in_ok-tickets.ensures.crew in
-    subst (λ n. IfOk c.into_work.result (IsWork problem queries n c.args.budget)) crew
-    (c.into_work.ensures.work tickets problem queries c.args.budget (c.in_ok-of.ensures.gathered tickets problem queries c.args.budget c.in_ok-worked.ensures.done) (c.in_ok-of.ensures.first ∙ sym crew) c.in_ok-tickets.ensures.count)
+    let load = c.args.load.now in
+    let tickets = load.tickets.now in
+    let problem = load.problem.now in
+    let queries = load.queries.now in
+    subst (λ n. IfOk c.into_work.result (IsWork problem queries n load.budget)) c.requires.crew
+    (c.into_work.ensures.work tickets problem queries load.budget (c.in_ok-of.ensures.gathered tickets problem queries load.budget c.in_ok-worked.ensures.done) (c.in_ok-of.ensures.first ∙ sym c.requires.crew) c.requires.count)
 
 pub returns-clause-alone : goal.returns-clause-alone
 returns-clause-alone g c =

@@ -1,7 +1,7 @@
 use Rattle.std.proofs.Common.{◌≡◌, ◌-◌, length}
 use Rattle.gp_tickets.specs.Tickets.{hand_of, IsSingle}
 use Rattle.gp_workers.specs.Worker.{HasWorked}
-use Rattle.gp_workers.proofs.worker.answer_drawn.Given as goal
+use Rattle.gp_workers.proofs.worker.answer_all.Given as goal
 
 abbrev pub decreases-loop-ticket : goal.decreases-loop-ticket
 decreases-loop-ticket g l = length l.load.queries.now - length (hand_of l.drawer).drawn

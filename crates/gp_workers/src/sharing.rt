@@ -162,7 +162,10 @@ fn part_all(
 {
     while let Some(shared) = crew.pop_front() {
         let Shared { worked, passes } = shared;
-        all.push_back(worked)?;
+        let Ok(()) = all.push_back(worked) else {
+            drop(passes);
+            return Err(AllocError);
+        };
         rows.push_back(passes)?;
     }
     Ok(())

@@ -5,7 +5,7 @@ ghost use Rattle.gp_window.specs.Formed.{IsFormed, mode_at_start};
 ghost use Rattle.gp_window.specs.Modes.{mode_before};
 ghost use Rattle.gp_instance.specs.Instances.{ids_in};
 ghost use Rattle.gp_constraint.specs.Tables.{entry_at};
-ghost use Rattle.gp_stuck.specs.Noted.{AreNoted, NotesMore, holder_with, with_own};
+ghost use Rattle.gp_stuck.specs.Noted.{AreNoted, NotesMore, holder_with, with_all_own, with_own};
 ghost use Rattle.gp_stuck.specs.Search.{takers_of};
 
 use crate::event::{may_be_next, takes_lock};
@@ -146,10 +146,27 @@ pub fn held_at_start(
     ensures { IfOk result (λ held. (lock : List ℕ) → mode_held held lock ≡ mode_at_start window.now thread lock) }
 {
     let mut held = Table::new(alloc);
-    for (place, mode) in window.held().iter() {
-        put_own(&mut held, thread, place, *mode)?;
+    match put_all_own(&mut held, thread, window.held()) {
+        Ok(()) => Ok(held),
+        Err(error) => {
+            drop(held);
+            Err(error)
+        }
     }
-    Ok(held)
+}
+
+/// Puts all locks in that this thread holds.
+fn put_all_own(
+    held: &mut Table<Name, LockMode>,
+    thread: u32,
+    holdings: &Table<(Name, u32), LockMode>,
+) -> Result<(), AllocError>
+    ensures { OnOk result (held.new ≡ with_all_own thread held.old holdings.now) }
+{
+    for (place, mode) in holdings.iter() {
+        put_own(held, thread, place, *mode)?;
+    }
+    Ok(())
 }
 
 /// Puts a lock in that this thread holds.

@@ -1,5 +1,5 @@
 -- Entries counted one after another.
-use Rattle.std.proofs.Common.{◌≡◌, refl, ℕ, ◌+◌, ◌<◌, Bool, cond, get_or, length, drop, List, ◌++◌, ap, ◌∙◌, sym, arith}
+use Rattle.std.proofs.Common.{◌≡◌, refl, ℕ, ◌+◌, ◌<◌, Bool, cond, get_or, length, drop, List, [], ◌∷◌, ◌++◌, ap, ◌∙◌, sym, arith}
 use Rattle.std.specs.List.{flat_map}
 use Rattle.std.proofs.lemmas.List.Sums.{sum_by-append}
 use Rattle.gp_writer.specs.LinesLaws.{cut}
@@ -26,6 +26,16 @@ one_part : {A Shown : Type 0} (f : A → List (EntryOf Shown)) (tally whole : Ta
 one_part f tally whole xs x i below is all =
     tallied tally (f x) (flat_map f (drop (i + 1) xs))
     ∙ ap (λ left. with_entries tally (flat_map f left)) (sym (cut xs x i below is))
+    ∙ all
+
+-- one entry more
+pub one_entry : {Shown : Type 0} (tally whole : Tally) (entries : List (EntryOf Shown)) (entry : EntryOf Shown) (i : ℕ)
+    → i < length entries → entry ≡ get_or entries i entry
+    → with_entries tally (drop i entries) ≡ whole
+    → with_entries (with_entries tally (entry ∷ [])) (drop (i + 1) entries) ≡ whole
+one_entry {Shown} tally whole entries entry i below is all =
+    tallied tally (entry ∷ []) (drop (i + 1) entries)
+    ∙ ap (λ (left : List (EntryOf Shown)). with_entries tally left) (sym (cut entries entry i below is))
     ∙ all
 
 -- those of one property more

@@ -74,10 +74,16 @@ fn told_instance<'a>(line: ReportLine<'a>) -> Result<(u32, Words<'a>), ReportFau
     ensures { result ≡ told_by (codes "instance") number_and_words line.entry }
 {
     let malformed = line.breaks(ReportRule::Form);
-    let mut words = line.words_after(b"instance").ok_or(malformed)?;
-    let number = words.next().ok_or(malformed)?;
-    let number = read_u32(number).ok_or(malformed)?;
-    Ok((number, words))
+    let words = line.words_after(b"instance").ok_or(malformed)?;
+    number_and_words(words).ok_or(malformed)
+}
+
+fn number_and_words<'a>(words: Words<'a>) -> Option<(u32, Words<'a>)>
+    ensures { result ≡ number_and_words words.entry }
+{
+    let mut words = words;
+    let number = read_u32(words.next()?)?;
+    Some((number, words))
 }
 
 #[tactic(auto, unfolding(crate::specs::Reading::read_answer))]

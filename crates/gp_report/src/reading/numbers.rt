@@ -1,5 +1,6 @@
 ghost use Rattle.std.specs.Prelude.{◌≡◌, IfOk, ◌≤◌};
-ghost use Rattle.gp_report.specs.Reading.{Gives, kept_if, one_number, read_between, three_numbers, told_by, two_numbers};
+ghost use Rattle.gp_text.specs.Numbers.{number_of};
+ghost use Rattle.gp_report.specs.Reading.{Gives, both, kept_if, one_number, read_between, three_numbers, told_by, two_numbers};
 
 use crate::fault::{ReportFault, ReportRule};
 use crate::reading::cursor::{ReportLine, ReportLines};
@@ -72,10 +73,16 @@ fn two_numbers(words: Words) -> Option<(u64, u64)>
     let first = words.next()?;
     let second = words.next()?;
     if words.is_empty() {
-        Some((read_u64(first)?, read_u64(second)?))
+        both_numbers(first, second)
     } else {
         None
     }
+}
+
+fn both_numbers(first: &[u8], second: &[u8]) -> Option<(u64, u64)>
+    ensures { result ≡ both (number_of first.now) (number_of second.now) }
+{
+    Some((read_u64(first)?, read_u64(second)?))
 }
 
 fn three_numbers(words: Words) -> Option<(u64, (u64, u64))>
@@ -86,7 +93,7 @@ fn three_numbers(words: Words) -> Option<(u64, (u64, u64))>
     let second = words.next()?;
     let third = words.next()?;
     if words.is_empty() {
-        Some((read_u64(first)?, (read_u64(second)?, read_u64(third)?)))
+        Some((read_u64(first)?, both_numbers(second, third)?))
     } else {
         None
     }

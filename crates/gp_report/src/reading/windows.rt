@@ -1,5 +1,6 @@
 ghost use Rattle.std.specs.Prelude.{◌≡◌, ◌≢◌, ◌+◌, ◌==◌, codes, length};
-ghost use Rattle.gp_report.specs.Reading.{Gives, entry_count, name_and_count, read_answers, read_body, read_properties, read_property, read_shared, read_too_large, read_window, read_window_body, read_window_number, read_windows, shared_in, told_by};
+ghost use Rattle.gp_text.specs.Name.{name_of};
+ghost use Rattle.gp_report.specs.Reading.{Gives, both, entry_count, name_and_count, read_answers, read_body, read_properties, read_property, read_shared, read_too_large, read_window, read_window_body, read_window_number, read_windows, shared_in, told_by};
 
 use crate::fault::{ReportFault, ReportRule};
 use crate::reading::answers::read_entries;
@@ -201,10 +202,16 @@ fn name_and_count(words: Words) -> Option<(Name, Option<u64>)>
     let name = words.next()?;
     let count = words.next()?;
     if words.is_empty() {
-        Some((Name::of(name)?, entry_count(count)?))
+        both_told(name, count)
     } else {
         None
     }
+}
+
+fn both_told(name: &[u8], count: &[u8]) -> Option<(Name, Option<u64>)>
+    ensures { result ≡ both (name_of name.now) (entry_count count.now) }
+{
+    Some((Name::of(name)?, entry_count(count)?))
 }
 
 fn entry_count(word: &[u8]) -> Option<Option<u64>>

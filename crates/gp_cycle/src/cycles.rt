@@ -2,6 +2,7 @@ ghost use Rattle.std.specs.Prelude.{◌≡◌, ◌<◌, ◌∷◌, IfOk, length,
 ghost use Rattle.gp_cycle.specs.declared.order.Order.{Order};
 ghost use Rattle.gp_cycle.specs.Cycle.{cycle_at, cycle_of, shortest};
 ghost use Rattle.gp_cycle.specs.DeadEnds.{SparesCycles};
+ghost use Rattle.gp_cycle.specs.Levels.{first_levels};
 
 use crate::ends::{dead_ends, is_dead_end};
 use crate::levels::Levels;
@@ -67,11 +68,26 @@ fn shortest(alloc: Global, orders: &[Order], order: Order) -> Result<Option<Row<
     ensures { IfOk result (λ chain. chain ≡ shortest orders.now (length orders.now) 0 order order) }
 {
     let mut levels = Levels::new(alloc, orders, order)?;
+    let chain = shortest_by(alloc, orders, order, &mut levels);
+    drop(levels);
+    chain
+}
+
+/// The same by levels, of which there is none yet.
+fn shortest_by(
+    alloc: Global,
+    orders: &[Order],
+    order: Order,
+    levels: &mut Levels,
+) -> Result<Option<Row<Order>>, AllocError>
+    requires { levels.old ≡ first_levels orders.now order }
+    ensures { IfOk result (λ chain. chain ≡ shortest orders.now (length orders.now) 0 order order) }
+{
     for _count in 0..orders.len() {
         if let Some(chain) = levels.chain(alloc, order)? {
             return Ok(Some(chain));
         }
-        levels = levels.with_level(alloc)?;
+        levels.add_level(alloc)?;
         if levels.is_over() {
             return Ok(None);
         }

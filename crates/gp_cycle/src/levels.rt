@@ -1,4 +1,4 @@
-ghost use Rattle.std.specs.Prelude.{◌≡◌, ◌-◌, IfOk, filter, find, length, not, reverse, slice_get};
+ghost use Rattle.std.specs.Prelude.{◌≡◌, ◌-◌, IfOk, OnOk, filter, find, length, not, reverse, slice_get};
 ghost use Rattle.std.specs.List.{list_any};
 ghost use Rattle.gp_cycle.specs.Cycle.{leads};
 ghost use Rattle.gp_cycle.specs.Levels.{chain_through, first_levels, is_next, is_over, with_level};
@@ -27,19 +27,15 @@ impl Levels {
         })
     }
 
-    /// With one level more: those that are left and lead to one of the farthest.
-    pub(crate) fn with_level(self, alloc: Global) -> Result<Levels, AllocError>
-        ensures { IfOk result (λ levels. levels ≡ with_level self) }
+    /// Adds one level more: those that are left and lead to one of the farthest.
+    pub(crate) fn add_level(&mut self, alloc: Global) -> Result<(), AllocError>
+        ensures { OnOk result (self.new ≡ with_level self.old) }
     {
         let level = self.nearer(alloc)?;
         let rest = self.farther(alloc)?;
-        let Levels {
-            goal,
-            mut levels,
-            rest: _,
-        } = self;
-        levels.push(level)?;
-        Ok(Levels { goal, levels, rest })
+        self.levels.push(level)?;
+        self.rest = rest;
+        Ok(())
     }
 
     /// Whether the farthest level is empty.
@@ -66,27 +62,25 @@ impl Levels {
     fn nearer(&self, alloc: Global) -> Result<Row<Order>, AllocError>
         ensures { IfOk result (λ level. level ≡ filter (is_next self.now) self.now.rest) }
     {
-        let orders: Vec<Order> = self
-            .rest
-            .as_slice()
-            .iter()
-            .copied()
-            .filter(|order| self.is_next(*order))
-            .collect(alloc)?;
-        Ok(Row::from_vec(orders))
+        let mut level = Row::new(alloc);
+        for order in self.rest.as_slice() {
+            if self.is_next(*order) {
+                level.push(*order)?;
+            }
+        }
+        Ok(level)
     }
 
     fn farther(&self, alloc: Global) -> Result<Row<Order>, AllocError>
         ensures { IfOk result (λ rest. rest ≡ filter (λ order. not (is_next self.now order)) self.now.rest) }
     {
-        let orders: Vec<Order> = self
-            .rest
-            .as_slice()
-            .iter()
-            .copied()
-            .filter(|order| !self.is_next(*order))
-            .collect(alloc)?;
-        Ok(Row::from_vec(orders))
+        let mut rest = Row::new(alloc);
+        for order in self.rest.as_slice() {
+            if !self.is_next(*order) {
+                rest.push(*order)?;
+            }
+        }
+        Ok(rest)
     }
 
     /// Whether an order leads to one of the farthest level, or where there is no level to the goal.

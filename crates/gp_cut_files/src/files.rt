@@ -40,6 +40,8 @@ fn trace_file(alloc: Global, trace: &LocalTrace, part: Part) -> Result<MadeFile,
     ensures { IfOk result (λ file. file ≡ trace_file (cut_trace part.before part.count trace.now)) }
 {
     let cut = cut_trace(alloc, trace, part)?;
-    let text = print_trace(alloc, &cut)?;
-    Ok(MadeFile::new(FileName::Trace(cut.thread()), text))
+    let name = FileName::Trace(cut.thread());
+    let text = print_trace(alloc, &cut);
+    drop(cut);
+    Ok(MadeFile::new(name, text?))
 }

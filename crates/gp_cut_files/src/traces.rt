@@ -26,8 +26,10 @@ fn cut_segments(
     ensures { IfOk result (λ segments. segments ≡ cut_segments part.before part.count trace.now) }
 {
     let standing = standing_behind(alloc, trace, part.before as usize)?;
+    let stage = staged(alloc, &standing);
+    drop(standing);
     let mut segments = Row::new(alloc);
-    segments.push(staged(alloc, &standing)?)?;
+    segments.push(stage?)?;
     put_copies(alloc, &mut segments, segments_in(trace, part))?;
     Ok(segments)
 }

@@ -1,4 +1,4 @@
-ghost use Rattle.std.specs.Prelude.{◌≡◌, IfOk};
+ghost use Rattle.std.specs.Prelude.{◌≡◌, [], IfOk};
 ghost use Rattle.gp_story.specs.Lines.{line_of, lines_of};
 ghost use Rattle.gp_story.specs.Parts.{story_of};
 ghost use Rattle.gp_story.specs.Past.{Recalls};
@@ -25,7 +25,9 @@ pub fn tell(
     ensures { IfOk result (λ story. story ≡ story_of window.now schedule.now marked.now) }
 {
     let sharing = Sharing::of(alloc, window)?;
-    let lines = lines_of(alloc, &sharing, schedule, marked)?;
+    let lines = lines_of(alloc, &sharing, schedule, marked);
+    drop(sharing);
+    let lines = lines?;
     let parts = fold(alloc, lines.as_slice())?;
     Ok(Story { parts })
 }
@@ -39,9 +41,25 @@ fn lines_of(
     ensures { IfOk result (λ lines. lines ≡ lines_of sharing.now schedule.now marked.now) }
 {
     let mut past = Past::new(alloc);
+    let lines = lines_along(alloc, sharing, schedule, marked, &mut past);
+    drop(past);
+    lines
+}
+
+/// The same lines, where `past` keeps what is looked back at.
+fn lines_along(
+    alloc: Global,
+    sharing: &Sharing,
+    schedule: &[EventId],
+    marked: &[EventId],
+    past: &mut Past,
+) -> Result<Row<StoryLine>, AllocError>
+    requires { Recalls sharing.now [] past.old }
+    ensures { IfOk result (λ lines. lines ≡ lines_of sharing.now schedule.now marked.now) }
+{
     let mut lines = Row::new(alloc);
     for (place, id) in schedule.iter().enumerate() {
-        let line = line_of(sharing, &past, marked, &schedule[..place], *id);
+        let line = line_of(sharing, past, marked, &schedule[..place], *id);
         lines.push(line)?;
         past.add(sharing.window(), *id)?;
     }

@@ -2,7 +2,7 @@
 use Rattle.std.proofs.Common.{◌≡◌, ◌++◌, drop, take}
 use Rattle.gp_story.specs.Lines.{lines_from, lines_of}
 use Rattle.gp_story.specs.Past.{Recalls}
-use Rattle.gp_story.proofs.telling.lines_of.Given as goal
+use Rattle.gp_story.proofs.telling.lines_along.Given as goal
 
 abbrev pub invariant-loop-place : goal.invariant-loop-place
 invariant-loop-place l = record {

@@ -1,4 +1,4 @@
-ghost use Rattle.std.specs.Prelude.{◌≡◌, ◌<◌, ◌-◌, ◌^◌, Some, Ok, Err, IfOk, IfErr, OnOk, OnErr, OnSome, length, option_copied};
+ghost use Rattle.std.specs.Prelude.{◌≡◌, ◌<◌, ◌-◌, ◌^◌, Some, Ok, Err, IfOk, IfErr, OnOk, OnErr, OnSome, [], length, option_copied, replicate};
 ghost use Rattle.std.specs.Cmp.Lexicographic.{slice_cmp};
 ghost use Rattle.std.specs.Ordering.{nat_cmp};
 ghost use Rattle.gp_base.specs.Table.{with_entries};
@@ -38,16 +38,36 @@ impl State {
         ensures { IfOk result (λ state. state ≡ start_state window.now) }
     {
         states_begin_as_windows();
-        let counts = vec![in alloc; 0u32; window.segments().len()]?;
-        let mut state = State {
-            counts: Row::from_vec(counts),
-            values: window.start_values().copy(alloc)?,
+        let mut state = State::before_locks(alloc, window)?;
+        match state.take_all(window.held()) {
+            Ok(()) => Ok(state),
+            Err(error) => {
+                drop(state);
+                Err(error)
+            }
+        }
+    }
+
+    /// The state in which a window begins, but that no lock is held.
+    fn before_locks(alloc: Global, window: &Window) -> Result<State, AllocError>
+        ensures { IfOk result (λ state. state ≡ record {
+          counts = replicate (length window.now.segments) 0;
+          values = window.now.start_values;
+          holders = [];
+          readers = [];
+          started = window.now.started;
+        }) }
+    {
+        let counts = no_counts(alloc, window)?;
+        let started = Vec::from_slice(alloc, window.started())?;
+        let values = window.start_values().copy(alloc)?;
+        Ok(State {
+            counts,
+            values,
             holders: Table::new(alloc),
             readers: Readers::new(alloc),
-            started: Row::from_vec(Vec::from_slice(alloc, window.started())?),
-        };
-        state.take_all(window.held())?;
-        Ok(state)
+            started: Row::from_vec(started),
+        })
     }
 
     /// Each of these threads takes its lock in its way.
@@ -228,6 +248,14 @@ impl State {
             self.counts.set(place, count);
         }
     }
+}
+
+/// No thread has done any of its events.
+fn no_counts(alloc: Global, window: &Window) -> Result<Row<u32>, AllocError>
+    ensures { IfOk result (λ counts. counts ≡ replicate (length window.now.segments) 0) }
+{
+    let counts = vec![in alloc; 0u32; window.segments().len()]?;
+    Ok(Row::from_vec(counts))
 }
 
 /// The event that an id names, where there is one. A segment is short enough that the events up to

@@ -137,10 +137,17 @@ fn is_shown(
 {
     property.keeps_rules();
     atoms_kept();
+    let feasible = is_feasible(alloc, window, schedule)?;
+    Ok(feasible && matches(property, instance, schedule))
+}
+
+fn is_feasible(alloc: Global, window: &Window, schedule: &Schedule) -> Result<bool, AllocError>
+    ensures { IfOk result (λ feasible. feasible ≡ is_feasible window.now schedule.now.events) }
+{
     match replay(alloc, window, schedule) {
         Ok(end) => {
             drop(end);
-            Ok(matches(property, instance, schedule))
+            Ok(true)
         }
         Err(
             ReplayFault::Stuck {

@@ -23,7 +23,9 @@ pub(crate) fn ask(alloc: Global, problem: &Problem, budget: u64) -> Result<Asked
     ensures { IfOk result (IsAsked problem.now budget) }
 {
     let queries = one_query(alloc)?;
-    let work = work_one(alloc, problem, queries.as_slice(), budget, &FreeGate)?;
+    let work = work_one(alloc, problem, queries.as_slice(), budget, &FreeGate);
+    drop(queries);
+    let work = work?;
     Ok(only(work))
 }
 
@@ -54,8 +56,9 @@ fn only(work: WindowWork) -> Asked
     let WindowWork {
         answers,
         records,
-        ..
+        passes,
     } = work;
+    drop(passes);
     Asked {
         answer: only_answer(answers),
         own: only_record(records),

@@ -6,8 +6,8 @@ use Rattle.gp_workers.specs.Work.{CanBeAsked, IsWork}
 use Rattle.gp_linked.proofs.Asked.{is_asked, one_answer}
 use Rattle.gp_linked.proofs.asking.ask.Goals as goal
 
-pub work_one-requires : goal.work_one-requires
-work_one-requires c = record {
+pub work_one-work-requires : goal.work_one-work-requires
+work_one-work-requires c = record {
   asked = subst (λ (queries : List Query). CanBeAsked c.args.problem.now queries c.args.budget) (sym (c.as_slice.ensures.value ∙ c.in_ok-queries.ensures)) c.requires;
 }
 

@@ -2,7 +2,7 @@
 use gp_outside::{
     DirFolder, Folder, FreeGate, Gate, MemoryFolder, MemorySink, PutFault, ReadFault, Sink, StdSink,
 };
-use std::alloc::Global;
+use std::alloc::{AllocError, Global};
 use std::cell::{Cell, RefCell};
 use std::fmt::Display;
 use std::io::{Error, ErrorKind};
@@ -86,10 +86,8 @@ fn memory_folder_answers_by_name_limit_and_script(rt: HostRuntime) {
     assert!(rt; scripted_reads_hold(&rt, rt.alloc()));
 }
 
-fn path_of(rt: &impl Abort, alloc: Global, name: &str) -> String {
-    let mut path = String::from_str(alloc, "outside_test/").expect(rt, "memory");
-    path.push_str(name).expect(rt, "memory");
-    path
+fn path_of(alloc: Global, name: &str) -> Result<String, AllocError> {
+    format!(in alloc; "outside_test/{name}")
 }
 
 fn dir_folder<R: Clone + Abort>(rt: &R) -> DirFolder<R> {
@@ -99,7 +97,7 @@ fn dir_folder<R: Clone + Abort>(rt: &R) -> DirFolder<R> {
 /// Whether a file of the system is read so.
 fn file_reads<R: Files + AllocGlobal + Abort + Clone>(rt: &R, row: &Read) -> bool {
     let (name, limit, answer, bytes) = *row;
-    let path = path_of(rt, rt.alloc(), name);
+    let path = path_of(rt.alloc(), name).expect(rt, "memory");
     let mut folder = dir_folder(rt);
     let row = (path.as_str(), limit, answer, bytes);
     let hold = reads(rt, rt.alloc(), &mut folder, &row);

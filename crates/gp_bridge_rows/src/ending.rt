@@ -10,9 +10,9 @@ use gp_replay::{ReplayFault, replay};
 use gp_report::{Answer, AnswerOf, Entry, PropertyBodyOf, WindowBodyOf, WindowRecord};
 use gp_text::Name;
 use gp_window::{EventId, Recording, Schedule, Window, contains_event, cut};
-use std::alloc::{AllocError, Global};
+use std::alloc::Global;
+use std::process::Abort;
 use std::sync::Wait;
-use std::test::Fail;
 use std::thread::Threads;
 
 // Enough for each ask of these rows.
@@ -42,26 +42,25 @@ struct Case<'a> {
     tickets: usize,
 }
 
-fn schedule_of(alloc: Global, ids: Ids) -> Result<Schedule, AllocError> {
+fn schedule_of(rt: &impl Abort, alloc: Global, ids: Ids) -> Schedule {
     let mut events = Row::new(alloc);
     for (thread, index) in ids {
-        events.push(EventId {
+        let id = EventId {
             thread: *thread,
             index: *index,
-        })?;
+        };
+        events.push(id).expect(rt, "memory");
     }
-    Ok(Schedule { events })
+    Schedule { events }
 }
 
-fn question_of(alloc: Global, kept: Ids) -> Result<Ends, Fail> {
-    let Some(name) = Name::of(b"ends") else {
-        return Err(Fail::new("the name is refused"));
-    };
+fn question_of(rt: &impl Abort, alloc: Global, kept: Ids) -> Ends {
+    let name = Name::of(b"ends").expect(rt, "a name");
     let question = Ends::named(name);
     if kept.is_empty() {
-        return Ok(question);
+        return question;
     }
-    Ok(question.with(schedule_of(alloc, kept)?))
+    question.with(schedule_of(rt, alloc, kept))
 }
 
 fn is_event(id: EventId, thread: u32, index: u32) -> bool {
@@ -80,70 +79,74 @@ fn are_events(ids: &[EventId], due: Ids) -> bool {
 
 // Whether the schedule replays to its end, and has the event.
 fn reaches(
+    rt: &impl Abort,
     alloc: Global,
     window: &Window,
     schedule: &Schedule,
     id: EventId,
-) -> Result<bool, AllocError> {
+) -> bool {
     match replay(alloc, window, schedule) {
-        Ok(_) => Ok(contains_event(schedule.events.as_slice(), id)),
-        Err(ReplayFault::Stuck { .. }) => Ok(false),
-        Err(ReplayFault::Memory) => Err(AllocError),
+        Ok(_) => contains_event(schedule.events.as_slice(), id),
+        Err(ReplayFault::Stuck { .. }) => false,
+        Err(ReplayFault::Memory) => panic!(rt; "memory"),
     }
 }
 
 fn is_found(
+    rt: &impl Abort,
     alloc: Global,
     window: &Window,
     schedule: &Schedule,
     id: EventId,
     due: Due,
-) -> Result<bool, AllocError> {
+) -> bool {
     match due {
-        Due::Reached => reaches(alloc, window, schedule, id),
-        Due::Given(kept) => Ok(are_events(schedule.events.as_slice(), kept)),
-        Due::Impossible => Ok(false),
+        Due::Reached => reaches(rt, alloc, window, schedule, id),
+        Due::Given(kept) => are_events(schedule.events.as_slice(), kept),
+        Due::Impossible => false,
     }
 }
 
 fn is_answer(
+    rt: &impl Abort,
     alloc: Global,
     window: &Window,
     answer: &Answer,
     id: EventId,
     due: Due,
-) -> Result<bool, AllocError> {
+) -> bool {
     match answer {
-        AnswerOf::Found(schedule) => is_found(alloc, window, schedule, id, due),
-        AnswerOf::Impossible(_) => Ok(matches!(due, Due::Impossible)),
-        AnswerOf::Undecided { .. } => Ok(false),
+        AnswerOf::Found(schedule) => is_found(rt, alloc, window, schedule, id, due),
+        AnswerOf::Impossible(_) => matches!(due, Due::Impossible),
+        AnswerOf::Undecided { .. } => false,
     }
 }
 
-fn is_entry(alloc: Global, window: &Window, entry: &Entry, end: End) -> Result<bool, AllocError> {
+fn is_entry(rt: &impl Abort, alloc: Global, window: &Window, entry: &Entry, end: End) -> bool {
     let (thread, index, due) = end;
     let id = EventId { thread, index };
     if !are_events(entry.events.as_slice(), &[(thread, index)]) {
-        return Ok(false);
+        return false;
     }
-    is_answer(alloc, window, &entry.answer, id, due)
+    is_answer(rt, alloc, window, &entry.answer, id, due)
 }
 
 fn are_entries(
+    rt: &impl Abort,
     alloc: Global,
     window: &Window,
     entries: &[Entry],
     ends: &[End],
-) -> Result<bool, AllocError> {
+) -> bool {
     if entries.len() != ends.len() {
-        return Ok(false);
+        return false;
     }
     for (entry, end) in entries.iter().zip(ends) {
-        if !is_entry(alloc, window, entry, *end)? {
-            return Ok(false);
+        if !is_entry(rt, alloc, window, entry, *end) {
+            return false;
         }
     }
-    Ok(true)
+    true
 }
 
 fn entries_of(record: &WindowRecord) -> Option<&[Entry]> {
@@ -159,47 +162,47 @@ fn entries_of(record: &WindowRecord) -> Option<&[Entry]> {
     }
 }
 
-fn window_of(
-    alloc: Global,
-    recording: &Recording,
-    number: u32,
-) -> Result<Option<Window>, AllocError> {
+fn window_of(rt: &impl Abort, alloc: Global, recording: &Recording, number: u32) -> Option<Window> {
     if number == 0 || number > recording.manifest().epochs() {
-        return Ok(None);
+        return None;
     }
-    Ok(Some(cut(alloc, recording, number)?))
+    Some(cut(alloc, recording, number).expect(rt, "memory"))
 }
 
 fn is_window(
+    rt: &impl Abort,
     alloc: Global,
     recording: &Recording,
     record: &WindowRecord,
     ends: &[End],
-) -> Result<bool, AllocError> {
+) -> bool {
     let Some(entries) = entries_of(record) else {
-        return Ok(false);
+        return false;
     };
-    let Some(window) = window_of(alloc, recording, record.number)? else {
-        return Ok(false);
+    let Some(window) = window_of(rt, alloc, recording, record.number) else {
+        return false;
     };
-    are_entries(alloc, &window, entries, ends)
+    let due = are_entries(rt, alloc, &window, entries, ends);
+    drop(window);
+    due
 }
 
 fn are_windows(
+    rt: &impl Abort,
     alloc: Global,
     recording: &Recording,
     records: &[WindowRecord],
     due: &[&[End]],
-) -> Result<bool, AllocError> {
+) -> bool {
     if records.len() != due.len() {
-        return Ok(false);
+        return false;
     }
     for (record, ends) in records.iter().zip(due) {
-        if !is_window(alloc, recording, record, ends)? {
-            return Ok(false);
+        if !is_window(rt, alloc, recording, record, ends) {
+            return false;
         }
     }
-    Ok(true)
+    true
 }
 
 // How many turns the workers of a window had, each with a ticket of its own.
@@ -219,42 +222,36 @@ fn turns_of(records: &[WindowRecord]) -> usize {
     turns
 }
 
-fn records_of<R: AllocGlobal + Threads + Wait + Sync>(
+fn records_of<R: AllocGlobal + Threads + Wait + Sync + Abort>(
     rt: &R,
     recording: &Recording,
     question: &Ends,
     workers: u32,
-) -> Result<Row<WindowRecord>, Fail>
+) -> Row<WindowRecord>
     requires { (1 ≤ workers) × (workers ≤ 16) }
 {
-    match too_much(rt, rt.alloc(), recording, question, BUDGET)? {
-        Some(_) => Err(Fail::new("there are too many asks")),
-        None => Ok(analyse(
-            rt,
-            rt.alloc(),
-            recording,
-            question,
-            workers,
-            BUDGET,
-            &FreeGate,
-        )?),
+    let alloc = rt.alloc();
+    match too_much(rt, alloc, recording, question, BUDGET).expect(rt, "memory") {
+        Some(_) => panic!(rt; "there are too many asks"),
+        None => {
+            analyse(rt, alloc, recording, question, workers, BUDGET, &FreeGate).expect(rt, "memory")
+        }
     }
 }
 
 // Whether so many workers answer what is due, in a turn for each ask that has a ticket.
-fn holds<R: AllocGlobal + Threads + Wait + Sync>(
-    rt: &R,
-    case: &Case,
-    workers: u32,
-) -> Result<bool, Fail>
+fn holds<R: AllocGlobal + Threads + Wait + Sync + Abort>(rt: &R, case: &Case, workers: u32) -> bool
     requires { (1 ≤ workers) × (workers ≤ 16) }
 {
-    let recording = recording_of(rt, case.files)?;
-    let question = question_of(rt.alloc(), case.kept)?;
-    let records = records_of(rt, &recording, &question, workers)?;
-    let records = records.as_slice();
-    let due = are_windows(rt.alloc(), &recording, records, case.due)?;
-    Ok(due && turns_of(records) == case.tickets)
+    let recording = recording_of(rt, case.files);
+    let question = question_of(rt, rt.alloc(), case.kept);
+    let records = records_of(rt, &recording, &question, workers);
+    let due = are_windows(rt, rt.alloc(), &recording, records.as_slice(), case.due);
+    let turns = turns_of(records.as_slice());
+    drop(records);
+    drop(question);
+    drop(recording);
+    due && turns == case.tickets
 }
 
 const TWO: (&str, &str) = ("manifest", "gptrace 1\nthreads 2\nepochs 1\nroots 1 2\n");
@@ -375,31 +372,33 @@ const CASES: [Case; 8] = [
     },
 ];
 
-#[test]
-fn one_worker_answers_each_end(rt: HostRuntime) -> Result<(), Fail> {
-    for case in CASES {
-        assert!(rt; holds(&rt, &case, 1)?, "{}", case.name);
+// That so many workers answer each case.
+fn all_hold<R: AllocGlobal + Threads + Wait + Sync + Abort>(rt: &R, cases: &[Case], workers: u32)
+    requires { (1 ≤ workers) × (workers ≤ 16) }
+{
+    for case in cases {
+        assert!(rt; holds(rt, case, workers), "{}", case.name);
     }
-    Ok(())
 }
 
 #[test]
-fn two_workers_answer_each_end(rt: HostRuntime) -> Result<(), Fail> {
-    for case in CASES {
-        assert!(rt; holds(&rt, &case, 2)?, "{}", case.name);
-    }
-    Ok(())
+fn one_worker_answers_each_end(rt: HostRuntime) {
+    all_hold(&rt, &CASES, 1);
+}
+
+#[test]
+fn two_workers_answer_each_end(rt: HostRuntime) {
+    all_hold(&rt, &CASES, 2);
 }
 
 // How many of the three ends are asked with this schedule, where that is too much for the budget.
-fn asked<R: AllocGlobal + Threads + Sync>(
-    rt: &R,
-    kept: Ids,
-    budget: u64,
-) -> Result<Option<u64>, Fail> {
-    let recording = recording_of(rt, &THREE_ENDS)?;
-    let question = question_of(rt.alloc(), kept)?;
-    Ok(too_much(rt, rt.alloc(), &recording, &question, budget)?)
+fn asked<R: AllocGlobal + Threads + Sync + Abort>(rt: &R, kept: Ids, budget: u64) -> Option<u64> {
+    let recording = recording_of(rt, &THREE_ENDS);
+    let question = question_of(rt, rt.alloc(), kept);
+    let asked = too_much(rt, rt.alloc(), &recording, &question, budget).expect(rt, "memory");
+    drop(question);
+    drop(recording);
+    asked
 }
 
 // With nothing kept three ends are asked: 1,200,000 is over 1,000,000. A schedule that ends the first thread leaves two, or
@@ -415,9 +414,8 @@ const LIMITS: [(Ids, u64, Option<u64>); 6] = [
 ];
 
 #[test]
-fn what_is_given_has_no_ticket(rt: HostRuntime) -> Result<(), Fail> {
+fn what_is_given_has_no_ticket(rt: HostRuntime) {
     for (kept, budget, due) in LIMITS {
-        assert!(rt; asked(&rt, kept, budget)? == due, "{budget}");
+        assert!(rt; asked(&rt, kept, budget) == due, "{budget}");
     }
-    Ok(())
 }

@@ -5,10 +5,10 @@
 use crate::happens::Happens;
 use crate::recorded::recording_of;
 use gp_clause::{Clause, Kind, Lit};
-use gp_constraint::{BaseFault, ExtendedProblem, Symbol, base, extended};
+use gp_constraint::{ExtendedProblem, Symbol, base, extended};
 use gp_window::{EventId, Window, cut};
 use std::alloc::Global;
-use std::test::Fail;
+use std::process::Abort;
 use std::thread::Threads;
 
 const FILES: [(&str, &str); 3] = [
@@ -93,21 +93,25 @@ fn is_numbered(extended: &ExtendedProblem, own: [Option<u32>; 2]) -> bool {
         && extended.variable(Symbol::Executed(1)) == Some(1)
 }
 
-fn window_of<R: AllocGlobal + Threads + Sync>(rt: &R) -> Result<Window, Fail> {
-    let recording = recording_of(rt, &FILES)?;
-    Ok(cut(rt.alloc(), &recording, 1)?)
+fn window_of<R: AllocGlobal + Threads + Sync + Abort>(rt: &R) -> Window {
+    let recording = recording_of(rt, &FILES);
+    let window = cut(rt.alloc(), &recording, 1).expect(rt, "memory");
+    drop(recording);
+    window
 }
 
 // The problem of a window with the family.
-fn extend(alloc: Global, window: Window, family: &Happens) -> Result<ExtendedProblem, BaseFault> {
-    let encoded = base(alloc, window)?;
-    extended(alloc, encoded, family)
+fn extend(rt: &impl Abort, alloc: Global, window: Window, family: &Happens) -> ExtendedProblem {
+    let encoded = base(alloc, window).expect(rt, "a base");
+    extended(alloc, encoded, family).expect(rt, "a problem")
 }
 
-fn holds(alloc: Global, window: Window, row: &Row) -> Result<bool, Fail> {
+fn holds(rt: &impl Abort, alloc: Global, window: Window, row: &Row) -> bool {
     let family = Happens { event: row.event };
-    let extended = extend(alloc, window, &family)?;
-    Ok(is_due(&extended, row) && is_numbered(&extended, row.own))
+    let extended = extend(rt, alloc, window, &family);
+    let due = is_due(&extended, row) && is_numbered(&extended, row.own);
+    drop(extended);
+    due
 }
 
 const ROWS: [Row; 3] = [
@@ -142,10 +146,13 @@ const ROWS: [Row; 3] = [
 ];
 
 #[test]
-fn families_are_numbered_behind_the_base(rt: HostRuntime) -> Result<(), Fail> {
+fn families_are_numbered_behind_the_base(rt: HostRuntime) {
     for row in ROWS {
-        let window = window_of(&rt)?;
-        assert!(rt; holds(rt.alloc(), window, &row)?, "{}", row.event.thread);
+        let window = window_of(&rt);
+        assert!(rt;
+            holds(&rt, rt.alloc(), window, &row),
+            "{}",
+            row.event.thread
+        );
     }
-    Ok(())
 }

@@ -2,9 +2,9 @@
 // means the same is accepted, and what lacks a line is not.
 use crate::large::{is_accepted, large_folder, large_report, verdict_on};
 use gp_outside::{FreeGate, MemoryFolder};
-use std::alloc::{AllocError, Global};
+use std::alloc::Global;
+use std::process::Abort;
 use std::sync::Wait;
-use std::test::Fail;
 use std::thread::Threads;
 
 /// The next of a row of numbers that begins with a seed.
@@ -21,28 +21,28 @@ fn below(state: u64, count: usize) -> usize {
 }
 
 /// The bytes, the words or the lines of a text, each with what parts it from the next.
-fn pieces(alloc: Global, text: &[u8], kind: usize) -> Result<Vec<&[u8]>, AllocError> {
+fn pieces<'a>(rt: &impl Abort, alloc: Global, text: &'a [u8], kind: usize) -> Vec<&'a [u8]> {
     match kind {
-        0 => bytes_of(alloc, text),
-        1 => parts_of(alloc, text, b' '),
-        _ => parts_of(alloc, text, b'\n'),
+        0 => bytes_of(rt, alloc, text),
+        1 => parts_of(rt, alloc, text, b' '),
+        _ => parts_of(rt, alloc, text, b'\n'),
     }
 }
 
-fn bytes_of(alloc: Global, text: &[u8]) -> Result<Vec<&[u8]>, AllocError> {
+fn bytes_of<'a>(rt: &impl Abort, alloc: Global, text: &'a [u8]) -> Vec<&'a [u8]> {
     let mut pieces = Vec::new(alloc);
     for byte in text.chunks(1) {
-        pieces.push(byte)?;
+        pieces.push(byte).expect(rt, "memory");
     }
-    Ok(pieces)
+    pieces
 }
 
-fn parts_of(alloc: Global, text: &[u8], end: u8) -> Result<Vec<&[u8]>, AllocError> {
+fn parts_of<'a>(rt: &impl Abort, alloc: Global, text: &'a [u8], end: u8) -> Vec<&'a [u8]> {
     let mut pieces = Vec::new(alloc);
     for part in text.split_inclusive(|byte| *byte == end || *byte == b'\n') {
-        pieces.push(part)?;
+        pieces.push(part).expect(rt, "memory");
     }
-    Ok(pieces)
+    pieces
 }
 
 /// What becomes of the pieces at two places.
@@ -62,50 +62,41 @@ fn change_of(number: usize) -> Change {
 }
 
 /// Swaps the pieces at two places, puts the one at the second place before the other once more, or drops the first.
-fn apply(
-    pieces: &mut Vec<&[u8]>,
-    first: usize,
-    second: usize,
-    change: Change,
-) -> Result<(), AllocError> {
+fn apply(rt: &impl Abort, pieces: &mut Vec<&[u8]>, first: usize, second: usize, change: Change) {
     let Some(piece) = pieces.get(second).copied() else {
-        return Ok(());
+        return;
     };
     if first >= pieces.len() {
-        return Ok(());
+        return;
     }
     match change {
         Change::Swapped => pieces.as_mut_slice().swap(first, second),
-        Change::Doubled => pieces.insert(first, piece)?,
+        Change::Doubled => pieces.insert(first, piece).expect(rt, "memory"),
         Change::Dropped => {
             let _ = pieces.remove(first);
         }
     }
-    Ok(())
 }
 
 /// A text in which chance has swapped, doubled or dropped a byte, a word or a line.
-fn spoilt(alloc: Global, report: &[u8], state: u64) -> Result<Vec<u8>, AllocError> {
+fn spoilt(rt: &impl Abort, alloc: Global, report: &[u8], state: u64) -> Vec<u8> {
     let kind = next(state);
     let first = next(kind);
     let second = next(first);
-    let mut pieces = pieces(alloc, report, below(state, 3))?;
+    let mut pieces = pieces(rt, alloc, report, below(state, 3));
     let count = pieces.len();
-    apply(
-        &mut pieces,
-        below(first, count),
-        below(second, count),
-        change_of(below(kind, 3)),
-    )?;
-    joined(alloc, pieces.as_slice())
+    let change = change_of(below(kind, 3));
+    let (first, second) = (below(first, count), below(second, count));
+    apply(rt, &mut pieces, first, second, change);
+    joined(rt, alloc, pieces.as_slice())
 }
 
-fn joined(alloc: Global, pieces: &[&[u8]]) -> Result<Vec<u8>, AllocError> {
+fn joined(rt: &impl Abort, alloc: Global, pieces: &[&[u8]]) -> Vec<u8> {
     let mut text = Vec::new(alloc);
     for piece in pieces {
-        text.extend_from_slice(piece)?;
+        text.extend_from_slice(piece).expect(rt, "memory");
     }
-    Ok(text)
+    text
 }
 
 /// Whether this is one line, and the one that this status of task check has.
@@ -119,97 +110,116 @@ fn is_verdict(status: u8, text: &[u8]) -> bool {
     begins && text.iter().position(|byte| *byte == b'\n') == text.len().checked_sub(1)
 }
 
-/// Whether task check has a verdict on reports that chance has spoilt.
-fn have_verdicts<R: AllocGlobal + Threads + Wait + Sync>(
+/// Whether task check has a verdict on a report that chance has spoilt.
+fn has_verdict<R: AllocGlobal + Threads + Wait + Sync + Abort>(
     rt: &R,
     folder: &mut MemoryFolder,
     report: &[u8],
-) -> Result<bool, Fail> {
+    state: u64,
+) -> bool {
+    let text = spoilt(rt, rt.alloc(), report, state);
+    let (status, told) = verdict_on(rt, folder, text.as_slice());
+    is_verdict(status, told.as_slice())
+}
+
+/// Whether it has one on each of fifty.
+fn have_verdicts<R: AllocGlobal + Threads + Wait + Sync + Abort>(
+    rt: &R,
+    folder: &mut MemoryFolder,
+    report: &[u8],
+) -> bool {
     let mut hold = true;
     let mut state = 20_261_128u64;
     for _ in 0..50 {
         state = next(next(next(next(state))));
-        let text = spoilt(rt.alloc(), report, state)?;
-        let (status, told) = verdict_on(rt, folder, text.as_slice())?;
-        hold &= is_verdict(status, told.as_slice());
+        hold &= has_verdict(rt, folder, report, state);
     }
-    Ok(hold)
+    hold
 }
 
 /// Whether a report has a verdict wherever chance has spoilt it, and is accepted before and after.
-fn spoilt_reports_have_verdicts<R: AllocGlobal + Threads + Wait + Sync>(
-    rt: &R,
-) -> Result<bool, Fail> {
-    let mut folder = large_folder(rt)?;
-    let report = large_report(rt, &mut folder, "--workers=1", &FreeGate)?;
-    let report = report.as_slice();
-    Ok(
-        is_accepted(rt, &mut folder, report)?
-            && have_verdicts(rt, &mut folder, report)?
-            && is_accepted(rt, &mut folder, report)?,
-    )
+fn spoilt_reports_have_verdicts<R: AllocGlobal + Threads + Wait + Sync + Abort>(rt: &R) -> bool {
+    let mut folder = large_folder(rt);
+    let report = large_report(rt, &mut folder, "--workers=1", &FreeGate);
+    let holds = is_accepted(rt, &mut folder, report.as_slice())
+        && have_verdicts(rt, &mut folder, report.as_slice())
+        && is_accepted(rt, &mut folder, report.as_slice());
+    drop(folder);
+    holds
 }
 
 #[test]
-fn a_spoilt_report_has_a_verdict(rt: HostRuntime) -> Result<(), Fail> {
-    assert!(rt; spoilt_reports_have_verdicts(&rt)?);
-    Ok(())
+fn a_spoilt_report_has_a_verdict(rt: HostRuntime) {
+    assert!(rt; spoilt_reports_have_verdicts(&rt));
 }
 
 /// A text with a space more wherever there is one, and a comment behind each line.
-fn spread(alloc: Global, text: &[u8]) -> Result<Vec<u8>, AllocError> {
+fn spread(rt: &impl Abort, alloc: Global, text: &[u8]) -> Vec<u8> {
     let mut told = Vec::new(alloc);
     for byte in text {
-        match *byte {
-            b' ' => told.extend_from_slice(b"  ")?,
-            b'\n' => told.extend_from_slice(b" \n# no more\n")?,
-            byte => told.push(byte)?,
-        }
+        put_spread(rt, &mut told, *byte);
     }
-    Ok(told)
+    told
+}
+
+fn put_spread(rt: &impl Abort, told: &mut Vec<u8>, byte: u8) {
+    match byte {
+        b' ' => told.extend_from_slice(b"  ").expect(rt, "memory"),
+        b'\n' => told
+            .extend_from_slice(b" \n# no more\n")
+            .expect(rt, "memory"),
+        byte => told.push(byte).expect(rt, "memory"),
+    }
 }
 
 /// A text without the line behind the first ones, so many of them.
-fn without_line(alloc: Global, text: &[u8], place: usize) -> Result<Vec<u8>, AllocError> {
+fn without_line(rt: &impl Abort, alloc: Global, text: &[u8], place: usize) -> Vec<u8> {
     let mut told = Vec::new(alloc);
     let lines = text.split_inclusive(|byte| *byte == b'\n');
     for (number, line) in lines.enumerate() {
         if number != place {
-            told.extend_from_slice(line)?;
+            told.extend_from_slice(line).expect(rt, "memory");
         }
     }
-    Ok(told)
+    told
 }
 
-/// Whether a report is rejected or refused without one of its lines, at each of these places.
-fn lines_are_missed<R: AllocGlobal + Threads + Wait + Sync>(
+/// Whether a report is rejected or refused without the line at a place.
+fn line_is_missed<R: AllocGlobal + Threads + Wait + Sync + Abort>(
     rt: &R,
     folder: &mut MemoryFolder,
     report: &[u8],
-) -> Result<bool, Fail> {
-    let mut missed = true;
-    for place in 0..40usize {
-        let text = without_line(rt.alloc(), report, place)?;
-        let (status, told) = verdict_on(rt, folder, text.as_slice())?;
-        missed &= status != 0 && is_verdict(status, told.as_slice());
-    }
-    Ok(missed)
+    place: usize,
+) -> bool {
+    let text = without_line(rt, rt.alloc(), report, place);
+    let (status, told) = verdict_on(rt, folder, text.as_slice());
+    status != 0 && is_verdict(status, told.as_slice())
 }
 
-fn changes_are_told_apart<R: AllocGlobal + Threads + Wait + Sync>(rt: &R) -> Result<bool, Fail> {
-    let mut folder = large_folder(rt)?;
-    let report = large_report(rt, &mut folder, "--workers=1", &FreeGate)?;
-    let wide = spread(rt.alloc(), report.as_slice())?;
-    Ok(
-        is_accepted(rt, &mut folder, wide.as_slice())?
-            && lines_are_missed(rt, &mut folder, report.as_slice())?,
-    )
+/// Whether it is at each of these places.
+fn lines_are_missed<R: AllocGlobal + Threads + Wait + Sync + Abort>(
+    rt: &R,
+    folder: &mut MemoryFolder,
+    report: &[u8],
+) -> bool {
+    let mut missed = true;
+    for place in 0..40usize {
+        missed &= line_is_missed(rt, folder, report, place);
+    }
+    missed
+}
+
+fn changes_are_told_apart<R: AllocGlobal + Threads + Wait + Sync + Abort>(rt: &R) -> bool {
+    let mut folder = large_folder(rt);
+    let report = large_report(rt, &mut folder, "--workers=1", &FreeGate);
+    let wide = spread(rt, rt.alloc(), report.as_slice());
+    let apart = is_accepted(rt, &mut folder, wide.as_slice())
+        && lines_are_missed(rt, &mut folder, report.as_slice());
+    drop(folder);
+    apart
 }
 
 #[test]
-fn what_means_the_same_is_accepted_and_what_lacks_a_line_is_not(
-    rt: HostRuntime,
-) -> Result<(), Fail> {
-    assert!(rt; changes_are_told_apart(&rt)?);
-    Ok(())
+fn what_means_the_same_is_accepted_and_what_lacks_a_line_is_not(rt: HostRuntime) {
+    assert!(rt; changes_are_told_apart(&rt));
 }

@@ -1,10 +1,9 @@
 // Several runs on one recording of 600 events of four threads, which are compared with each other.
-use crate::fixture::words_of;
-use gp_outside::{Folder, FreeGate, Gate, HoldGate, MemoryFolder, MemorySink};
-use gp_predict::run;
-use std::alloc::{AllocError, Global};
+use crate::fixture::{folder_of, written};
+use gp_outside::{Folder, FreeGate, Gate, HoldGate, MemoryFolder};
+use std::alloc::Global;
+use std::process::Abort;
 use std::sync::Wait;
-use std::test::Fail;
 use std::thread::Threads;
 
 const MAKE: [&str; 5] = [
@@ -15,132 +14,133 @@ const MAKE: [&str; 5] = [
     "d",
 ];
 
-/// What a run with these words on a folder ends with, and what it writes.
-pub fn written<R: AllocGlobal + Threads + Wait + Sync, G: Gate + Sync>(
+/// What a run with these words writes.
+fn text_of<R: AllocGlobal + Threads + Wait + Sync + Abort, G: Gate + Sync>(
     rt: &R,
     words: &[&str],
     folder: &mut MemoryFolder,
     gate: &G,
-) -> Result<(u8, Vec<u8>), AllocError> {
-    let alloc = rt.alloc();
-    let words = words_of(alloc, words)?;
-    let mut sink = MemorySink::new(alloc, Vec::new(alloc));
-    let outcome = run(rt, words.as_slice(), folder, &mut sink, gate);
-    Ok((outcome.status, Vec::from_slice(alloc, sink.bytes())?))
+) -> Vec<u8> {
+    let (_status, text) = written(rt, words, folder, gate);
+    text
 }
 
-/// What a run with these words writes.
-fn text_of<R: AllocGlobal + Threads + Wait + Sync, G: Gate + Sync>(
+/// A folder with what a run with these words makes.
+pub fn made_folder<R: AllocGlobal + Threads + Wait + Sync + Abort>(
     rt: &R,
     words: &[&str],
-    folder: &mut MemoryFolder,
-    gate: &G,
-) -> Result<Vec<u8>, AllocError> {
-    let (_status, text) = written(rt, words, folder, gate)?;
-    Ok(text)
+) -> MemoryFolder {
+    let mut folder = folder_of(rt, rt.alloc(), &[]);
+    let _told = text_of(rt, words, &mut folder, &FreeGate);
+    folder
 }
 
 /// A folder with the recording.
-pub fn large_folder<R: AllocGlobal + Threads + Wait + Sync>(
-    rt: &R,
-) -> Result<MemoryFolder, AllocError> {
-    let mut folder = MemoryFolder::new(Vec::new(rt.alloc()), Vec::new(rt.alloc()));
-    let _told = text_of(rt, &MAKE, &mut folder, &FreeGate)?;
-    Ok(folder)
+pub fn large_folder<R: AllocGlobal + Threads + Wait + Sync + Abort>(rt: &R) -> MemoryFolder {
+    made_folder(rt, &MAKE)
 }
 
 /// What analysing the recording prints, with so many workers.
-pub fn large_report<R: AllocGlobal + Threads + Wait + Sync, G: Gate + Sync>(
+pub fn large_report<R: AllocGlobal + Threads + Wait + Sync + Abort, G: Gate + Sync>(
     rt: &R,
     folder: &mut MemoryFolder,
     workers: &str,
     gate: &G,
-) -> Result<Vec<u8>, AllocError> {
+) -> Vec<u8> {
     text_of(rt, &["--task=analyse", workers, "d"], folder, gate)
 }
 
 /// What task check says of a report on the folder.
-pub fn verdict_on<R: AllocGlobal + Threads + Wait + Sync>(
+pub fn verdict_on<R: AllocGlobal + Threads + Wait + Sync + Abort>(
     rt: &R,
     folder: &mut MemoryFolder,
     report: &[u8],
-) -> Result<(u8, Vec<u8>), Fail> {
-    folder.write("d/report", report)?;
-    Ok(written(rt, &["--task=check", "d"], folder, &FreeGate)?)
+) -> (u8, Vec<u8>) {
+    folder.write("d/report", report).expect(rt, "a report");
+    written(rt, &["--task=check", "d"], folder, &FreeGate)
 }
 
 /// Whether a report on the folder is accepted as one of 42 instances.
-pub fn is_accepted<R: AllocGlobal + Threads + Wait + Sync>(
+pub fn is_accepted<R: AllocGlobal + Threads + Wait + Sync + Abort>(
     rt: &R,
     folder: &mut MemoryFolder,
     report: &[u8],
-) -> Result<bool, Fail> {
-    let (status, text) = verdict_on(rt, folder, report)?;
-    Ok(status == 0 && text.as_slice() == b"accepted 42\n".as_slice())
+) -> bool {
+    let (status, text) = verdict_on(rt, folder, report);
+    status == 0 && text.as_slice() == b"accepted 42\n".as_slice()
 }
 
 /// Whether one worker prints one report, however often it is asked.
-fn one_worker_repeats_itself<R: AllocGlobal + Threads + Wait + Sync>(rt: &R) -> Result<bool, Fail> {
-    let mut folder = large_folder(rt)?;
-    let first = large_report(rt, &mut folder, "--workers=1", &FreeGate)?;
-    let second = large_report(rt, &mut folder, "--workers=1", &FreeGate)?;
-    Ok(first == second && is_accepted(rt, &mut folder, first.as_slice())?)
+fn one_worker_repeats_itself<R: AllocGlobal + Threads + Wait + Sync + Abort>(rt: &R) -> bool {
+    let mut folder = large_folder(rt);
+    let first = large_report(rt, &mut folder, "--workers=1", &FreeGate);
+    let second = large_report(rt, &mut folder, "--workers=1", &FreeGate);
+    let repeats = first == second && is_accepted(rt, &mut folder, first.as_slice());
+    drop(folder);
+    repeats
 }
 
 #[test]
-fn one_worker_answers_alike_each_time(rt: HostRuntime) -> Result<(), Fail> {
-    assert!(rt; one_worker_repeats_itself(&rt)?);
-    Ok(())
+fn one_worker_answers_alike_each_time(rt: HostRuntime) {
+    assert!(rt; one_worker_repeats_itself(&rt));
+}
+
+/// What task compact makes of a report on the folder.
+fn compact_of<R: AllocGlobal + Threads + Wait + Sync + Abort>(
+    rt: &R,
+    folder: &mut MemoryFolder,
+    report: &[u8],
+) -> Vec<u8> {
+    folder.write("d/report", report).expect(rt, "a report");
+    text_of(rt, &["--task=compact", "d"], folder, &FreeGate)
 }
 
 /// Whether a compact report is accepted, and stays as it is where it is made compact.
-fn stays_compact<R: AllocGlobal + Threads + Wait + Sync>(rt: &R) -> Result<bool, Fail> {
-    let mut folder = large_folder(rt)?;
-    let report = large_report(rt, &mut folder, "--workers=1", &FreeGate)?;
-    folder.write("d/report", report.as_slice())?;
-    let first = text_of(rt, &["--task=compact", "d"], &mut folder, &FreeGate)?;
-    folder.write("d/report", first.as_slice())?;
-    let second = text_of(rt, &["--task=compact", "d"], &mut folder, &FreeGate)?;
-    Ok(first == second && is_accepted(rt, &mut folder, first.as_slice())?)
+fn stays_compact<R: AllocGlobal + Threads + Wait + Sync + Abort>(rt: &R) -> bool {
+    let mut folder = large_folder(rt);
+    let report = large_report(rt, &mut folder, "--workers=1", &FreeGate);
+    let first = compact_of(rt, &mut folder, report.as_slice());
+    let second = compact_of(rt, &mut folder, first.as_slice());
+    let stays = first == second && is_accepted(rt, &mut folder, first.as_slice());
+    drop(folder);
+    stays
 }
 
 #[test]
-fn a_compact_report_is_accepted_and_stays_so(rt: HostRuntime) -> Result<(), Fail> {
-    assert!(rt; stays_compact(&rt)?);
-    Ok(())
+fn a_compact_report_is_accepted_and_stays_so(rt: HostRuntime) {
+    assert!(rt; stays_compact(&rt));
+}
+
+/// What analysing the recording prints in format 2, with so many workers.
+fn report_in_format_2<R: AllocGlobal + Threads + Wait + Sync + Abort>(
+    rt: &R,
+    folder: &mut MemoryFolder,
+    workers: &str,
+) -> Vec<u8> {
+    let words = ["--task=analyse", workers, "--report=2", "d"];
+    text_of(rt, &words, folder, &FreeGate)
 }
 
 /// Whether an analysis in format 2 prints what task compact makes of one in format 1: of 3 windows by one worker, and of 10
 /// by two, who share out the windows, so that each has the answers of one worker.
-fn is_compact_from_the_start<R: AllocGlobal + Threads + Wait + Sync>(
+fn is_compact_from_the_start<R: AllocGlobal + Threads + Wait + Sync + Abort>(
     rt: &R,
     events: &str,
     workers: &str,
-) -> Result<bool, Fail> {
-    let mut folder = MemoryFolder::new(Vec::new(rt.alloc()), Vec::new(rt.alloc()));
-    let _told = text_of(
-        rt,
-        &["--task=make", "--seed=7", "--threads=4", events, "d"],
-        &mut folder,
-        &FreeGate,
-    )?;
-    let plain = large_report(rt, &mut folder, "--workers=1", &FreeGate)?;
-    folder.write("d/report", plain.as_slice())?;
-    let later = text_of(rt, &["--task=compact", "d"], &mut folder, &FreeGate)?;
-    let at_once = text_of(
-        rt,
-        &["--task=analyse", workers, "--report=2", "d"],
-        &mut folder,
-        &FreeGate,
-    )?;
-    Ok(plain != later && at_once == later)
+) -> bool {
+    let words = ["--task=make", "--seed=7", "--threads=4", events, "d"];
+    let mut folder = made_folder(rt, &words);
+    let plain = large_report(rt, &mut folder, "--workers=1", &FreeGate);
+    let later = compact_of(rt, &mut folder, plain.as_slice());
+    let at_once = report_in_format_2(rt, &mut folder, workers);
+    drop(folder);
+    plain != later && at_once == later
 }
 
 #[test]
-fn an_analysis_is_compact_from_the_start(rt: HostRuntime) -> Result<(), Fail> {
-    assert!(rt; is_compact_from_the_start(&rt, "--events=600", "--workers=1")?);
-    assert!(rt; is_compact_from_the_start(&rt, "--events=2000", "--workers=2")?);
-    Ok(())
+fn an_analysis_is_compact_from_the_start(rt: HostRuntime) {
+    assert!(rt; is_compact_from_the_start(&rt, "--events=600", "--workers=1"));
+    assert!(rt; is_compact_from_the_start(&rt, "--events=2000", "--workers=2"));
 }
 
 fn is_answer(line: &[u8]) -> bool {
@@ -150,14 +150,19 @@ fn is_answer(line: &[u8]) -> bool {
 }
 
 /// The first byte of each answer of a report: `f` of found, `i` of impossible, `u` of undecided.
-fn answers(alloc: Global, report: &[u8]) -> Result<Vec<u8>, AllocError> {
+fn answers(rt: &impl Abort, alloc: Global, report: &[u8]) -> Vec<u8> {
     let mut told = Vec::new(alloc);
     for line in report.split(|byte| *byte == b'\n') {
         if is_answer(line) {
-            told.extend_from_slice(line.get(..1).unwrap_or(b""))?;
+            put_first(rt, &mut told, line);
         }
     }
-    Ok(told)
+    told
+}
+
+fn put_first(rt: &impl Abort, told: &mut Vec<u8>, line: &[u8]) {
+    let first = line.get(..1).unwrap_or(b"");
+    told.extend_from_slice(first).expect(rt, "memory");
 }
 
 /// Whether two lists answer all instances, some of them both, and no answer in one is contradicted by the other.
@@ -178,47 +183,47 @@ fn some_meet(some: &[u8], others: &[u8]) -> bool {
 }
 
 /// The answers of a report by so many workers, where it is accepted; else none.
-fn accepted_answers<R: AllocGlobal + Threads + Wait + Sync>(
+fn accepted_answers<R: AllocGlobal + Threads + Wait + Sync + Abort>(
     rt: &R,
     folder: &mut MemoryFolder,
     workers: &str,
-) -> Result<Vec<u8>, Fail> {
-    let report = large_report(rt, folder, workers, &FreeGate)?;
-    if !is_accepted(rt, folder, report.as_slice())? {
-        return Ok(Vec::new(rt.alloc()));
+) -> Vec<u8> {
+    let report = large_report(rt, folder, workers, &FreeGate);
+    if !is_accepted(rt, folder, report.as_slice()) {
+        return Vec::new(rt.alloc());
     }
-    Ok(answers(rt.alloc(), report.as_slice())?)
+    answers(rt, rt.alloc(), report.as_slice())
 }
 
 /// Whether the reports by one, four and sixteen workers are accepted, and no two of them contradict each other.
-fn workers_agree<R: AllocGlobal + Threads + Wait + Sync>(rt: &R) -> Result<bool, Fail> {
-    let mut folder = large_folder(rt)?;
-    let one = accepted_answers(rt, &mut folder, "--workers=1")?;
-    let four = accepted_answers(rt, &mut folder, "--workers=4")?;
-    let sixteen = accepted_answers(rt, &mut folder, "--workers=16")?;
-    Ok(
-        agree(one.as_slice(), four.as_slice())
-            && agree(one.as_slice(), sixteen.as_slice())
-            && agree(four.as_slice(), sixteen.as_slice()),
-    )
+fn workers_agree<R: AllocGlobal + Threads + Wait + Sync + Abort>(rt: &R) -> bool {
+    let mut folder = large_folder(rt);
+    let one = accepted_answers(rt, &mut folder, "--workers=1");
+    let four = accepted_answers(rt, &mut folder, "--workers=4");
+    let sixteen = accepted_answers(rt, &mut folder, "--workers=16");
+    drop(folder);
+    agree(one.as_slice(), four.as_slice())
+        && agree(one.as_slice(), sixteen.as_slice())
+        && agree(four.as_slice(), sixteen.as_slice())
 }
 
 #[test]
-fn several_workers_never_contradict_one(rt: HostRuntime) -> Result<(), Fail> {
-    assert!(rt; workers_agree(&rt)?);
-    Ok(())
+fn several_workers_never_contradict_one(rt: HostRuntime) {
+    assert!(rt; workers_agree(&rt));
 }
 
 /// Whether the second worker passes the gate while the first is held at it.
-fn two_workers_meet<R: AllocGlobal + Threads + Wait + Sync>(rt: &R) -> Result<bool, Fail> {
-    let mut folder = large_folder(rt)?;
+fn two_workers_meet<R: AllocGlobal + Threads + Wait + Sync + Abort>(rt: &R) -> bool {
+    let mut folder = large_folder(rt);
     let gate = HoldGate::new(10_000_000);
-    let report = large_report(rt, &mut folder, "--workers=2", &gate)?;
-    Ok(gate.met() && is_accepted(rt, &mut folder, report.as_slice())?)
+    let report = large_report(rt, &mut folder, "--workers=2", &gate);
+    let meet = gate.met() && is_accepted(rt, &mut folder, report.as_slice());
+    drop(gate);
+    drop(folder);
+    meet
 }
 
 #[test]
-fn two_workers_answer_at_once(rt: HostRuntime) -> Result<(), Fail> {
-    assert!(rt; two_workers_meet(&rt)?);
-    Ok(())
+fn two_workers_answer_at_once(rt: HostRuntime) {
+    assert!(rt; two_workers_meet(&rt));
 }

@@ -2,9 +2,8 @@
 use crate::fixture::run_on;
 use gp_derivation::{Turn, WorkerRecord};
 use gp_report::{Answer, Report};
-use std::alloc::AllocError;
+use std::process::Abort;
 use std::sync::Wait;
-use std::test::Fail;
 use std::thread::Threads;
 
 /// Two writes that the read may have found, each only after the authorisation: one has to be ruled out by a learned clause.
@@ -68,14 +67,17 @@ fn is_spent(report: &Report, budget: u32) -> bool {
     told && only_record(report).is_some_and(|record| spent_all(record, budget))
 }
 
-fn ends_spent<R: AllocGlobal + Threads + Wait + Sync>(rt: &R) -> Result<bool, AllocError> {
+fn ends_spent<R: AllocGlobal + Threads + Wait + Sync + Abort>(rt: &R) -> bool {
     let words = ["--task=analyse", "--workers=1", "--budget=1", "d"];
-    let (outcome, _sink) = run_on(rt, &words, &TWO_WRITES)?;
-    Ok(outcome.report.is_some_and(|report| is_spent(&report, 1)))
+    let (outcome, sink) = run_on(rt, &words, &TWO_WRITES);
+    drop(sink);
+    let report = outcome.report.as_ref();
+    let spent = report.is_some_and(|report| is_spent(report, 1));
+    drop(outcome);
+    spent
 }
 
 #[test]
-fn a_spent_budget_is_told_with_its_log(rt: HostRuntime) -> Result<(), Fail> {
-    assert!(rt; ends_spent(&rt)?);
-    Ok(())
+fn a_spent_budget_is_told_with_its_log(rt: HostRuntime) {
+    assert!(rt; ends_spent(&rt));
 }

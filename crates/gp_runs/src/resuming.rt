@@ -3,9 +3,8 @@
 use crate::fixture::run_on;
 use gp_predict::Outcome;
 use gp_report::Report;
-use std::alloc::AllocError;
+use std::process::Abort;
 use std::sync::Wait;
-use std::test::Fail;
 use std::thread::Threads;
 
 const FIRST: &str = "start 2\nop auth r\nwrite ready 1\n";
@@ -70,26 +69,27 @@ fn took_turns(outcome: &Outcome, turns: usize) -> bool {
 }
 
 /// Whether task resume on these files ends with this status and text, in so many turns.
-fn resumes<R: AllocGlobal + Threads + Wait + Sync>(
+fn resumes<R: AllocGlobal + Threads + Wait + Sync + Abort>(
     rt: &R,
     files: &[(&str, &str)],
     status: u8,
     text: &str,
     turns: usize,
-) -> Result<bool, AllocError> {
-    let (outcome, sink) = run_on(rt, &["--task=resume", "d"], files)?;
+) -> bool {
+    let (outcome, sink) = run_on(rt, &["--task=resume", "d"], files);
     let told = outcome.status == status && sink.bytes() == text.as_bytes();
-    Ok(told && took_turns(&outcome, turns))
+    let took = took_turns(&outcome, turns);
+    drop(sink);
+    drop(outcome);
+    told && took
 }
 
 #[test]
-fn what_still_stands_is_asked_of_no_worker(rt: HostRuntime) -> Result<(), Fail> {
-    assert!(rt; resumes(&rt, &WAITS, 0, KEPT, 0)?);
-    Ok(())
+fn what_still_stands_is_asked_of_no_worker(rt: HostRuntime) {
+    assert!(rt; resumes(&rt, &WAITS, 0, KEPT, 0));
 }
 
 #[test]
-fn what_stands_no_more_is_answered_anew(rt: HostRuntime) -> Result<(), Fail> {
-    assert!(rt; resumes(&rt, &NEED_NOT_WAIT, 1, ANEW, 1)?);
-    Ok(())
+fn what_stands_no_more_is_answered_anew(rt: HostRuntime) {
+    assert!(rt; resumes(&rt, &NEED_NOT_WAIT, 1, ANEW, 1));
 }

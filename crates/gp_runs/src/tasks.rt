@@ -1,8 +1,7 @@
 // Each task once, and each again where memory may be wanting.
 use crate::fixture::run_on;
-use std::alloc::AllocError;
+use std::process::Abort;
 use std::sync::Wait;
-use std::test::Fail;
 use std::thread::Threads;
 
 /// What answering the one instance writes.
@@ -62,100 +61,100 @@ const RESUME: Job = (&["--task=resume", "d"], 1, COMPACT);
 
 const MAKE: Job = (&["--task=make", "--events=1", "d"], 0, "made 4 1 1\n");
 
-fn ends_so<R: AllocGlobal + Threads + Wait + Sync>(rt: &R, job: &Job) -> Result<bool, AllocError> {
+fn ends_so<R: AllocGlobal + Threads + Wait + Sync + Abort>(rt: &R, job: &Job) -> bool {
     let (words, status, text) = *job;
-    let (outcome, sink) = run_on(rt, words, &FILES)?;
-    Ok(outcome.status == status && sink.bytes() == text.as_bytes())
+    let (outcome, sink) = run_on(rt, words, &FILES);
+    let ends = outcome.status == status && sink.bytes() == text.as_bytes();
+    drop(sink);
+    drop(outcome);
+    ends
 }
 
 #[test]
-fn other_words_are_refused(rt: HostRuntime) -> Result<(), Fail> {
-    assert!(rt; ends_so(&rt, &REFUSED)?);
-    Ok(())
+fn other_words_are_refused(rt: HostRuntime) {
+    assert!(rt; ends_so(&rt, &REFUSED));
 }
 
 #[test]
-fn a_schedule_is_replayed(rt: HostRuntime) -> Result<(), Fail> {
-    assert!(rt; ends_so(&rt, &REPLAY)?);
-    Ok(())
+fn a_schedule_is_replayed(rt: HostRuntime) {
+    assert!(rt; ends_so(&rt, &REPLAY));
 }
 
 #[test]
-fn instances_are_listed(rt: HostRuntime) -> Result<(), Fail> {
-    assert!(rt; ends_so(&rt, &LIST)?);
-    Ok(())
+fn instances_are_listed(rt: HostRuntime) {
+    assert!(rt; ends_so(&rt, &LIST));
 }
 
 #[test]
-fn instances_are_answered(rt: HostRuntime) -> Result<(), Fail> {
-    assert!(rt; ends_so(&rt, &ANALYSE)?);
-    Ok(())
+fn instances_are_answered(rt: HostRuntime) {
+    assert!(rt; ends_so(&rt, &ANALYSE));
 }
 
 #[test]
-fn a_report_is_checked(rt: HostRuntime) -> Result<(), Fail> {
-    assert!(rt; ends_so(&rt, &CHECK)?);
-    Ok(())
+fn a_report_is_checked(rt: HostRuntime) {
+    assert!(rt; ends_so(&rt, &CHECK));
 }
 
 #[test]
-fn a_report_is_made_compact(rt: HostRuntime) -> Result<(), Fail> {
-    assert!(rt; ends_so(&rt, &MAKE_COMPACT)?);
-    Ok(())
+fn a_report_is_made_compact(rt: HostRuntime) {
+    assert!(rt; ends_so(&rt, &MAKE_COMPACT));
 }
 
 #[test]
-fn deadlocks_are_answered(rt: HostRuntime) -> Result<(), Fail> {
-    assert!(rt; ends_so(&rt, &STUCK)?);
-    Ok(())
+fn deadlocks_are_answered(rt: HostRuntime) {
+    assert!(rt; ends_so(&rt, &STUCK));
 }
 
 #[test]
-fn instances_are_answered_with_signals(rt: HostRuntime) -> Result<(), Fail> {
-    assert!(rt; ends_so(&rt, &NOTIFY)?);
-    Ok(())
+fn instances_are_answered_with_signals(rt: HostRuntime) {
+    assert!(rt; ends_so(&rt, &NOTIFY));
 }
 
 #[test]
-fn what_still_stands_is_kept(rt: HostRuntime) -> Result<(), Fail> {
-    assert!(rt; ends_so(&rt, &RESUME)?);
-    Ok(())
+fn what_still_stands_is_kept(rt: HostRuntime) {
+    assert!(rt; ends_so(&rt, &RESUME));
 }
 
 #[test]
-fn a_recording_is_made(rt: HostRuntime) -> Result<(), Fail> {
-    assert!(rt; ends_so(&rt, &MAKE)?);
-    Ok(())
+fn a_recording_is_made(rt: HostRuntime) {
+    assert!(rt; ends_so(&rt, &MAKE));
 }
 
-/// Whether a job writes its whole text, or where memory was wanting a prefix of it. Whoever runs the tests with a failing
+/// Whether a text is the one that is due, or where memory was wanting a prefix of it. Whoever runs the tests with a failing
 /// allocation meets the second.
-fn text_is_whole_or_begun<R: AllocGlobal + Threads + Wait + Sync>(
+fn is_whole_or_begun(status: u8, told: &[u8], due: u8, text: &[u8]) -> bool {
+    match status {
+        6 => text.starts_with(told),
+        status => status == due && told == text,
+    }
+}
+
+/// Whether what a job writes is.
+fn text_is_whole_or_begun<R: AllocGlobal + Threads + Wait + Sync + Abort>(
     rt: &R,
     job: &Job,
-) -> Result<bool, AllocError> {
+) -> bool {
     let (words, due, text) = *job;
-    let (outcome, sink) = run_on(rt, words, &FILES)?;
-    let text = text.as_bytes();
-    Ok(match outcome.status {
-        6 => text.starts_with(sink.bytes()),
-        status => status == due && sink.bytes() == text,
-    })
+    let (outcome, sink) = run_on(rt, words, &FILES);
+    let holds = is_whole_or_begun(outcome.status, sink.bytes(), due, text.as_bytes());
+    drop(sink);
+    drop(outcome);
+    holds
 }
 
-fn texts_are_whole_or_begun<R: AllocGlobal + Threads + Wait + Sync>(
+fn texts_are_whole_or_begun<R: AllocGlobal + Threads + Wait + Sync + Abort>(
     rt: &R,
     jobs: &[Job],
-) -> Result<bool, AllocError> {
+) -> bool {
     let mut hold = true;
     for job in jobs {
-        hold &= text_is_whole_or_begun(rt, job)?;
+        hold &= text_is_whole_or_begun(rt, job);
     }
-    Ok(hold)
+    hold
 }
 
 #[test]
-fn want_of_memory_leaves_a_prefix_of_the_text(rt: HostRuntime) -> Result<(), Fail> {
+fn want_of_memory_leaves_a_prefix_of_the_text(rt: HostRuntime) {
     const JOBS: [Job; 10] = [
         REFUSED,
         REPLAY,
@@ -168,6 +167,5 @@ fn want_of_memory_leaves_a_prefix_of_the_text(rt: HostRuntime) -> Result<(), Fai
         RESUME,
         MAKE,
     ];
-    assert!(rt; texts_are_whole_or_begun(&rt, &JOBS)?);
-    Ok(())
+    assert!(rt; texts_are_whole_or_begun(&rt, &JOBS));
 }

@@ -36,15 +36,7 @@ fn stop_of_recording(fault: RecordingFault) -> Stop
     match fault {
         RecordingFault::ReadFailed => Stop::FolderFailed,
         RecordingFault::Memory => Stop::Memory,
-        RecordingFault::Absent(_)
-        | RecordingFault::TooLong(_)
-        | RecordingFault::ManifestText(_)
-        | RecordingFault::ManifestLine(_)
-        | RecordingFault::Trace(..)
-        | RecordingFault::UnknownThread(_)
-        | RecordingFault::StartsRoot(_)
-        | RecordingFault::TwoStarts(_)
-        | RecordingFault::TwoHolders(..) => Stop::Refused(Refusal::Recording(fault)),
+        fault => Stop::Refused(Refusal::Recording(fault)),
     }
 }
 

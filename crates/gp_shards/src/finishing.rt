@@ -31,7 +31,11 @@ fn put_refusal<S: Sink>(alloc: Global, sink: &mut S, why: ShardRefusal) -> Outco
     ensures status { (result.status ≡ 3) ⊎ (result.status ≡ 5) ⊎ (result.status ≡ 6) }
 {
     match shard_reply(alloc, why) {
-        Ok(reply) => put_reply(sink, &reply),
+        Ok(reply) => {
+            let put = put_reply(sink, &reply);
+            drop(reply);
+            put
+        }
         Err(_) => Outcome::of(6),
     }
 }

@@ -57,8 +57,18 @@ fn whole_at<R: AllocGlobal + Threads + Sync, F: Folder>(
 {
     merged_is_accepted();
     let recording = recording_in(rt, folder, merge.folder)?;
-    let parts = parts_in(rt.alloc(), folder, &recording, merge.outs.as_slice())?;
-    Ok(whole_of(rt.alloc(), &recording, parts)?)
+    match parts_in(rt.alloc(), folder, &recording, merge.outs.as_slice()) {
+        Ok(parts) => {
+            let whole = whole_of(rt.alloc(), &recording, parts);
+            drop(recording);
+            let report = whole?;
+            Ok(report)
+        }
+        Err(stop) => {
+            drop(recording);
+            Err(stop)
+        }
+    }
 }
 
 /// All parts of a recording with their reports, in the order of the parts, out of these folders.
@@ -74,8 +84,12 @@ fn parts_in<F: Folder>(
 {
     parts_are_whole();
     let folders = folders_in(alloc, folder, recording, outs)?;
-    let ordered = all_in_order(alloc, folders.as_slice())?;
-    parts_from(alloc, folder, ordered.as_slice())
+    let ordered = all_in_order(alloc, folders.as_slice());
+    drop(folders);
+    let ordered = ordered?;
+    let parts = parts_from(alloc, folder, ordered.as_slice());
+    drop(ordered);
+    parts
 }
 
 /// The report of the whole, in the format and with the budget of the first part's.

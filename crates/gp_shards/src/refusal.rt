@@ -55,7 +55,11 @@ pub fn shard_reply(alloc: Global, why: ShardRefusal) -> Result<Reply, AllocError
 {
     match why {
         ShardRefusal::Usual(why) => reply_of(alloc, why),
-        ShardRefusal::InPart(folder, fault) => part_refusal(alloc, folder.as_str(), fault),
+        ShardRefusal::InPart(folder, fault) => {
+            let told = part_refusal(alloc, folder.as_str(), fault);
+            drop(folder);
+            told
+        }
         ShardRefusal::Missing(part) => missing(alloc, part),
     }
 }

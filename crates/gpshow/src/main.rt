@@ -24,7 +24,9 @@ fn main(rt: HostRuntime) -> ExitCode {
     let mut folder = DirFolder::new(rt);
     let mut sink = StdSink::new(rt);
     let outcome = show(&rt, words.as_slice(), &mut folder, &mut sink);
-    exit_code(&outcome)
+    let code = exit_code(&outcome);
+    drop((outcome, words));
+    code
 }
 
 /// What the process ends with: the status of the outcome.

@@ -16,8 +16,8 @@ returns-clause-parts g c =
     let ordered = c.in_ok-ordered.ordered in
     let some = some_parts r folders c.in_ok-folders.ensures.parts (omega (arith, c.in_ok-folders.ensures.count, c.requires)) in
     let came = subst (λ (read : List PartFolderForm). all_in_order read ≡ Ok ordered) c.as_slice.ensures c.in_ok-ordered.ensures.given in
-    IfOk-weaker c.parts_from.result (AreReportsOf c.as_slice-2.result.now) (AreAllParts r)
+    IfOk-weaker c.parts_from-parts.result (AreReportsOf c.as_slice-2.result.now) (AreAllParts r)
     (λ (parts : List PartReport) reports.
     all_parts c.parts_are_whole.ensures r folders ordered parts c.in_ok-folders.ensures.parts some came
     (subst (λ (read : List PartFolderForm). AreReportsOf read parts) c.as_slice-2.ensures reports))
-    c.parts_from.ensures.reports
+    c.parts_from-parts.ensures.reports

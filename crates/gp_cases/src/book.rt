@@ -1,6 +1,7 @@
 use crate::case::Case;
 use crate::ended::{Ended, give_back};
 use std::alloc::{AllocError, Global};
+use std::mem::replace;
 
 /// The cases of a file as they are read: what each case of the group begins with, the case, and how its last run ended.
 #[derive(Drop)]
@@ -21,23 +22,27 @@ impl Book {
         }
     }
 
+    /// Forgets how the last run ended.
+    fn forget(&mut self) {
+        drop(self.ended.take());
+    }
+
     /// Begins a group. What is said up to its first case is said of each.
     fn begin_group(&mut self, alloc: Global) {
-        self.case = Case::new(alloc);
+        drop(replace(&mut self.case, Case::new(alloc)));
         self.is_base = true;
-        self.ended = None;
+        self.forget();
     }
 
     /// Begins a case.
     pub fn begin_case(&mut self) -> Result<(), AllocError> {
-        self.ended = None;
+        self.forget();
         if self.is_base {
-            self.base = self.case.clone()?;
             self.is_base = false;
+            take_over(&mut self.base, &self.case)
         } else {
-            self.case = self.base.clone()?;
+            take_over(&mut self.case, &self.base)
         }
-        Ok(())
     }
 
     pub fn case(&self) -> &Case {
@@ -54,13 +59,17 @@ impl Book {
     }
 
     pub fn end(&mut self, ended: Ended) {
-        self.ended = Some(ended);
+        drop(replace(&mut self.ended, Some(ended)));
     }
 
     /// Goes on with the files that the last run left, and what it wrote as the file with this path, where one is named.
     pub fn go_on(&mut self, alloc: Global, report: &str) -> Result<(), AllocError> {
         match self.ended.take() {
-            Some(ended) => give_back(alloc, &mut self.case, &ended, report),
+            Some(ended) => {
+                let given = give_back(alloc, &mut self.case, &ended, report);
+                drop(ended);
+                given
+            }
             None => Ok(()),
         }
     }
@@ -73,4 +82,11 @@ impl Book {
         }
         Ok(true)
     }
+}
+
+/// Makes a case what another one is.
+fn take_over(case: &mut Case, other: &Case) -> Result<(), AllocError> {
+    let copy = other.clone()?;
+    drop(replace(case, copy));
+    Ok(())
 }

@@ -44,11 +44,13 @@ impl Case {
     /// The files as a folder takes them.
     pub fn files(&self, alloc: Global) -> Result<Vec<(String, Vec<u8>)>, AllocError> {
         let mut files = Vec::new(alloc);
-        for file in self.files.as_slice() {
-            let path = String::from_str(alloc, file.path())?;
-            files.push((path, file.bytes(alloc)?))?;
+        match add_all(alloc, &mut files, self.files.as_slice()) {
+            Ok(()) => Ok(files),
+            Err(error) => {
+                drop(files);
+                Err(error)
+            }
         }
-        Ok(files)
     }
 
     /// What the file with this path holds, nothing where there is none.
@@ -69,7 +71,13 @@ impl Case {
     /// Gives a file, in place of the one with this path.
     pub fn give(&mut self, alloc: Global, path: &str, bytes: &[u8]) -> Result<(), AllocError> {
         self.drop_file(path);
-        self.files.push(File::new(alloc, path, bytes)?)?;
+        let file = File::new(alloc, path, bytes)?;
+        self.begin(file)
+    }
+
+    /// Begins a file: what is put next goes there.
+    fn begin(&mut self, file: File) -> Result<(), AllocError> {
+        self.files.push(file)?;
         Ok(())
     }
 
@@ -111,7 +119,9 @@ impl Case {
 
     fn put_text(&mut self, alloc: Global, text: &str) -> Result<(), AllocError> {
         let bytes = unescaped(alloc, text)?;
-        self.put(bytes.as_slice())
+        let put = self.put(bytes.as_slice());
+        drop(bytes);
+        put
     }
 
     fn put_line(&mut self, alloc: Global, text: &str) -> Result<(), AllocError> {
@@ -164,9 +174,13 @@ impl Case {
             return Ok(());
         };
         let mut file = self.files.remove(place);
-        file.take_lines(alloc, first, taken)?;
-        self.files.push(file)?;
-        Ok(())
+        match file.take_lines(alloc, first, taken) {
+            Ok(()) => self.begin(file),
+            Err(error) => {
+                drop(file);
+                Err(error)
+            }
+        }
     }
 
     /// Takes the lines from a number to a number away.
@@ -214,6 +228,23 @@ impl Case {
         }
         Ok(true)
     }
+}
+
+fn add_all(
+    alloc: Global,
+    files: &mut Vec<(String, Vec<u8>)>,
+    given: &[File],
+) -> Result<(), AllocError> {
+    for file in given {
+        add(alloc, files, file)?;
+    }
+    Ok(())
+}
+
+fn add(alloc: Global, files: &mut Vec<(String, Vec<u8>)>, file: &File) -> Result<(), AllocError> {
+    let path = String::from_str(alloc, file.path())?;
+    files.push((path, file.bytes(alloc)?))?;
+    Ok(())
 }
 
 /// The words of a program, where its name stands before them.

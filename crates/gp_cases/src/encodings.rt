@@ -51,8 +51,9 @@ fn tell_files<R: AllocGlobal + Threads + Sync>(
 ) -> Result<(), AllocError> {
     match recording_of(rt, case)? {
         Ok(recording) => {
-            let window = last_window(rt.alloc(), &recording)?;
-            tell_window(rt.alloc(), out, case, window, verb, rest)
+            let window = last_window(rt.alloc(), &recording);
+            drop(recording);
+            tell_window(rt.alloc(), out, case, window?, verb, rest)
         }
         Err(_) => tell(out, "no recording"),
     }
@@ -67,7 +68,11 @@ fn tell_window(
     rest: &str,
 ) -> Result<(), AllocError> {
     match base(alloc, window) {
-        Ok(encoded) => tell_encoded(alloc, out, case, &encoded, verb, rest),
+        Ok(encoded) => {
+            let told = tell_encoded(alloc, out, case, &encoded, verb, rest);
+            drop(encoded);
+            told
+        }
         Err(BaseFault::TooLarge { events, clauses }) => {
             put_line(out, b"toolarge", &[events, clauses])
         }
@@ -148,11 +153,26 @@ fn tell_queries(
     path: &str,
 ) -> Result<(), AllocError> {
     let text = case.bytes(alloc, path)?;
+    let told = tell_queries_of(alloc, out, encoded, text.as_slice());
+    drop(text);
+    told
+}
+
+fn tell_queries_of(
+    alloc: Global,
+    out: &mut Vec<u8>,
+    encoded: &Encoded,
+    text: &[u8],
+) -> Result<(), AllocError> {
     if text.len() > MOST {
         return tell(out, "too long");
     }
-    match read_properties(alloc, text.as_slice()) {
-        Ok(properties) => tell_each_property(alloc, out, encoded, properties.as_slice()),
+    match read_properties(alloc, text) {
+        Ok(properties) => {
+            let told = tell_each_property(alloc, out, encoded, properties.as_slice());
+            drop(properties);
+            told
+        }
         Err(_) => tell(out, "no properties"),
     }
 }
@@ -176,7 +196,11 @@ fn tell_property(
     property: &Property,
 ) -> Result<(), AllocError> {
     match instances(alloc, encoded.window(), property, 0) {
-        Ok(listed) => tell_each_instance(alloc, out, encoded, property, listed.as_slice()),
+        Ok(listed) => {
+            let told = tell_each_instance(alloc, out, encoded, property, listed.as_slice());
+            drop(listed);
+            told
+        }
         Err(InstancesFault::TooMany) => tell(out, "too many"),
         Err(InstancesFault::Memory) => Err(AllocError),
     }
@@ -190,11 +214,23 @@ fn tell_each_instance(
     listed: &[Instance],
 ) -> Result<(), AllocError> {
     for instance in listed {
-        let query = query(alloc, encoded, property, instance)?;
-        put_line(out, b"instance", instance.events.as_slice())?;
-        tell_query(out, encoded.problem(), &query)?;
+        tell_instance(alloc, out, encoded, property, instance)?;
     }
     Ok(())
+}
+
+fn tell_instance(
+    alloc: Global,
+    out: &mut Vec<u8>,
+    encoded: &Encoded,
+    property: &Property,
+    instance: &Instance,
+) -> Result<(), AllocError> {
+    put_line(out, b"instance", instance.events.as_slice())?;
+    let query = query(alloc, encoded, property, instance)?;
+    let told = tell_query(out, encoded.problem(), &query);
+    drop(query);
+    told
 }
 
 fn tell_query(out: &mut Vec<u8>, problem: &Problem, query: &Query) -> Result<(), AllocError> {

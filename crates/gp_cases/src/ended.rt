@@ -67,17 +67,43 @@ pub fn ran_where<R: AllocGlobal + Threads + Wait + Sync>(
     puts: &[(u64, u64)],
 ) -> Result<Ended, AllocError> {
     let alloc = rt.alloc();
-    let files = case.files(alloc)?;
-    let failing = Vec::from_slice(alloc, failing)?;
     let puts = Vec::from_slice(alloc, puts)?;
-    let mut folder = MemoryFolder::new(files, failing);
-    let mut sink = MemorySink::new(alloc, puts);
-    let outcome = run_program(rt, case.words(), &mut folder, &mut sink);
-    Ok(Ended {
+    let sink = MemorySink::new(alloc, puts);
+    match folder_of(alloc, case, failing) {
+        Ok(folder) => Ok(ran_on(rt, case.words(), folder, sink)),
+        Err(error) => {
+            drop(sink);
+            Err(error)
+        }
+    }
+}
+
+/// The folder of a case, where these calls fail.
+fn folder_of(alloc: Global, case: &Case, failing: &[u64]) -> Result<MemoryFolder, AllocError> {
+    let failing = Vec::from_slice(alloc, failing)?;
+    match case.files(alloc) {
+        Ok(files) => Ok(MemoryFolder::new(files, failing)),
+        Err(error) => {
+            drop(failing);
+            Err(error)
+        }
+    }
+}
+
+fn ran_on<R: AllocGlobal + Threads + Wait + Sync>(
+    rt: &R,
+    words: &[String],
+    folder: MemoryFolder,
+    sink: MemorySink,
+) -> Ended {
+    let mut folder = folder;
+    let mut sink = sink;
+    let outcome = run_program(rt, words, &mut folder, &mut sink);
+    Ended {
         outcome,
         sink,
         folder,
-    })
+    }
 }
 
 /// Runs the program whose words these are.

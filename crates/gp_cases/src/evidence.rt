@@ -5,13 +5,13 @@ mod signals;
 
 use crate::book::Book;
 use crate::case::Case;
+use crate::layers::recording_of;
 use gp_base::Row;
 use gp_certificate::{Certificate, Step};
 use gp_clause::Lit;
-use gp_outside::MemoryFolder;
 use gp_property::{Property, read_properties};
 use gp_report::{AnswerOf, WindowRecordOf};
-use gp_window::{Window, cut, read_recording};
+use gp_window::{Window, cut};
 use std::alloc::Global;
 use std::io;
 use std::thread::Threads;
@@ -52,19 +52,29 @@ pub fn ends_in_negations(assumed: &[Lit], steps: &[Step]) -> bool {
 
 /// The last window of the recording of a case.
 pub fn last_window<R: AllocGlobal + Threads + Sync>(rt: &R, case: &Case) -> Option<Window> {
-    let files = case.files(rt.alloc()).ok()?;
-    let mut folder = MemoryFolder::new(files, Vec::new(rt.alloc()));
-    let recording = read_recording(rt, rt.alloc(), &mut folder, "d").ok()?;
-    cut(rt.alloc(), &recording, recording.manifest().epochs()).ok()
+    match recording_of(rt, case).ok()? {
+        Ok(recording) => {
+            let window = cut(rt.alloc(), &recording, recording.manifest().epochs());
+            drop(recording);
+            window.ok()
+        }
+        Err(_) => None,
+    }
 }
 
 /// The properties of a case, where their file is small.
 pub fn properties_of(alloc: Global, case: &Case) -> Option<Row<Property>> {
     let text = case.bytes(alloc, "d/props").ok()?;
+    let properties = small_properties(alloc, text.as_slice());
+    drop(text);
+    properties
+}
+
+fn small_properties(alloc: Global, text: &[u8]) -> Option<Row<Property>> {
     if text.len() >= 1000 {
         return None;
     }
-    read_properties(alloc, text.as_slice()).ok()
+    read_properties(alloc, text).ok()
 }
 
 /// Whether the certificate in the report that the last run kept holds.

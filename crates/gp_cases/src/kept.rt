@@ -6,7 +6,7 @@ use crate::notified::tell_notified;
 use crate::reading::tell_report;
 use gp_notified::{NotifyReport, Paired};
 use gp_report::{AnswerOf, Report, WindowRecordOf};
-use gp_window::Schedule;
+use gp_window::{EventId, Schedule};
 use std::alloc::{AllocError, Global};
 use std::io;
 use std::sync::Wait;
@@ -107,19 +107,58 @@ fn replay_schedule<R: AllocGlobal + Print + Threads + Wait + Sync>(
     schedule: &Schedule,
 ) -> io::Result<()> {
     let text = written(rt.alloc(), window, schedule)?;
+    let told = replay_text(rt, case, text.as_bytes());
+    drop(text);
+    told
+}
+
+/// Replays the schedule that a text is on the files of a case.
+fn replay_text<R: AllocGlobal + Print + Threads + Wait + Sync>(
+    rt: &R,
+    case: &Case,
+    text: &[u8],
+) -> io::Result<()> {
     let mut replayed = case.clone()?;
-    replayed.say(rt.alloc(), "--task=replay d")?;
-    replayed.give(rt.alloc(), "d/schedule", text.as_bytes())?;
-    let ended = ran(rt, &replayed)?;
-    tell(rt, &replayed, &ended)
+    let told = replay_as(rt, &mut replayed, text);
+    drop(replayed);
+    told
+}
+
+fn replay_as<R: AllocGlobal + Print + Threads + Wait + Sync>(
+    rt: &R,
+    case: &mut Case,
+    text: &[u8],
+) -> io::Result<()> {
+    case.say(rt.alloc(), "--task=replay d")?;
+    case.give(rt.alloc(), "d/schedule", text)?;
+    let ended = ran(rt, case)?;
+    let told = tell(rt, case, &ended);
+    drop(ended);
+    told
 }
 
 /// A schedule as a file of its window, an event a line.
 fn written(alloc: Global, window: u32, schedule: &Schedule) -> Result<String, AllocError> {
     let mut text = format!(in alloc; "window {window}\n")?;
-    for event in schedule.events.as_slice() {
-        let line = format!(in alloc; "{}.{}\n", event.thread, event.index)?;
-        text.push_str(line.as_str())?;
+    match write_events(alloc, &mut text, schedule.events.as_slice()) {
+        Ok(()) => Ok(text),
+        Err(error) => {
+            drop(text);
+            Err(error)
+        }
     }
-    Ok(text)
+}
+
+fn write_events(alloc: Global, text: &mut String, events: &[EventId]) -> Result<(), AllocError> {
+    for event in events {
+        write_event(alloc, text, event)?;
+    }
+    Ok(())
+}
+
+fn write_event(alloc: Global, text: &mut String, event: &EventId) -> Result<(), AllocError> {
+    let line = format!(in alloc; "{}.{}\n", event.thread, event.index)?;
+    let written = text.push_str(line.as_str());
+    drop(line);
+    Ok(written?)
 }

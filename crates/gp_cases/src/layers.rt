@@ -116,10 +116,9 @@ fn tell_file(
 ) -> Result<(), AllocError> {
     let (path, rest) = first_word(rest);
     let text = case.bytes(alloc, path)?;
-    if text.len() > MOST {
-        return tell(out, "too long");
-    }
-    tell_text(alloc, out, text.as_slice(), verb, rest)
+    let told = tell_text(alloc, out, text.as_slice(), verb, rest);
+    drop(text);
+    told
 }
 
 fn tell_text(
@@ -128,9 +127,10 @@ fn tell_text(
     text: &[u8],
     verb: &str,
     rest: &str,
-) -> Result<(), AllocError>
-    requires { length text.now ≤ MOST }
-{
+) -> Result<(), AllocError> {
+    if text.len() > MOST {
+        return tell(out, "too long");
+    }
     match verb {
         "lines" => tell_lines(alloc, out, text),
         "walk" => texts::tell_walk(out, text),
@@ -176,7 +176,11 @@ fn tell_files<R: AllocGlobal + Threads + Sync>(
 ) -> Result<(), AllocError> {
     let alloc = rt.alloc();
     match recording_of(rt, case)? {
-        Ok(recording) => tell_recording(alloc, out, case, &recording, verb, rest),
+        Ok(recording) => {
+            let told = tell_recording(alloc, out, case, &recording, verb, rest);
+            drop(recording);
+            told
+        }
         Err(fault) => tell_fault(alloc, out, &fault),
     }
 }
@@ -189,7 +193,9 @@ pub fn recording_of<R: AllocGlobal + Threads + Sync>(
     let alloc = rt.alloc();
     let files = case.files(alloc)?;
     let mut folder = MemoryFolder::new(files, Vec::new(alloc));
-    Ok(read_recording(rt, alloc, &mut folder, "d"))
+    let read = read_recording(rt, alloc, &mut folder, "d");
+    drop(folder);
+    Ok(read)
 }
 
 fn tell_recording(
@@ -218,12 +224,25 @@ fn tell_file_in(
 ) -> Result<(), AllocError> {
     let (path, rest) = first_word(rest);
     let text = case.bytes(alloc, path)?;
+    let told = tell_text_in(alloc, out, recording, text.as_slice(), verb, rest);
+    drop(text);
+    told
+}
+
+fn tell_text_in(
+    alloc: Global,
+    out: &mut Vec<u8>,
+    recording: &Recording,
+    text: &[u8],
+    verb: &str,
+    rest: &str,
+) -> Result<(), AllocError> {
     if text.len() > MOST {
         return tell(out, "too long");
     }
     match verb {
-        "ends" => tell_end(alloc, out, recording, text.as_slice()),
-        _ => tell_instances(alloc, out, recording, text.as_slice(), listing_of(rest)),
+        "ends" => tell_end(alloc, out, recording, text),
+        _ => tell_instances(alloc, out, recording, text, listing_of(rest)),
     }
 }
 

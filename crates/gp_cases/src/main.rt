@@ -63,8 +63,17 @@ use std::{env, fs, io};
 
 fn main(rt: HostRuntime) -> io::Result<()> {
     let words: Vec<String> = env::args(&rt)?.skip(1).collect(rt.alloc())?;
-    for word in words.as_slice() {
-        obey_file(&rt, word.as_str())?;
+    let obeyed = obey_files(&rt, words.as_slice());
+    drop(words);
+    obeyed
+}
+
+fn obey_files<R: AllocGlobal + Files + Print + Threads + Wait + Sync>(
+    rt: &R,
+    paths: &[String],
+) -> io::Result<()> {
+    for path in paths {
+        obey_file(rt, path.as_str())?;
     }
     Ok(())
 }
@@ -76,8 +85,18 @@ fn obey_file<R: AllocGlobal + Files + Print + Threads + Wait + Sync>(
 ) -> io::Result<()> {
     let text = fs::read_to_string(rt, path)?;
     let mut book = Book::new(rt.alloc());
+    let obeyed = obey_lines(rt, &mut book, text.as_str());
+    drop((text, book));
+    obeyed
+}
+
+fn obey_lines<R: AllocGlobal + Print + Threads + Wait + Sync>(
+    rt: &R,
+    book: &mut Book,
+    text: &str,
+) -> io::Result<()> {
     for line in text.lines() {
-        obey(rt, &mut book, line)?;
+        obey(rt, book, line)?;
     }
     Ok(())
 }

@@ -21,7 +21,9 @@ pub fn tell_notified(
     report: &NotifyReport,
 ) -> io::Result<()> {
     let text = print_notified(rt.alloc(), report)?;
-    tell_text(rt, case.style(), text.as_slice())
+    let told = tell_text(rt, case.style(), text.as_slice());
+    drop(text);
+    told
 }
 
 /// Tells of each schedule of the report that the last run kept whether its pairs serve its wakes.
@@ -33,7 +35,11 @@ pub fn tell_signals<R: AllocGlobal + Print + Threads + Sync>(
         return println!(rt; "no signals");
     };
     match recording_of(rt, book.case())? {
-        Ok(recording) => tell_windows(rt, &recording, report.windows.as_slice()),
+        Ok(recording) => {
+            let told = tell_windows(rt, &recording, report.windows.as_slice());
+            drop(recording);
+            told
+        }
         Err(_) => println!(rt; "no recording"),
     }
 }
@@ -44,12 +50,24 @@ fn tell_windows(
     records: &[WindowRecordOf<Paired>],
 ) -> io::Result<()> {
     for record in records {
-        match window_numbered(rt.alloc(), recording, record.number)? {
-            Some(window) => tell_window(rt, &window, record)?,
-            None => println!(rt; "no window")?,
-        }
+        tell_record(rt, recording, record)?;
     }
     Ok(())
+}
+
+fn tell_record(
+    rt: &(impl AllocGlobal + Print),
+    recording: &Recording,
+    record: &WindowRecordOf<Paired>,
+) -> io::Result<()> {
+    match window_numbered(rt.alloc(), recording, record.number)? {
+        Some(window) => {
+            let told = tell_window(rt, &window, record);
+            drop(window);
+            told
+        }
+        None => println!(rt; "no window"),
+    }
 }
 
 fn tell_window(
@@ -83,7 +101,10 @@ fn tell_answer(
 fn is_signalled(alloc: Global, window: &Window, shown: &Paired) -> Result<bool, AllocError> {
     replay_means_feasible();
     match replay(alloc, window, &shown.schedule) {
-        Ok(_) => Ok(signalled(window, &shown.schedule, shown.pairs.as_slice())),
+        Ok(state) => {
+            drop(state);
+            Ok(signalled(window, &shown.schedule, shown.pairs.as_slice()))
+        }
         Err(ReplayFault::Stuck { .. }) => Ok(false),
         Err(ReplayFault::Memory) => Err(AllocError),
     }

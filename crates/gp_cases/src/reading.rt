@@ -14,17 +14,29 @@ pub fn tell_report(
     report: &Report,
 ) -> io::Result<()> {
     let text = print_report(rt.alloc(), report)?;
-    tell_text(rt, case.style(), text.as_slice())
+    let told = tell_text(rt, case.style(), text.as_slice());
+    drop(text);
+    told
 }
 
 /// Reads a file as a report, and tells it as it is printed.
 pub fn tell_read(rt: &(impl AllocGlobal + Print), case: &Case, path: &str) -> io::Result<()> {
     let text = case.bytes(rt.alloc(), path)?;
+    let told = tell_read_text(rt, case, text.as_slice());
+    drop(text);
+    told
+}
+
+fn tell_read_text(rt: &(impl AllocGlobal + Print), case: &Case, text: &[u8]) -> io::Result<()> {
     if text.len() > MOST {
         return println!(rt; "too long");
     }
-    match read_report(rt.alloc(), text.as_slice()) {
-        Ok(read) => tell_report(rt, case, &read.report),
+    match read_report(rt.alloc(), text) {
+        Ok(read) => {
+            let told = tell_report(rt, case, &read.report);
+            drop(read);
+            told
+        }
         Err(_) => println!(rt; "no report"),
     }
 }

@@ -14,14 +14,29 @@ pub fn sweep_calls<R: AllocGlobal + Print + Threads + Wait + Sync>(
     case: &Case,
 ) -> io::Result<()> {
     for call in 1..MOST {
-        let ended = ran_where(rt, case, &[call], &[])?;
-        print!(rt; "call {call}")?;
-        tell_short(rt, case, &ended)?;
-        if ended.status() != 4 {
+        if !tell_call(rt, case, call)? {
             return Ok(());
         }
     }
     Ok(())
+}
+
+/// Tells the run in which a call fails, and whether it failed.
+fn tell_call<R: AllocGlobal + Print + Threads + Wait + Sync>(
+    rt: &R,
+    case: &Case,
+    call: u64,
+) -> io::Result<bool> {
+    let ended = ran_where(rt, case, &[call], &[])?;
+    let told = tell_failed_call(rt, case, call, &ended);
+    drop(ended);
+    told
+}
+
+fn tell_failed_call(rt: &impl Print, case: &Case, call: u64, ended: &Ended) -> io::Result<bool> {
+    print!(rt; "call {call}")?;
+    tell_short(rt, case, ended)?;
+    Ok(ended.status() == 4)
 }
 
 /// Lets each put fail, when none, one or all of its bytes are out, up to one that is not made, and tells each run in a line.
@@ -48,8 +63,20 @@ fn tell_put<R: AllocGlobal + Print + Threads + Wait + Sync>(
     bytes: u64,
 ) -> io::Result<bool> {
     let ended = ran_where(rt, case, &[], &[(put, bytes)])?;
+    let told = tell_failed_put(rt, case, put, name, &ended);
+    drop(ended);
+    told
+}
+
+fn tell_failed_put(
+    rt: &impl Print,
+    case: &Case,
+    put: u64,
+    name: &str,
+    ended: &Ended,
+) -> io::Result<bool> {
     print!(rt; "put {put} {name}")?;
-    tell_short(rt, case, &ended)?;
+    tell_short(rt, case, ended)?;
     Ok(ended.status() == 5)
 }
 

@@ -10,6 +10,35 @@ use std::io;
 use std::sync::Wait;
 use std::thread::Threads;
 
+/// What a verb of whole runs asks for.
+#[derive(Clone, Copy)]
+enum Verb {
+    Run,
+    Again,
+    Keep,
+    Sweep,
+    Refute,
+    Kept,
+    Replay,
+    Signals,
+    Read,
+}
+
+fn verb_of(word: &str) -> Option<Verb> {
+    match word {
+        "run" => Some(Verb::Run),
+        "again" => Some(Verb::Again),
+        "keep" => Some(Verb::Keep),
+        "sweep" => Some(Verb::Sweep),
+        "refute" => Some(Verb::Refute),
+        "kept" => Some(Verb::Kept),
+        "replay" => Some(Verb::Replay),
+        "signals" => Some(Verb::Signals),
+        "read" => Some(Verb::Read),
+        _ => None,
+    }
+}
+
 /// Does what a verb of whole runs says, and tells whether it is one.
 pub fn obeys<R: AllocGlobal + Print + Threads + Wait + Sync>(
     rt: &R,
@@ -17,19 +46,30 @@ pub fn obeys<R: AllocGlobal + Print + Threads + Wait + Sync>(
     verb: &str,
     rest: &str,
 ) -> io::Result<bool> {
-    match verb {
-        "run" => run_case(rt, book)?,
-        "again" => run_again(rt, book, rest)?,
-        "keep" => book.go_on(rt.alloc(), rest)?,
-        "sweep" => sweep(rt, book, rest)?,
-        "refute" => tell_refuted(rt, book)?,
-        "kept" => tell_kept(rt, book)?,
-        "replay" => tell_replayed(rt, book)?,
-        "signals" => tell_signals(rt, book)?,
-        "read" => tell_read(rt, book.case(), rest)?,
-        _ => return Ok(false),
-    }
+    let Some(verb) = verb_of(verb) else {
+        return Ok(false);
+    };
+    obey(rt, book, verb, rest)?;
     Ok(true)
+}
+
+fn obey<R: AllocGlobal + Print + Threads + Wait + Sync>(
+    rt: &R,
+    book: &mut Book,
+    verb: Verb,
+    rest: &str,
+) -> io::Result<()> {
+    match verb {
+        Verb::Run => run_case(rt, book),
+        Verb::Again => run_again(rt, book, rest),
+        Verb::Keep => Ok(book.go_on(rt.alloc(), rest)?),
+        Verb::Sweep => sweep(rt, book, rest),
+        Verb::Refute => tell_refuted(rt, book),
+        Verb::Kept => tell_kept(rt, book),
+        Verb::Replay => tell_replayed(rt, book),
+        Verb::Signals => tell_signals(rt, book),
+        Verb::Read => tell_read(rt, book.case(), rest),
+    }
 }
 
 fn run_case<R: AllocGlobal + Print + Threads + Wait + Sync>(
@@ -37,9 +77,16 @@ fn run_case<R: AllocGlobal + Print + Threads + Wait + Sync>(
     book: &mut Book,
 ) -> io::Result<()> {
     let ended = ran(rt, book.case())?;
-    tell(rt, book.case(), &ended)?;
-    book.end(ended);
-    Ok(())
+    match tell(rt, book.case(), &ended) {
+        Ok(()) => {
+            book.end(ended);
+            Ok(())
+        }
+        Err(error) => {
+            drop(ended);
+            Err(error)
+        }
+    }
 }
 
 /// Runs these words on the files that the last run left, with what it wrote as a report.

@@ -127,8 +127,23 @@ pub fn tell_executed(
     words: &str,
 ) -> Result<(), AllocError> {
     let valuation = valuation_of(alloc, words)?;
-    match given_by(alloc, encoded, &valuation)? {
-        Some(schedule) => put_line(out, b"executed", schedule.events.as_slice()),
+    let told = tell_given_by(alloc, out, encoded, &valuation);
+    drop(valuation);
+    told
+}
+
+fn tell_given_by(
+    alloc: Global,
+    out: &mut Vec<u8>,
+    encoded: &Encoded,
+    valuation: &Valuation,
+) -> Result<(), AllocError> {
+    match given_by(alloc, encoded, valuation)? {
+        Some(schedule) => {
+            let told = put_line(out, b"executed", schedule.events.as_slice());
+            drop(schedule);
+            told
+        }
         None => tell(out, "no answer"),
     }
 }

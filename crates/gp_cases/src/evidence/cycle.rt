@@ -24,8 +24,10 @@ fn refutes(
     stuck_queries_are_valid();
     let problem = encoded.problem();
     let query = stuck_query(alloc, encoded, cycle)?;
-    let passes = check_certificate(alloc, problem, &[], &query, certificate)?;
-    Ok(passes && ends_in_negations(query.assumed.as_slice(), certificate.steps.as_slice()))
+    let passes = check_certificate(alloc, problem, &[], &query, certificate);
+    let ends = ends_in_negations(query.assumed.as_slice(), certificate.steps.as_slice());
+    drop(query);
+    Ok(passes? && ends)
 }
 
 /// Whether a certificate refutes the query of the one cycle of a window.
@@ -46,7 +48,11 @@ fn refutes_the_one(
 /// The same in a window, where its constraints are not too many.
 fn refutes_in(alloc: Global, window: Window, certificate: &Certificate) -> Option<bool> {
     match base(alloc, window) {
-        Ok(encoded) => refutes_the_one(alloc, &encoded, certificate).ok(),
+        Ok(encoded) => {
+            let told = refutes_the_one(alloc, &encoded, certificate);
+            drop(encoded);
+            told.ok()
+        }
         Err(_) => None,
     }
 }

@@ -26,8 +26,10 @@ fn refutes(
     problems_are_valid();
     let problem = encoded.problem();
     let query = query(alloc, encoded, property, instance)?;
-    let passes = check_certificate(alloc, problem, &[], &query, certificate)?;
-    Ok(passes && ends_in_negations(query.assumed.as_slice(), certificate.steps.as_slice()))
+    let passes = check_certificate(alloc, problem, &[], &query, certificate);
+    let ends = ends_in_negations(query.assumed.as_slice(), certificate.steps.as_slice());
+    drop(query);
+    Ok(passes? && ends)
 }
 
 /// Whether a certificate refutes the query of the one instance of a property.
@@ -57,7 +59,11 @@ fn refutes_in(
     certificate: &Certificate,
 ) -> Option<bool> {
     match base(alloc, window) {
-        Ok(encoded) => refutes_the_one(alloc, &encoded, property, certificate).ok(),
+        Ok(encoded) => {
+            let told = refutes_the_one(alloc, &encoded, property, certificate);
+            drop(encoded);
+            told.ok()
+        }
         Err(_) => None,
     }
 }
@@ -69,7 +75,18 @@ pub fn refutes_last<R: AllocGlobal + Threads + Sync>(
     certificate: &Certificate,
 ) -> Option<bool> {
     let properties = properties_of(rt.alloc(), case)?;
-    match properties.as_slice() {
+    let told = refutes_one_of(rt, case, properties.as_slice(), certificate);
+    drop(properties);
+    told
+}
+
+fn refutes_one_of<R: AllocGlobal + Threads + Sync>(
+    rt: &R,
+    case: &Case,
+    properties: &[Property],
+    certificate: &Certificate,
+) -> Option<bool> {
+    match properties {
         [property] => refutes_in(rt.alloc(), last_window(rt, case)?, property, certificate),
         _ => None,
     }

@@ -47,8 +47,10 @@ fn refutes(
     extended_is_valid();
     let problem = extended.problem();
     let query = lifted_query(alloc, extended, property, instance)?;
-    let passes = check_certificate(alloc, problem, &[], &query, certificate)?;
-    Ok(passes && ends_in_negations(query.assumed.as_slice(), certificate.steps.as_slice()))
+    let passes = check_certificate(alloc, problem, &[], &query, certificate);
+    let ends = ends_in_negations(query.assumed.as_slice(), certificate.steps.as_slice());
+    drop(query);
+    Ok(passes? && ends)
 }
 
 /// Whether a certificate refutes the query of the one instance of a property, where each wake needs a signal.
@@ -78,7 +80,11 @@ fn refutes_where_paired(
     certificate: &Certificate,
 ) -> Option<bool> {
     match extend(alloc, encoded) {
-        Ok(extended) => refutes_the_one(alloc, &extended, property, certificate).ok(),
+        Ok(extended) => {
+            let told = refutes_the_one(alloc, &extended, property, certificate);
+            drop(extended);
+            told.ok()
+        }
         Err(_) => None,
     }
 }
@@ -103,7 +109,18 @@ pub fn refutes_last<R: AllocGlobal + Threads + Sync>(
     certificate: &Certificate,
 ) -> Option<bool> {
     let properties = properties_of(rt.alloc(), case)?;
-    match properties.as_slice() {
+    let told = refutes_one_of(rt, case, properties.as_slice(), certificate);
+    drop(properties);
+    told
+}
+
+fn refutes_one_of<R: AllocGlobal + Threads + Sync>(
+    rt: &R,
+    case: &Case,
+    properties: &[Property],
+    certificate: &Certificate,
+) -> Option<bool> {
+    match properties {
         [property] => refutes_in(rt.alloc(), last_window(rt, case)?, property, certificate),
         _ => None,
     }

@@ -3,7 +3,7 @@ ghost use Rattle.std.specs.Prelude.{◌-◌, ◌<◌, ◌^◌, length};
 
 use crate::layers::telling::{tell, tell_last};
 use gp_property::{Property, print_property, read_properties};
-use gp_replay::read_schedule;
+use gp_replay::{WindowSchedule, read_schedule};
 use gp_trace::{LocalTrace, print_trace, read_trace};
 use gp_window::{Manifest, StartValue, read_manifest};
 use gp_writer::{put_line, put_list, put_word, put_words};
@@ -14,7 +14,11 @@ pub fn tell_manifest(alloc: Global, out: &mut Vec<u8>, text: &[u8]) -> Result<()
     requires { length text.now < 2 ^ 32 - 1 }
 {
     match read_manifest(alloc, text) {
-        Ok(manifest) => tell_manifest_lines(out, &manifest),
+        Ok(manifest) => {
+            let told = tell_manifest_lines(out, &manifest);
+            drop(manifest);
+            told
+        }
         Err(fault) => tell(out, format!(in alloc; "{fault:?}")?.as_str()),
     }
 }
@@ -48,7 +52,11 @@ pub fn tell_trace(
     requires { length text.now < 2 ^ 32 - 1 }
 {
     match read_trace(alloc, format, 1, marks, text) {
-        Ok(trace) => tell_trace_lines(alloc, out, &trace),
+        Ok(trace) => {
+            let told = tell_trace_lines(alloc, out, &trace);
+            drop(trace);
+            told
+        }
         Err(fault) => tell(out, format!(in alloc; "{fault:?}")?.as_str()),
     }
 }
@@ -59,7 +67,9 @@ fn tell_trace_lines(
     trace: &LocalTrace,
 ) -> Result<(), AllocError> {
     let lines = print_trace(alloc, trace)?;
-    out.extend_from_slice(lines.as_slice())?;
+    let told = out.extend_from_slice(lines.as_slice());
+    drop(lines);
+    told?;
     match trace.exit_in() {
         Some(window) => put_line(out, b"exits", &[window]),
         None => tell(out, "runs on"),
@@ -71,7 +81,11 @@ pub fn tell_properties(alloc: Global, out: &mut Vec<u8>, text: &[u8]) -> Result<
     requires { length text.now < 2 ^ 32 - 1 }
 {
     match read_properties(alloc, text) {
-        Ok(properties) => tell_each_property(alloc, out, properties.as_slice()),
+        Ok(properties) => {
+            let told = tell_each_property(alloc, out, properties.as_slice());
+            drop(properties);
+            told
+        }
         Err(fault) => tell(out, format!(in alloc; "{fault:?}")?.as_str()),
     }
 }
@@ -82,10 +96,16 @@ fn tell_each_property(
     properties: &[Property],
 ) -> Result<(), AllocError> {
     for property in properties {
-        let lines = print_property(alloc, property)?;
-        out.extend_from_slice(lines.as_slice())?;
+        tell_property(alloc, out, property)?;
     }
     Ok(())
+}
+
+fn tell_property(alloc: Global, out: &mut Vec<u8>, property: &Property) -> Result<(), AllocError> {
+    let lines = print_property(alloc, property)?;
+    let told = out.extend_from_slice(lines.as_slice());
+    drop(lines);
+    Ok(told?)
 }
 
 /// Tells how many properties a text is.
@@ -93,7 +113,11 @@ pub fn tell_property_count(alloc: Global, out: &mut Vec<u8>, text: &[u8]) -> Res
     requires { length text.now < 2 ^ 32 - 1 }
 {
     match read_properties(alloc, text) {
-        Ok(properties) => put_line(out, b"properties", &[properties.len() as u64]),
+        Ok(properties) => {
+            let count = properties.len() as u64;
+            drop(properties);
+            put_line(out, b"properties", &[count])
+        }
         Err(fault) => tell(out, format!(in alloc; "{fault:?}")?.as_str()),
     }
 }
@@ -109,9 +133,15 @@ pub fn tell_schedule(
 {
     match read_schedule(alloc, epochs, text) {
         Ok(read) => {
-            put_line(out, b"window", &[read.window])?;
-            put_list(out, read.schedule.events.as_slice())
+            let told = tell_schedule_lines(out, &read);
+            drop(read);
+            told
         }
         Err(fault) => tell(out, format!(in alloc; "{fault:?}")?.as_str()),
     }
+}
+
+fn tell_schedule_lines(out: &mut Vec<u8>, read: &WindowSchedule) -> Result<(), AllocError> {
+    put_line(out, b"window", &[read.window])?;
+    put_list(out, read.schedule.events.as_slice())
 }

@@ -31,8 +31,26 @@ pub fn tell_instances(
     requires { length text.now < 2 ^ 32 - 1 }
 {
     let window = last_window(alloc, recording)?;
+    let told = tell_instances_in(alloc, out, &window, text, listing);
+    drop(window);
+    told
+}
+
+fn tell_instances_in(
+    alloc: Global,
+    out: &mut Vec<u8>,
+    window: &Window,
+    text: &[u8],
+    listing: Listing,
+) -> Result<(), AllocError>
+    requires { length text.now < 2 ^ 32 - 1 }
+{
     match read_properties(alloc, text) {
-        Ok(properties) => tell_each(alloc, out, &window, properties.as_slice(), listing),
+        Ok(properties) => {
+            let told = tell_each(alloc, out, window, properties.as_slice(), listing);
+            drop(properties);
+            told
+        }
         Err(fault) => tell(out, format!(in alloc; "{fault:?}")?.as_str()),
     }
 }
@@ -57,11 +75,21 @@ fn tell_of(
     property: &Property,
     listing: Listing,
 ) -> Result<(), AllocError> {
-    match (instances(alloc, window, property, NUMBER), listing) {
-        (Ok(listed), Listing::Whole) => tell_listed(out, listed.as_slice()),
-        (Ok(listed), Listing::Count) => put_line(out, b"instances", &[listed.len() as u64]),
-        (Err(InstancesFault::TooMany), _) => tell(out, "too many"),
-        (Err(InstancesFault::Memory), _) => Err(AllocError),
+    match instances(alloc, window, property, NUMBER) {
+        Ok(listed) => {
+            let told = tell_as(out, listed.as_slice(), listing);
+            drop(listed);
+            told
+        }
+        Err(InstancesFault::TooMany) => tell(out, "too many"),
+        Err(InstancesFault::Memory) => Err(AllocError),
+    }
+}
+
+fn tell_as(out: &mut Vec<u8>, listed: &[Instance], listing: Listing) -> Result<(), AllocError> {
+    match listing {
+        Listing::Whole => tell_listed(out, listed),
+        Listing::Count => put_line(out, b"instances", &[listed.len() as u64]),
     }
 }
 
@@ -83,29 +111,52 @@ pub fn tell_match(
 ) -> Result<(), AllocError>
     requires { length text.now < 2 ^ 32 - 1 }
 {
-    let instance = Instance {
-        property: NUMBER,
-        events: ids_of(alloc, events)?,
-    };
-    let schedule = Schedule {
-        events: ids_of(alloc, schedule)?,
-    };
     match read_properties(alloc, text) {
-        Ok(properties) => tell_matched(out, properties.as_slice(), &instance, &schedule),
+        Ok(properties) => {
+            let told = tell_match_of(alloc, out, properties.as_slice(), events, schedule);
+            drop(properties);
+            told
+        }
         Err(fault) => tell(out, format!(in alloc; "{fault:?}")?.as_str()),
     }
 }
 
+fn tell_match_of(
+    alloc: Global,
+    out: &mut Vec<u8>,
+    properties: &[Property],
+    events: &str,
+    schedule: &str,
+) -> Result<(), AllocError> {
+    let instance = Instance {
+        property: NUMBER,
+        events: ids_of(alloc, events)?,
+    };
+    let told = tell_matched(alloc, out, properties, &instance, schedule);
+    drop(instance);
+    told
+}
+
 fn tell_matched(
+    alloc: Global,
     out: &mut Vec<u8>,
     properties: &[Property],
     instance: &Instance,
-    schedule: &Schedule,
+    schedule: &str,
 ) -> Result<(), AllocError> {
-    let [property] = properties else {
-        return tell(out, "not one property");
+    let schedule = Schedule {
+        events: ids_of(alloc, schedule)?,
     };
-    tell(out, match_word(property, instance, schedule))
+    let word = matched_word(properties, instance, &schedule);
+    drop(schedule);
+    tell(out, word)
+}
+
+fn matched_word(properties: &[Property], instance: &Instance, schedule: &Schedule) -> &'static str {
+    match properties {
+        [property] => match_word(property, instance, schedule),
+        _ => "not one property",
+    }
 }
 
 fn match_word(property: &Property, instance: &Instance, schedule: &Schedule) -> &'static str {
@@ -121,10 +172,20 @@ fn match_word(property: &Property, instance: &Instance, schedule: &Schedule) -> 
 /// The events that words name; a word that names none is passed over.
 fn ids_of(alloc: Global, words: &str) -> Result<Row<EventId>, AllocError> {
     let mut ids = Row::new(alloc);
+    match add_ids(&mut ids, words) {
+        Ok(()) => Ok(ids),
+        Err(error) => {
+            drop(ids);
+            Err(error)
+        }
+    }
+}
+
+fn add_ids(ids: &mut Row<EventId>, words: &str) -> Result<(), AllocError> {
     for word in words.split(' ') {
         if let Some(id) = event_id_of(word.as_bytes()) {
             ids.push(id)?;
         }
     }
-    Ok(ids)
+    Ok(())
 }

@@ -4,7 +4,8 @@ ghost use Rattle.std.specs.Prelude.{◌-◌, ◌<◌, ◌^◌, length};
 use crate::layers::telling::{tell, tell_last};
 use crate::layers::windows::window_numbered;
 use gp_replay::{ReplayFault, State, WindowSchedule, read_schedule, replay};
-use gp_window::Recording;
+use gp_text::Name;
+use gp_window::{Recording, Schedule, Window};
 use gp_writer::{put_line, put_word, put_words};
 use std::alloc::{AllocError, Global};
 
@@ -18,7 +19,11 @@ pub fn tell_end(
     requires { length text.now < 2 ^ 32 - 1 }
 {
     match read_schedule(alloc, recording.manifest().epochs(), text) {
-        Ok(read) => tell_end_of(alloc, out, recording, &read),
+        Ok(read) => {
+            let told = tell_end_of(alloc, out, recording, &read);
+            drop(read);
+            told
+        }
         Err(fault) => tell(out, format!(in alloc; "{fault:?}")?.as_str()),
     }
 }
@@ -29,11 +34,28 @@ fn tell_end_of(
     recording: &Recording,
     read: &WindowSchedule,
 ) -> Result<(), AllocError> {
-    let Some(window) = window_numbered(alloc, recording, read.window)? else {
-        return tell(out, "no window");
-    };
-    match replay(alloc, &window, &read.schedule) {
-        Ok(state) => tell_state(alloc, out, &state),
+    match window_numbered(alloc, recording, read.window)? {
+        Some(window) => {
+            let told = tell_end_in(alloc, out, &window, &read.schedule);
+            drop(window);
+            told
+        }
+        None => tell(out, "no window"),
+    }
+}
+
+fn tell_end_in(
+    alloc: Global,
+    out: &mut Vec<u8>,
+    window: &Window,
+    schedule: &Schedule,
+) -> Result<(), AllocError> {
+    match replay(alloc, window, schedule) {
+        Ok(state) => {
+            let told = tell_state(alloc, out, &state);
+            drop(state);
+            told
+        }
         Err(ReplayFault::Stuck { place, rule }) => put_line(out, b"stuck", &[place, rule.number()]),
         Err(ReplayFault::Memory) => Err(AllocError),
     }
@@ -68,7 +90,13 @@ fn tell_holders(out: &mut Vec<u8>, state: &State) -> Result<(), AllocError> {
 
 fn tell_readers(alloc: Global, out: &mut Vec<u8>, state: &State) -> Result<(), AllocError> {
     let readers = state.readers.to_row(alloc)?;
-    for (lock, thread) in readers.as_slice() {
+    let told = tell_each_reader(out, readers.as_slice());
+    drop(readers);
+    told
+}
+
+fn tell_each_reader(out: &mut Vec<u8>, readers: &[(Name, u32)]) -> Result<(), AllocError> {
+    for (lock, thread) in readers {
         out.extend_from_slice(b"reads")?;
         put_word(out, lock.as_bytes())?;
         put_words(out, &[*thread])?;

@@ -20,7 +20,11 @@ pub fn tell_lines(alloc: Global, out: &mut Vec<u8>, text: &[u8]) -> Result<(), A
     requires { length text.now < 2 ^ 32 - 1 }
 {
     match read_lines(alloc, text) {
-        Ok(lines) => tell_each_line(out, lines.as_slice()),
+        Ok(lines) => {
+            let told = tell_each_line(out, lines.as_slice());
+            drop(lines);
+            told
+        }
         Err(fault) => tell(out, format!(in alloc; "{fault:?}")?.as_str()),
     }
 }

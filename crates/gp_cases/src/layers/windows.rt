@@ -52,7 +52,9 @@ pub fn tell_cut(
     number: u32,
 ) -> Result<(), AllocError> {
     let window = window_numbered(alloc, recording, number)?;
-    tell_where_some(out, &window)
+    let told = tell_where_some(out, &window);
+    drop(window);
+    told
 }
 
 fn tell_where_some(out: &mut Vec<u8>, window: &Option<Window>) -> Result<(), AllocError> {
@@ -70,15 +72,28 @@ pub fn tell_walk(
     passed: u32,
 ) -> Result<(), AllocError> {
     let mut windows = Windows::new(alloc, recording)?;
-    tell_next(alloc, out, &mut windows)?;
+    let told = tell_walked(alloc, out, &mut windows, passed);
+    drop(windows);
+    told
+}
+
+fn tell_walked(
+    alloc: Global,
+    out: &mut Vec<u8>,
+    windows: &mut Windows,
+    passed: u32,
+) -> Result<(), AllocError> {
+    tell_next(alloc, out, windows)?;
     windows.skip(passed)?;
-    tell_next(alloc, out, &mut windows)?;
-    tell_next(alloc, out, &mut windows)
+    tell_next(alloc, out, windows)?;
+    tell_next(alloc, out, windows)
 }
 
 fn tell_next(alloc: Global, out: &mut Vec<u8>, windows: &mut Windows) -> Result<(), AllocError> {
     let window = windows.next(alloc)?;
-    tell_where_some(out, &window)
+    let told = tell_where_some(out, &window);
+    drop(window);
+    told
 }
 
 fn tell_window(out: &mut Vec<u8>, window: &Window) -> Result<(), AllocError> {

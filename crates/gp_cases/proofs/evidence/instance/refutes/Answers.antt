@@ -1,7 +1,7 @@
 use Rattle.gp_cases.proofs.Asked.{valid_query}
 use Rattle.gp_cases.proofs.evidence.instance.refutes.Goals as goal
 
-pub check_certificate-requires-clause-asked : goal.check_certificate-requires-clause-asked
-check_certificate-requires-clause-asked c =
+pub check_certificate-passes-requires-clause-asked : goal.check_certificate-passes-requires-clause-asked
+check_certificate-passes-requires-clause-asked c =
     valid_query c.problems_are_valid.ensures c.args.encoded.now c.args.property.now c.args.instance.now.events c.problem-problem.result.now c.in_ok-query.query
     c.problem-problem.ensures.problem c.in_ok-query.ensures c.problem-problem.ensures.encodable.points c.requires.few c.requires.instance

@@ -24,10 +24,14 @@ fn no_way_out(points: u32) -> Rows<'static> {
     }
 }
 
-fn is_unit(got: &Option<SharedClause>, sender: u32, word: i32) -> bool {
-    match got {
-        Some(shared) => shared.sender == sender && are_lits(shared.clause.lits(), &[word]),
-        None => false,
+// Whether the unit clause of a sender and a word was got, or nothing where nothing is due.
+fn is_due(got: &Option<SharedClause>, due: Option<(u32, i32)>) -> bool {
+    match (got, due) {
+        (Some(shared), Some((sender, word))) => {
+            shared.sender == sender && are_lits(shared.clause.lits(), &[word])
+        }
+        (None, None) => true,
+        _ => false,
     }
 }
 
@@ -71,6 +75,23 @@ fn next<R: Wait>(rt: &R, inbox: &Inbox, pass: &mut Pass) -> Option<SharedClause>
     inbox.take(rt, pass)
 }
 
+// Takes the next clause, and tells whether it is the one that is due.
+fn takes<R: Wait>(rt: &R, inbox: &Inbox, pass: &mut Pass, due: Option<(u32, i32)>) -> bool
+    requires own { IsOf inbox.now pass.old }
+    requires takes { (view pass.old).takes ≡ true }
+    ensures own { IsOf inbox.now pass.new }
+    ensures same { (view pass.new).base ≡ (view pass.old).base }
+    ensures senders { (view pass.new).senders ≡ (view pass.old).senders }
+    ensures numbers { (view pass.new).numbers ≡ (view pass.old).numbers }
+    ensures takes { (view pass.new).takes ≡ true }
+    ensures pushed { (view pass.new).pushed ≡ (view pass.old).pushed }
+{
+    let got = next(rt, inbox, pass);
+    let due = is_due(&got, due);
+    drop(got);
+    due
+}
+
 // Three clauses of two senders, each through its own pass, and one more through the joined pass.
 fn exchange<R: Wait + Abort>(
     rt: &R,
@@ -89,26 +110,21 @@ fn exchange<R: Wait + Abort>(
     let mut two = two;
     let mut three = three;
     let mut taker = taker;
-    let none = next(rt, inbox, &mut taker);
+    let none = takes(rt, inbox, &mut taker, None);
     send(rt, alloc, inbox, base, &mut two, 2, 1);
     send(rt, alloc, inbox, base, &mut three, 3, 2);
     send(rt, alloc, inbox, base, &mut two, 2, 3);
-    let first = next(rt, inbox, &mut taker);
-    let second = next(rt, inbox, &mut taker);
-    let third = next(rt, inbox, &mut taker);
-    let empty = next(rt, inbox, &mut taker);
+    let first = takes(rt, inbox, &mut taker, Some((2, 1)));
+    let second = takes(rt, inbox, &mut taker, Some((3, 2)));
+    let third = takes(rt, inbox, &mut taker, Some((2, 3)));
+    let empty = takes(rt, inbox, &mut taker, None);
     inbox.rejoin(&mut taker, two);
     inbox.rejoin(&mut taker, three);
     send(rt, alloc, inbox, base, &mut taker, 3, 4);
-    let last = next(rt, inbox, &mut taker);
-    let end = next(rt, inbox, &mut taker);
-    none.is_none()
-        && is_unit(&first, 2, 1)
-        && is_unit(&second, 3, 2)
-        && is_unit(&third, 2, 3)
-        && empty.is_none()
-        && is_unit(&last, 3, 4)
-        && end.is_none()
+    let last = takes(rt, inbox, &mut taker, Some((3, 4)));
+    let end = takes(rt, inbox, &mut taker, None);
+    drop(taker);
+    none && first && second && third && empty && last && end
 }
 
 // Whether all that was pushed under the numbers of the pass was taken.
@@ -141,16 +157,14 @@ fn renew<R: Wait + Abort>(
     let mut two = two;
     let mut taker = taker;
     send(rt, alloc, inbox, first, &mut two, 2, 4);
-    let got = next(rt, inbox, &mut taker);
+    let got = takes(rt, inbox, &mut taker, Some((2, 4)));
     inbox.rejoin(&mut taker, two);
     inbox.rejoin(&mut taker, three);
     if !is_drained(rt, inbox, &mut taker) {
         return false;
     }
     match renewed(rt, alloc, inbox, &mut taker, second) {
-        Some((two, three)) => {
-            is_unit(&got, 2, 4) && exchange(rt, alloc, second, inbox, two, three, taker)
-        }
+        Some((two, three)) => exchange(rt, alloc, second, inbox, two, three, taker) && got,
         None => false,
     }
 }

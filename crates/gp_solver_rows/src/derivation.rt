@@ -2,6 +2,7 @@ ghost use Rattle.std.specs.Prelude.{◌≡◌, [], ◌∷◌, All, IsTrue};
 ghost use Rattle.gp_clause.specs.Clause.{NamesBelow};
 ghost use Rattle.gp_clause.specs.Problem.{IsValidProblem, IsValidQuery};
 ghost use Rattle.gp_certificate.specs.Certificate.{clauses_of};
+ghost use Rattle.gp_derivation.specs.Numbering.{CanBeNumbered};
 
 use crate::fixture::{
     Rows, are_lits, are_named, clause_of, is_asked, is_valid, problem_of, query_of, row_of,
@@ -88,11 +89,32 @@ pub fn are_steps(given: &[Step], lines: &[Line]) -> bool {
             .all(|(step, line)| is_step(step, line))
 }
 
+fn is_numbered_over(bases: u32, log: &[LogEntry], last: &Step) -> bool
+    ensures { IsTrue result → CanBeNumbered bases log.now last.now }
+{
+    can_be_numbered(bases, log, last)
+}
+
+/// The certificate that a last step stands for over so many base clauses and a log, where its steps can be numbered.
+pub fn cone_of(
+    rt: &impl Abort,
+    alloc: Global,
+    bases: u32,
+    log: &[LogEntry],
+    last: &Step,
+) -> Option<Certificate> {
+    if !is_numbered_over(bases, log, last) {
+        return None;
+    }
+    Some(cone(alloc, bases, log, last).expect(rt, "memory"))
+}
+
 // Whether the cone of a last step over three base clauses and a log has these steps.
 fn is_cone(rt: &impl Abort, alloc: Global, log: &[LogEntry], last: &Step, lines: &[Line]) -> bool {
-    assert!(rt; can_be_numbered(3, log, last));
-    let certificate = cone(alloc, 3, log, last).expect(rt, "memory");
-    are_steps(certificate.steps.as_slice(), lines)
+    let certificate = cone_of(rt, alloc, 3, log, last).expect(rt, "a cone");
+    let due = are_steps(certificate.steps.as_slice(), lines);
+    drop(certificate);
+    due
 }
 
 // A log over three base clauses, so that hint 3 names its first entry, the hints of a last step, and the cone of that.

@@ -2,13 +2,14 @@ ghost use Rattle.std.specs.Prelude.{◌≡◌};
 ghost use Rattle.gp_clause.specs.Problem.{IsValidProblem};
 ghost use Rattle.gp_clause.specs.Edge.{IsSolvable};
 
+use crate::derivation::cone_of;
 use crate::fixture::{
     EIGHT, FREE, Rows, are_kept, are_lits, is_asked, is_solvable, is_valid, lit, problem_of,
     query_of,
 };
 use gp_certificate::Step;
 use gp_clause::{Edge, Kind, Problem, Query};
-use gp_derivation::{LogEntry, can_be_numbered, cone};
+use gp_derivation::LogEntry;
 use gp_search::{NoMail, Search, Verdict};
 use std::alloc::Global;
 use std::process::Abort;
@@ -30,6 +31,14 @@ fn all_true(truth: &[bool], words: &[i32]) -> bool {
     words.iter().all(|word| is_true(truth, *word))
 }
 
+// Whether the last of these steps has this clause.
+fn end_with(steps: &[Step], lits: &[i32]) -> bool {
+    match steps {
+        [.., step] => are_lits(step.clause.lits(), lits),
+        [] => false,
+    }
+}
+
 // Whether the certificate that a step stands for over a log ends with this clause.
 fn ends_with(
     rt: &impl Abort,
@@ -43,15 +52,12 @@ fn ends_with(
     if clauses >= 1000 {
         return false;
     }
-    let clauses = clauses as u32;
-    if !can_be_numbered(clauses, log, last) {
+    let Some(certificate) = cone_of(rt, alloc, clauses as u32, log, last) else {
         return false;
-    }
-    let certificate = cone(alloc, clauses, log, last).expect(rt, "memory");
-    match certificate.steps.as_slice().last() {
-        Some(step) => are_lits(step.clause.lits(), lits),
-        None => false,
-    }
+    };
+    let ends = end_with(certificate.steps.as_slice(), lits);
+    drop(certificate);
+    ends
 }
 
 // Whether the verdict of a search with a log is the one that is due. The places of a model keep these edges.
@@ -158,7 +164,10 @@ fn all_answered(
 // Whether a search gives its whole log.
 fn gives_log(search: Search) -> bool {
     let length = search.log().len();
-    search.into_log().len() == length
+    let log = search.into_log();
+    let whole = log.len() == length;
+    drop(log);
+    whole
 }
 
 // Whether a search over a problem answers what it is asked as it is due, and gives its log.

@@ -226,7 +226,30 @@ fn work_on_three<R: Threads + Wait + Sync + Abort, G: Gate + Sync>(
     work
 }
 
-// The work of so many workers, one after another, on three queries that assume nothing, and the post for the next window.
+// The work of so many workers, one after another, on these queries, and the post for the next window.
+fn work_in_turn_on<R: Wait + Abort>(
+    rt: &R,
+    alloc: Global,
+    problem: &Problem,
+    queries: &[Query],
+    workers: u32,
+    post: Post,
+) -> (WindowWork, Post)
+    requires workers { (1 ≤ workers) × (workers ≤ 16) }
+    requires post { IsPost workers post }
+    ensures { IsPost workers result.1 }
+{
+    assert!(rt; is_valid(problem));
+    assert!(rt; is_solvable(&[], problem.edges.as_slice()));
+    assert!(rt; are_asked(problem, queries));
+    assert!(rt; are_few(problem, queries));
+    work_in_turn(
+        rt, alloc, problem, queries, workers, BUDGET, &FreeGate, post,
+    )
+    .expect(rt, "memory")
+}
+
+// Their work on three queries that assume nothing.
 fn work_in_turn_on_three<R: Wait + Abort>(
     rt: &R,
     alloc: Global,
@@ -239,13 +262,7 @@ fn work_in_turn_on_three<R: Wait + Abort>(
 {
     let problem = problem_of(rt, alloc, &ROWS);
     let queries = queries(rt, alloc);
-    let asked = queries.as_slice();
-    assert!(rt; is_valid(&problem));
-    assert!(rt; is_solvable(&[], problem.edges.as_slice()));
-    assert!(rt; are_asked(&problem, asked));
-    assert!(rt; are_few(&problem, asked));
-    let made = work_in_turn(rt, alloc, &problem, asked, workers, BUDGET, &FreeGate, post);
-    let made = made.expect(rt, "memory");
+    let made = work_in_turn_on(rt, alloc, &problem, queries.as_slice(), workers, post);
     drop(queries);
     drop(problem);
     made

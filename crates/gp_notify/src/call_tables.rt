@@ -32,17 +32,67 @@ impl CallTables {
         ensures { IfOk result (λ tables. AreCallTables window.now tables.wakes tables.notifies tables.wakers tables.signals) }
     {
         let calls = calls_of(alloc, window, points)?;
-        let called = calls.as_slice();
-        let wakes = wakes_of(alloc, window, called)?;
-        let notifies = notifies_of(alloc, window, called)?;
-        let wakers = wakers_of(alloc, window, called)?;
-        let signals = signals_of(alloc, window, called)?;
-        Ok(CallTables {
+        let tables = tables_of(alloc, window, calls.as_slice());
+        drop(calls);
+        tables
+    }
+}
+
+/// The tables of a window, of whose points these have calls.
+fn tables_of(alloc: Global, window: &Window, called: &[Point]) -> Result<CallTables, AllocError>
+    requires { called.now ≡ filter (λ p. is_some (call_at window.now p.id)) (points_of window.now) }
+    ensures { IfOk result (λ tables. AreCallTables window.now tables.wakes tables.notifies tables.wakers tables.signals) }
+{
+    let (wakes, notifies) = rows_of(alloc, window, called)?;
+    match groups_of(alloc, window, called) {
+        Ok((wakers, signals)) => Ok(CallTables {
             wakes,
             notifies,
             wakers,
             signals,
-        })
+        }),
+        Err(error) => {
+            drop((wakes, notifies));
+            Err(error)
+        }
+    }
+}
+
+/// The wakes, and the signals to one.
+fn rows_of(
+    alloc: Global,
+    window: &Window,
+    points: &[Point],
+) -> Result<(Row<Point>, Row<Point>), AllocError>
+    ensures wakes { IfOk result (λ rows. rows.0 ≡ filter (λ p. is_wake (call_at window.now p.id)) points.now) }
+    ensures notifies { IfOk result (λ rows. rows.1 ≡ filter (λ p. is_notify (call_at window.now p.id)) points.now) }
+{
+    let wakes = wakes_of(alloc, window, points)?;
+    match notifies_of(alloc, window, points) {
+        Ok(notifies) => Ok((wakes, notifies)),
+        Err(error) => {
+            drop(wakes);
+            Err(error)
+        }
+    }
+}
+
+/// The wakes and the signals, by condition.
+fn groups_of(
+    alloc: Global,
+    window: &Window,
+    points: &[Point],
+) -> Result<(Groups<Point>, Groups<Point>), AllocError>
+    ensures wakers { IfOk result (λ groups. (condition : List ℕ) → entry_at groups.0 condition ≡ wakes_on window.now points.now condition) }
+    ensures signals { IfOk result (λ groups. (condition : List ℕ) → entry_at groups.1 condition ≡ signals_in window.now points.now condition) }
+{
+    let wakers = wakers_of(alloc, window, points)?;
+    match signals_of(alloc, window, points) {
+        Ok(signals) => Ok((wakers, signals)),
+        Err(error) => {
+            drop(wakers);
+            Err(error)
+        }
     }
 }
 

@@ -43,8 +43,25 @@ fn add_signals(
     ensures signed { AreSigned (signals_of window.now) }
 {
     let tables = CallTables::of(alloc, window, points)?;
-    add_woken(alloc, into, window, points, &tables)?;
-    add_notified(alloc, into, window, &tables)
+    let added = add_by(alloc, window, points, &tables, into);
+    drop(tables);
+    added
+}
+
+/// The same by the tables of the window.
+fn add_by(
+    alloc: Global,
+    window: &Window,
+    points: &[Point],
+    tables: &CallTables,
+    into: &mut LimitedClauses,
+) -> Result<(), Full>
+    requires points { points.now ≡ points_of window.now }
+    requires tables { AreCallTables window.now tables.now.wakes tables.now.notifies tables.now.wakers tables.now.signals }
+    ensures { IsAdded result into.old into.new (signals_of window.now) }
+{
+    add_woken(alloc, into, window, points, tables)?;
+    add_notified(alloc, into, window, tables)
 }
 
 fn add_woken(

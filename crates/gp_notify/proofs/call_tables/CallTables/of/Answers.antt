@@ -1,8 +1,9 @@
-use Rattle.std.proofs.Common.{◌∙◌}
-use Rattle.gp_notify.proofs.Filtered.{tables_from}
+use Rattle.std.proofs.Common.{◌∙◌, List, ap}
+use Rattle.std.specs.Prelude.{filter, is_some}
+use Rattle.gp_constraint.specs.declared.point.Point.{Point}
+use Rattle.gp_notify.specs.Calls.{call_at}
 use Rattle.gp_notify.proofs.call_tables.CallTables.of.Goals as goal
 
-pub returns : goal.returns
-returns c =
-    tables_from c.args.window.now c.args.points.now c.as_slice-called.result.now c.in_ok-wakes.wakes c.in_ok-notifies.notifies c.in_ok-wakers.wakers c.in_ok-signals.signals
-    c.requires (c.as_slice-called.ensures ∙ c.in_ok-calls.ensures) c.in_ok-wakes.ensures c.in_ok-notifies.ensures c.in_ok-wakers.ensures c.in_ok-signals.ensures
+pub tables_of-tables-requires : goal.tables_of-tables-requires
+tables_of-tables-requires c =
+    c.as_slice.ensures ∙ c.in_ok-calls.ensures ∙ ap (λ (points : List Point). filter (λ p. is_some (call_at c.args.window.now p.id)) points) c.requires

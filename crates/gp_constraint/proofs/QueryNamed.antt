@@ -27,21 +27,26 @@ pub mentioned_after : (base own more : List Symbol) (s : Symbol) → more ≡ wi
     → AreMentioned (record { base = base; own = own }) (record { base = base; own = more }) (s ∷ [])
 mentioned_after base own more s is past = record { base = refl; all = ap (λ (ns : List Symbol). base ++ ns) is ∙ mention_after base own s past }
 
--- the names of the query, where the first mentions and then the others were made
-pub names_are : (window : WindowForm) (property : PropertyForm) (ids : List EventId) (start middle names : QueryNamesForm) (lits : List SymbolicLit)
+-- the mentions of one list and then of another
+pub both_mentioned : (start middle names : QueryNamesForm) (one other : List Symbol) → AreMentioned start middle one → AreMentioned middle names other → AreMentioned start names (one ++ other)
+both_mentioned start middle names one other first second = record {
+  base = second.base ∙ first.base;
+  all = second.all ∙ ap (λ (ns : List Symbol). with_mentions ns other) first.all ∙ sym (mentions_append (all_names start) one other);
+}
+
+-- the names of the query, where its symbols are mentioned
+pub names_are : (window : WindowForm) (property : PropertyForm) (ids : List EventId) (start names : QueryNamesForm) (lits : List SymbolicLit)
     → start ≡ record { base = names_in window; own = [] } → lits ≡ pattern_lits window property ids
-    → AreMentioned start middle (map (λ (lit : SymbolicLit). lit.symbol) lits)
-    → AreMentioned middle names (flat_map (sides_of window) (groups_of property.pattern ids))
+    → AreMentioned start names (map (λ (lit : SymbolicLit). lit.symbol) lits ++ flat_map (sides_of window) (groups_of property.pattern ids))
     → (names.base ≡ names_in window) × (all_names names ≡ query_names window property ids)
-names_are window property ids start middle names lits is these one other =
-    let sides : List Symbol = flat_map (sides_of window) (groups_of property.pattern ids) in (
-      other.base ∙ one.base ∙ ap (λ (n : QueryNamesForm). n.base) is,
-      other.all
-          ∙ ap (λ (ns : List Symbol). with_mentions ns sides) (one.all
-          ∙ ap (λ (n : QueryNamesForm). with_mentions (all_names n) (map (λ (lit : SymbolicLit). lit.symbol) lits)) is
-          ∙ ap (λ (ns : List Symbol). with_mentions ns (map (λ (lit : SymbolicLit). lit.symbol) lits)) (append-nil (names_in window))
-          ∙ ap (λ (ls : List SymbolicLit). with_mentions (names_in window) (map (λ (lit : SymbolicLit). lit.symbol) ls)) these)
-          ∙ sym (mentions_append (names_in window) (map (λ (lit : SymbolicLit). lit.symbol) (pattern_lits window property ids)) sides),
+names_are window property ids start names lits is these are =
+    let sides : List Symbol = flat_map (sides_of window) (groups_of property.pattern ids) in
+    let all : List SymbolicLit → List Symbol = λ ls. map (λ (lit : SymbolicLit). lit.symbol) ls ++ sides in (
+      are.base ∙ ap (λ (n : QueryNamesForm). n.base) is,
+      are.all
+          ∙ ap (λ (n : QueryNamesForm). with_mentions (all_names n) (all lits)) is
+          ∙ ap (λ (ns : List Symbol). with_mentions ns (all lits)) (append-nil (names_in window))
+          ∙ ap (λ (ls : List SymbolicLit). with_mentions (names_in window) (all ls)) these,
     )
 
 pub query_is : (window : WindowForm) (property : PropertyForm) (ids : List EventId) (names : QueryNamesForm) (lits : List SymbolicLit) (locals : List Kind) (assumed : List Lit)

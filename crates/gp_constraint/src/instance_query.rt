@@ -33,7 +33,9 @@ pub fn query(
     let ids = instance.events.as_slice();
     let lits = pattern_lits(alloc, encoded, property, ids)?;
     let names = query_names(alloc, encoded, property, ids, lits.as_slice())?;
-    numbered_query(alloc, &names, encoded, ids, lits.as_slice())
+    let query = numbered_query(alloc, &names, encoded, ids, lits.as_slice());
+    drop((names, lits));
+    query
 }
 
 /// The query of events and literals by the numbers of its symbols.
@@ -63,7 +65,9 @@ pub fn query_symbols(
     let ids = instance.events.as_slice();
     let lits = pattern_lits(alloc, encoded, property, ids)?;
     let names = query_names(alloc, encoded, property, ids, lits.as_slice())?;
-    names.all(alloc)
+    let symbols = names.all(alloc);
+    drop((names, lits));
+    symbols
 }
 
 /// The names of a query whose pattern has these literals.
@@ -79,9 +83,27 @@ fn query_names<'a>(
     ensures all { IfOk result (λ names. all_names names ≡ query_names encoded.now property.now ids.now) }
 {
     let mut names = QueryNames::new(alloc, encoded.names());
-    mention_lits(&mut names, lits)?;
-    mention_sides(&mut names, encoded, property.pattern(), ids)?;
-    Ok(names)
+    match mention_all(&mut names, encoded, property.pattern(), ids, lits) {
+        Ok(()) => Ok(names),
+        Err(error) => {
+            drop(names);
+            Err(error)
+        }
+    }
+}
+
+/// The symbols of literals, and then the sides of each group.
+fn mention_all(
+    names: &mut QueryNames<'_>,
+    encoded: &Encoded,
+    pattern: &[PatternStep],
+    ids: &[EventId],
+    lits: &[SymbolicLit],
+) -> Result<(), AllocError>
+    ensures { OnOk result (AreMentioned names.old names.new (map (λ lit. lit.symbol) lits.now ++ flat_map (sides_of encoded.now) (groups_of pattern.now ids.now))) }
+{
+    mention_lits(names, lits)?;
+    mention_sides(names, encoded, pattern, ids)
 }
 
 fn holds(symbol: Symbol) -> SymbolicLit

@@ -52,10 +52,22 @@ impl Names {
         ensures { IfOk result (λ copy. copy ≡ with_mentions [] self.now) }
     {
         let mut copy = Names::new(alloc);
-        for symbol in self.set.as_slice() {
-            copy.number(*symbol)?;
+        match copy.number_all(self.set.as_slice()) {
+            Ok(()) => Ok(copy),
+            Err(error) => {
+                drop(copy);
+                Err(error)
+            }
         }
-        Ok(copy)
+    }
+
+    fn number_all(&mut self, symbols: &[Symbol]) -> Result<(), AllocError>
+        ensures { OnOk result (self.new ≡ with_mentions self.old symbols.now) }
+    {
+        for symbol in symbols {
+            self.number(*symbol)?;
+        }
+        Ok(())
     }
 
     /// The number of a symbol, which is mentioned. More symbols than can be counted want more memory than there is.

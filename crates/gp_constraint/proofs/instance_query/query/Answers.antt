@@ -24,11 +24,11 @@ returns c =
     let lits : List SymbolicLit = c.in_ok-lits.lits in
     let names : QueryNamesForm = c.in_ok-names.names in
     let given : List SymbolicLit = c.as_slice-2.result.now in
-    IfOk-weaker c.numbered_query.result
+    IfOk-weaker c.numbered_query-query.result
     (λ (query : Query). query ≡ record { locals = map kind_of names.own; assumed = map (numbered_lit (all_names names)) (executed_lits window ids ++ given) })
     (λ (query : Query). query ≡ query_of window property c.args.instance.now.events)
     (λ query is. is
     ∙ query_is window property ids names given (map kind_of names.own) (map (numbered_lit (all_names names)) (executed_lits window ids ++ given))
     (c.in_ok-names.ensures.base, c.in_ok-names.ensures.all) (c.as_slice-2.ensures ∙ c.in_ok-lits.ensures) refl refl
     ∙ ap (λ (es : List EventId). query_of window property es) c.as_slice-ids.ensures)
-    c.numbered_query.ensures
+    c.numbered_query-query.ensures

@@ -1,6 +1,0 @@
-use Rattle.std.proofs.Common.{◌≡◌, [], drop}
-use Rattle.gp_constraint.specs.Numbering.{with_mentions}
-use Rattle.gp_constraint.proofs.naming.Names.copy.Given as goal
-
-abbrev pub invariant-loop-symbol : goal.invariant-loop-symbol
-invariant-loop-symbol l = with_mentions l.copy (drop l.symbol-index l.symbol-items) ≡ with_mentions [] l.self

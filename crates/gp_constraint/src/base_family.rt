@@ -47,8 +47,14 @@ pub fn family_size(
     ensures { IfOk result (λ size. size ≡ length (family_clauses encoded.now family)) }
 {
     let points = points_of(alloc, encoded)?;
-    match clauses_in(alloc, encoded.window(), &points, family) {
-        Ok(clauses) => Ok(clauses.clauses().len()),
+    let clauses = clauses_in(alloc, encoded.window(), &points, family);
+    drop(points);
+    match clauses {
+        Ok(clauses) => {
+            let size = clauses.clauses().len();
+            drop(clauses);
+            Ok(size)
+        }
         Err(_) => Err(AllocError),
     }
 }
@@ -63,8 +69,13 @@ fn clauses_in(
     ensures { IfOk result (λ limited. limited.clauses ≡ clauses_in window.now points.now family) }
 {
     let mut clauses = LimitedClauses::new(alloc);
-    add_family(alloc, &mut clauses, window, points, family)?;
-    Ok(clauses)
+    match add_family(alloc, &mut clauses, window, points, family) {
+        Ok(()) => Ok(clauses),
+        Err(full) => {
+            drop(clauses);
+            Err(full)
+        }
+    }
 }
 
 fn add_family(

@@ -79,7 +79,11 @@ pub fn extended<F: Family>(
     ensures { result ≢ Err BaseFault.Memory → result ≡ extended_due encoded (F.clauses family.now encoded) }
 {
     match further(alloc, &encoded, family) {
-        Ok(more) => Ok(extend(alloc, encoded, more.clauses())?),
+        Ok(more) => {
+            let extended = extend(alloc, encoded, more.clauses());
+            drop(more);
+            Ok(extended?)
+        }
         Err(fault) => {
             drop(encoded);
             Err(fault)

@@ -53,7 +53,9 @@ pub fn extended_beside<F: Family>(
     ensures { result ≢ Err BaseFault.Memory → result ≡ extension_due encoded.now (F.clauses family.now encoded.now) }
 {
     let more = further(alloc, encoded, family)?;
-    Ok(beside(alloc, encoded, more.clauses())?)
+    let extension = beside(alloc, encoded, more.clauses());
+    drop(more);
+    Ok(extension?)
 }
 
 /// Clauses by their variables, behind copies of those that are encoded.

@@ -46,7 +46,11 @@ fn parts(alloc: Global, window: &Window) -> Result<Parts, BaseFault>
     }
     let points = Points::of(alloc, window)?;
     match all_families(alloc, window, &points) {
-        Ok(clauses) => Ok(encode(alloc, window, points.into_row(), clauses.as_slice())?),
+        Ok(clauses) => {
+            let parts = encode(alloc, window, points.into_row(), clauses.as_slice());
+            drop(clauses);
+            Ok(parts?)
+        }
         Err(full) => {
             drop(points);
             match full {

@@ -74,14 +74,24 @@ impl Draft {
     fn add(self, alloc: Global, vocabulary: &Vocabulary, step: &Step) -> Result<Draft, AllocError>
         ensures { IfOk result (λ next. next ≡ after_step vocabulary.now.window vocabulary.now.names vocabulary.now.clauses true self step.now) }
     {
-        let Draft {
-            mut steps,
-            mut places,
-        } = self;
-        let told = step_of(alloc, vocabulary, places.as_slice(), step)?;
-        places.push(Some(steps.len() as u64))?;
-        steps.push(told)?;
-        Ok(Draft { steps, places })
+        let mut draft = self;
+        match draft.put(alloc, vocabulary, step) {
+            Ok(()) => Ok(draft),
+            Err(error) => {
+                drop(draft);
+                Err(error)
+            }
+        }
+    }
+
+    /// Puts what the next step says behind the others.
+    fn put(&mut self, alloc: Global, vocabulary: &Vocabulary, step: &Step) -> Result<(), AllocError>
+        ensures { OnOk result (self.new ≡ after_step vocabulary.now.window vocabulary.now.names vocabulary.now.clauses true self.old step.now) }
+    {
+        let place = self.steps.len() as u64;
+        let told = step_of(alloc, vocabulary, self.places.as_slice(), step)?;
+        self.steps.push(told)?;
+        self.places.push(Some(place))
     }
 
     fn skip(self) -> Result<Draft, AllocError>
@@ -102,11 +112,20 @@ fn step_of(
 ) -> Result<ReasonStep, AllocError>
     ensures { IfOk result (λ told. told ≡ step_of vocabulary.now.window vocabulary.now.names vocabulary.now.clauses (place_at places.now) (length places.now) step.now) }
 {
+    let says = vocabulary.facts(alloc, step.clause.lits())?;
+    let Ok(grounds) = grounds_of(alloc, vocabulary, places, step.hints.as_slice()) else {
+        drop(says);
+        return Err(AllocError);
+    };
+    let Ok(cycle) = cycle_told(alloc, vocabulary, places.len(), step) else {
+        drop((says, grounds));
+        return Err(AllocError);
+    };
     Ok(ReasonStep {
         number: places.len() as u64,
-        says: vocabulary.facts(alloc, step.clause.lits())?,
-        grounds: grounds_of(alloc, vocabulary, places, step.hints.as_slice())?,
-        cycle: cycle_told(alloc, vocabulary, places.len(), step)?,
+        says,
+        grounds,
+        cycle,
     })
 }
 

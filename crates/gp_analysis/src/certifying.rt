@@ -101,6 +101,7 @@ fn over_list(
 {
     let steps = certificate.steps;
     if !have_numbers(moved.sizes.clauses, moved.list.len(), steps.len()) {
+        drop(steps);
         return Err(AllocError);
     }
     let steps = compact_steps(alloc, moved.sizes, &moved.list, steps)?;

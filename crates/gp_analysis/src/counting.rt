@@ -212,7 +212,11 @@ fn listed_count<Q: Question>(
     ensures { IfOk result (λ count. count ≡ listed_count ((Q.form question.now).asks window.now subject.now number)) }
 {
     match question.asks(alloc, window, subject, number) {
-        Ok(asks) => Ok(asks.len() as u64),
+        Ok(asks) => {
+            let count = asks.len() as u64;
+            drop(asks);
+            Ok(count)
+        }
         Err(InstancesFault::TooMany) => Ok(0),
         Err(InstancesFault::Memory) => Err(AllocError),
     }

@@ -1,4 +1,4 @@
-ghost use Rattle.std.specs.Prelude.{◌≡◌, ◌<◌, ◌≤◌, ◌+◌, All, IfOk, length};
+ghost use Rattle.std.specs.Prelude.{◌≡◌, ◌<◌, ◌≤◌, ◌+◌, [], All, IfOk, OnOk, length};
 ghost use Rattle.gp_window.specs.Ahead.{AreAhead};
 ghost use Rattle.gp_window.specs.WindowForm.{window_of};
 ghost use Rattle.gp_tickets.specs.Drawn.{numbers_of};
@@ -79,6 +79,37 @@ fn recorded_ahead<'a, R: Threads + Wait + Sync, G: Gate + Sync, Q: Question>(
     ensures records { IfOk result (λ made. All (RecordsOwn (Q.form task.now.question.now) task.now.telling recording.now task.now.workers task.now.budget) made.items) }
 {
     let mut made = Vec::new(alloc);
+    match record_all(
+        rt, alloc, recording, task, tickets, drawer, ahead, &mut made,
+    ) {
+        Ok(()) => Ok(made),
+        Err(error) => {
+            drop(made);
+            Err(error)
+        }
+    }
+}
+
+// Records the windows that a drawer draws, in the order in which it draws them.
+fn record_all<'a, R: Threads + Wait + Sync, G: Gate + Sync, Q: Question>(
+    rt: &R,
+    alloc: Global,
+    recording: &'a Recording,
+    task: &Instructions<'_, Q, G>,
+    tickets: &Tickets,
+    drawer: &mut Drawer,
+    ahead: &mut WindowsAhead<'a>,
+    made: &mut Vec<Made<WindowRecordOf<Q::Shown>>>,
+) -> Result<(), AllocError>
+    requires can { CanBeAnalysed (Q.form task.now.question.now) recording.now task.now.workers task.now.budget }
+    requires count { tickets.now.count ≡ recording.now.manifest.epochs }
+    requires drawer { IsUnused tickets.now drawer.old }
+    requires ahead { AreAhead recording.now ahead.old }
+    requires none { made.old.items ≡ [] }
+    ensures drawer { OnOk result (IsSingle tickets.now 1 drawer.new) }
+    ensures numbers { OnOk result (numbers_of made.new.items ≡ (hand_of drawer.new).drawn) }
+    ensures records { OnOk result (All (RecordsOwn (Q.form task.now.question.now) task.now.telling recording.now task.now.workers task.now.budget) made.new.items) }
+{
     let mut order = Order::InTurn(Post::none(alloc));
     while let Some(number) = tickets.draw(drawer) {
         let k = window_number(recording, number);
@@ -90,7 +121,7 @@ fn recorded_ahead<'a, R: Threads + Wait + Sync, G: Gate + Sync, Q: Question>(
         order = next;
     }
     drop(order);
-    Ok(made)
+    Ok(())
 }
 
 // The number of the window of a ticket.

@@ -6,7 +6,7 @@ use Rattle.gp_tickets.specs.Hand.{drew}
 use Rattle.gp_tickets.specs.Tickets.{hand_of}
 use Rattle.gp_tickets.specs.TicketLaws.{fewer_drawn, still_single}
 use Rattle.gp_analysis.proofs.Drawing.{fewer_left, next_drawn}
-use Rattle.gp_analysis.proofs.drawn.recorded_ahead.Goals as goal
+use Rattle.gp_analysis.proofs.drawn.record_all.Goals as goal
 
 pub loop-number-preserved : goal.loop-number-preserved
 loop-number-preserved g c =

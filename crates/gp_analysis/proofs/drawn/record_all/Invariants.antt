@@ -4,7 +4,7 @@ use Rattle.gp_tickets.specs.Drawn.{numbers_of}
 use Rattle.gp_tickets.specs.Tickets.{IsSingle, hand_of}
 use Rattle.gp_analysis.specs.Drawn.{RecordsOwn}
 use Rattle.gp_analysis.specs.Task.{IsOrder}
-use Rattle.gp_analysis.proofs.drawn.recorded_ahead.Given as goal
+use Rattle.gp_analysis.proofs.drawn.record_all.Given as goal
 
 abbrev pub decreases-loop-number : goal.decreases-loop-number
 decreases-loop-number g l = l.tickets.count - length (hand_of l.drawer).drawn

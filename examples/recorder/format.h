@@ -11,7 +11,7 @@
 
 enum { MOST_THREADS = 64, LONGEST_WORD = 4096, RECORD_BYTES = 32, HEAD_RECORDS = 32, GRANULE = 8 };
 
-#define LOG_MAGIC "gplog 3"
+#define LOG_MAGIC "gplog 4"
 
 enum kind {
     NOTHING, /* a place in the log that is passed over */
@@ -43,7 +43,7 @@ enum kind {
     BEGIN,
     END,
     /* Memory. `address` and `old` are the beginning and the size. */
-    BLOCK,
+    BLOCK, /* `new` is the place in the program behind the call that made it */
     FREE,
     STACK,
     MODULE, /* a file of the program with symbols, loaded at `address`: `more` is its path */

@@ -17,9 +17,20 @@ void *__libc_realloc(void *block, size_t size);
 void *__libc_memalign(size_t align, size_t size);
 void __libc_free(void *block);
 
-static void *made(struct thread *me, void *block, size_t size) {
-    if (block) append(me, BLOCK, block)->old = size;
+static void *made(struct thread *me, void *block, size_t size, void *caller) {
+    if (block) {
+        struct record *record = append(me, BLOCK, block);
+        record->old = size;
+        record->new = (uintptr_t)caller;
+    }
     if (block && following) block_made((uintptr_t)block, size);
+    return block;
+}
+
+/* The block that the call before this made was made for the caller of another one. */
+static void *made_for(void *block, void *caller) {
+    struct thread *me = self;
+    if (block && me && !me->inside && records[me->last_record].kind == BLOCK) records[me->last_record].new = (uintptr_t)caller;
     return block;
 }
 
@@ -33,7 +44,7 @@ static void ended(struct thread *me, void *block, size_t size) {
     API void *name parameters { \
         struct thread *me = enter(); \
         if (!me) return call; \
-        LEAVE_WITH(me, made(me, call, size)); \
+        LEAVE_WITH(me, made(me, call, size, __builtin_return_address(0))); \
     }
 
 MAKES(malloc, (size_t size), size, __libc_malloc(size))
@@ -47,7 +58,7 @@ API int posix_memalign(void **place, size_t align, size_t size) {
     struct thread *me = enter();
     void *block = __libc_memalign(align, size);
     if (me) {
-        made(me, block, size);
+        made(me, block, size, __builtin_return_address(0));
         if (block) note_write(me, place, sizeof *place);
     }
     if (block) *place = block;
@@ -70,7 +81,7 @@ API void *realloc(void *block, size_t size) {
         note_read(me, block, before < size ? before : size);
         ended(me, block, before);
     }
-    LEAVE_WITH(me, made(me, __libc_realloc(block, size), size));
+    LEAVE_WITH(me, made(me, __libc_realloc(block, size), size, __builtin_return_address(0)));
 }
 
 API void *reallocarray(void *block, size_t count, size_t size) {
@@ -78,13 +89,13 @@ API void *reallocarray(void *block, size_t count, size_t size) {
         errno = ENOMEM;
         return NULL;
     }
-    return realloc(block, count * size);
+    return made_for(realloc(block, count * size), __builtin_return_address(0));
 }
 
 /* ---- Copies of strings, which are blocks ---- */
 
-static char *copy_string(const char *text, size_t length) {
-    char *block = malloc(length + 1);
+static char *copy_string(const char *text, size_t length, void *caller) {
+    char *block = made_for(malloc(length + 1), caller);
     struct thread *me = block ? enter() : NULL;
     if (block) {
         REAL(memcpy)(block, text, length);
@@ -96,13 +107,13 @@ static char *copy_string(const char *text, size_t length) {
     LEAVE_WITH(me, block);
 }
 
-API char *strdup(const char *text) { return copy_string(text, REAL(strlen)(text)); }
+API char *strdup(const char *text) { return copy_string(text, REAL(strlen)(text), __builtin_return_address(0)); }
 API char *__strdup(const char *text);
-API char *__strdup(const char *text) { return strdup(text); }
+API char *__strdup(const char *text) { return copy_string(text, REAL(strlen)(text), __builtin_return_address(0)); }
 
 API char *strndup(const char *text, size_t most) {
     size_t length = REAL(strnlen)(text, most);
-    char *block = malloc(length + 1);
+    char *block = made_for(malloc(length + 1), __builtin_return_address(0));
     if (!block) return NULL;
     memcpy(block, text, length);
     block[length] = 0;
@@ -111,17 +122,18 @@ API char *strndup(const char *text, size_t most) {
 
 /* ---- Pages ---- */
 
-static void *mapped(struct thread *me, void *pages, size_t size) {
+static void *mapped(struct thread *me, void *pages, size_t size, void *caller) {
     if (pages == MAP_FAILED) return pages;
     forget_range((uintptr_t)pages, size);
-    return made(me, pages, size);
+    return made(me, pages, size, caller);
 }
 
 #define MAPS(name, offset_type) \
     API void *name(void *wanted, size_t size, int protection, int flags, int file, offset_type offset) { \
         struct thread *me = enter(); \
         if (!me) return REAL(name)(wanted, size, protection, flags, file, offset); \
-        LEAVE_WITH(me, mapped(me, REAL(name)(wanted, size, protection, flags, file, offset), size)); \
+        void *pages = REAL(name)(wanted, size, protection, flags, file, offset); \
+        LEAVE_WITH(me, mapped(me, pages, size, __builtin_return_address(0))); \
     }
 
 MAPS(mmap, off_t)
@@ -142,7 +154,7 @@ API void *mremap(void *pages, size_t before, size_t size, int flags, ...) {
     struct thread *me = enter();
     if (!me) return REAL(mremap)(pages, before, size, flags, wanted);
     ended(me, pages, before);
-    LEAVE_WITH(me, mapped(me, REAL(mremap)(pages, before, size, flags, wanted), size));
+    LEAVE_WITH(me, mapped(me, REAL(mremap)(pages, before, size, flags, wanted), size, __builtin_return_address(0)));
 }
 
 /* Behind these calls the bytes may be gone, or not be read: so the last write is read back before them. */

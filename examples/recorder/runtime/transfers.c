@@ -133,11 +133,12 @@ FROM_STREAM(int, fgetc, (FILE * stream), , stream)
 FROM_STREAM(int, getc, (FILE * stream), , stream)
 
 /* The block of a line is made by the C library itself, whose own calls do not come through us. */
-static void note_line(struct thread *me, char **line, const char *before, ssize_t length) {
+static void note_line(struct thread *me, char **line, const char *before, ssize_t length, void *caller) {
     note_written(me, line, sizeof *line);
     if (*line && *line != before) {
         struct record *record = append(me, BLOCK, *line);
         record->old = (uint64_t)length + 1;
+        record->new = (uintptr_t)caller;
     }
     if (length >= 0) note_written(me, *line, (size_t)length + 1);
 }
@@ -149,7 +150,7 @@ static void note_line(struct thread *me, char **line, const char *before, ssize_
         const char *before = *line; \
         ssize_t made = BY_DESCRIPTOR(me, fileno(stream), name, __VA_ARGS__); \
         int error = errno; \
-        note_line(me, line, before, made); \
+        note_line(me, line, before, made, __builtin_return_address(0)); \
         errno = error; \
         LEAVE_WITH(me, made); \
     }

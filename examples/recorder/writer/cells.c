@@ -283,6 +283,7 @@ static void choose_cells(uint64_t most_alike) {
 }
 
 void find_cells(const struct log *log, uint64_t most_alike) {
+    read_modules(log);
     find_instances(log);
     begin_walk();
     collecting = true;
@@ -291,9 +292,9 @@ void find_cells(const struct log *log, uint64_t most_alike) {
     for (const struct record *record = log->records + HEAD_RECORDS; record < end; record = behind(log, record)) {
         if (record->kind == FREE) {
             walk(record);
-            note_object(log, record);
+            note_object(record);
         } else {
-            note_object(log, record);
+            note_object(record);
             walk(record);
         }
     }

@@ -114,7 +114,7 @@ static void print_deed(const struct log *log, const struct step *steps, const st
     const struct record *end = log->records + log->count, *found = NULL;
     for (const struct record *record = log->records + HEAD_RECORDS; record < end && !found; record = behind(log, record)) {
         uint64_t at = (uint64_t)(record - log->records);
-        note_object(log, record);
+        note_object(record);
         bool is_told = record->kind < sizeof kinds / sizeof *kinds && kinds[record->kind];
         if (at >= follow->left_at && record->thread == follow->left_thread && is_told) found = record;
     }

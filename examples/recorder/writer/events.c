@@ -76,7 +76,7 @@ static void find_wrong_locks(const struct log *log) {
     forget_objects();
     const struct record *end = log->records + log->count;
     for (const struct record *record = log->records + HEAD_RECORDS; record < end; record = behind(log, record)) {
-        note_object(log, record);
+        note_object(record);
         if (is_lock(record)) check_lock(lock_of(name_at(record)), record);
     }
 }
@@ -298,7 +298,7 @@ struct events make_events(const struct log *log) {
         if (record->kind == FREE) add_free(record);
         if (record->kind == PAUSED) add(0, A_PAUSE, 0, 0);
         if (record->kind == RESUMED) add(0, A_STRETCH, 0, 0);
-        note_object(log, record);
+        note_object(record);
         add_record(log, record);
     }
     return events;

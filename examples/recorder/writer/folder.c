@@ -141,7 +141,7 @@ static void close_file(FILE *file, const char *name) {
 static bool is_old(const char *name) {
     unsigned number;
     int end = 0;
-    static const char *const names[] = {"schedule", "report", "run", "confirmed"};
+    static const char *const names[] = {"schedule", "report", "run", "confirmed", "names"};
     for (size_t i = 0; i < sizeof names / sizeof *names; i++)
         if (!strcmp(name, names[i])) return true;
     return sscanf(name, "t%u.trace%n", &number, &end) == 1 && end && !name[end];
@@ -246,4 +246,10 @@ void write_folder(const struct words *words, const struct folder *folder, const 
     write_run(words, file);
     close_file(file, "run");
     if (words->schedule) write_schedule(words, events, &windows->list[words->schedule - 1]);
+}
+
+void write_names(const char *folder) {
+    FILE *file = open_file(folder, "names");
+    print_names(file);
+    close_file(file, "names");
 }

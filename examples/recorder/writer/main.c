@@ -126,6 +126,7 @@ static int write_recording(const struct words *words, const struct log *log, str
     tell_all(words, log, &made.folder, &made.events, made.folded);
     tell_unpaired(&made.events, &made.windows, made.folder.windows);
     tell_ending(log, ending);
+    write_names(words->folder);
     if (ending.signal || ending.status) return STATUS_NOT_WELL;
     return words->strict && is_anything_left() ? STATUS_LEFT_OUT : STATUS_RECORDED;
 }

@@ -1,10 +1,14 @@
-/* A name for each object and each place in one: from the symbol table, or by a number; and for each word. */
+/* A name for each object and each place in one: from the symbol table and the debug information, or by a number; and for
+ * each word. That of a place is made of a long name, which the file `names` of the folder tells. */
 #include <stdlib.h>
 #include <string.h>
 
 #include "writer.h"
 
+enum { LEAST_FRONT = 8 };
+
 static char (*texts)[MOST_NAME + 1];
+static char **long_names; /* of each text, where it is that of a place */
 static size_t text_count;
 
 /* ---- A table from keys to names ---- */
@@ -56,15 +60,16 @@ static uint32_t give(struct entry *entry, const struct key *key, uint32_t name) 
 
 /* ---- Texts ---- */
 
+static char plain_letter(char letter) {
+    if (letter >= 'A' && letter <= 'Z') letter = (char)(letter - 'A' + 'a');
+    bool keeps = (letter >= 'a' && letter <= 'z') || (letter >= '0' && letter <= '9');
+    return keeps ? letter : '_';
+}
+
 /* Small letters, digits and low lines, at most as many as a name has. */
 static void plain(char *to, const char *word) {
     size_t length = 0;
-    for (; word[length] && length < MOST_NAME; length++) {
-        char letter = word[length];
-        if (letter >= 'A' && letter <= 'Z') letter = (char)(letter - 'A' + 'a');
-        bool keeps = (letter >= 'a' && letter <= 'z') || (letter >= '0' && letter <= '9');
-        to[length] = keeps ? letter : '_';
-    }
+    for (; word[length] && length < MOST_NAME; length++) to[length] = plain_letter(word[length]);
     if (!length) to[length++] = '_';
     to[length] = 0;
 }
@@ -83,9 +88,11 @@ static struct key text_key(enum key_kind kind, const char *text) {
     return key;
 }
 
-static uint32_t add_text(const char *text) {
+static uint32_t add_text(const char *text, char *long_name) {
     texts = room_for(texts, text_count, sizeof *texts);
+    long_names = room_for(long_names, text_count, sizeof *long_names);
     snprintf(texts[text_count], sizeof *texts, "%s", text);
+    long_names[text_count] = long_name;
     return (uint32_t)text_count++;
 }
 
@@ -95,7 +102,7 @@ static bool is_taken(const char *text) {
 }
 
 /* The text as a name that no place has yet. */
-static uint32_t unlike(const char *text) {
+static uint32_t unlike(const char *text, char *long_name) {
     char made[MOST_NAME + 1], ending[16];
     snprintf(made, sizeof made, "%s", text);
     for (unsigned count = 2; is_taken(made); count++) {
@@ -103,7 +110,7 @@ static uint32_t unlike(const char *text) {
         shorten(made, text, ending);
     }
     struct key key = text_key(TAKEN, made);
-    return give(find(&key), &key, add_text(made));
+    return give(find(&key), &key, add_text(made, long_name));
 }
 
 /* ---- Places ---- */
@@ -114,33 +121,76 @@ static void numbered(char *to, const char *word) {
     snprintf(to, MOST_NAME + 1, "%s%u", word, ++counts[which]);
 }
 
-static void base_of(char *to, struct place place) {
-    if (place.kind == SYMBOL) {
-        plain(to, symbol_name(place.object));
-        return;
-    }
+static void write_heap_front(FILE *to, struct place place) {
+    char text[MOST_NAME + 1];
     struct key key = {BASE, {place.object}};
     struct entry *entry = find(&key);
     if (!entry->name) {
-        numbered(to, "heap");
-        give(entry, &key, add_text(to));
-        return;
+        numbered(text, "heap");
+        give(entry, &key, add_text(text, NULL));
     }
-    snprintf(to, MOST_NAME + 1, "%s", texts[entry->name - 1]);
+    fputs(texts[find(&key)->name - 1], to);
+}
+
+/* Of a long name that has no room the front loses its end, down to some letters, and then the back its beginning. */
+static void short_name(char *to, const char *front, const char *back) {
+    char *spelled = malloc(strlen(back) + 1);
+    if (!spelled) fail(STATUS_NOTHING, "there is not enough memory to write the recording");
+    size_t length = 0, front_length = *front ? strlen(front) : 1;
+    for (; *back; back++)
+        if (*back != ']') spelled[length++] = plain_letter(*back);
+    size_t most = length < MOST_NAME - LEAST_FRONT ? MOST_NAME - length : LEAST_FRONT;
+    if (front_length > most) front_length = most;
+    size_t rest = length < MOST_NAME - front_length ? length : MOST_NAME - front_length;
+    plain(to, front);
+    memcpy(to + front_length, spelled + length - rest, rest);
+    to[front_length + rest] = 0;
+    free(spelled);
+}
+
+/* What a place is called, to be freed; how much of it is the front. */
+static char *long_name_of(struct place place, size_t *front) {
+    char *text = NULL, made[MOST_NAME + 1];
+    size_t size;
+    FILE *to = open_memstream(&text, &size);
+    if (!to) fail(STATUS_NOTHING, "there is not enough memory to write the recording");
+    if (place.kind == LOCAL || place.kind == OTHER) {
+        numbered(made, place.kind == LOCAL ? "local" : "other");
+        fputs(made, to);
+    } else if (place.kind == HEAP && !is_told_block(place)) {
+        write_heap_front(to, place);
+    } else {
+        write_front(to, place);
+    }
+    fflush(to);
+    *front = size;
+    if (place.kind == SYMBOL || place.kind == HEAP) write_back(to, place);
+    if (fclose(to)) fail(STATUS_NOTHING, "there is not enough memory to write the recording");
+    return text;
+}
+
+/* What stands behind the long name of what is not the first thing, or no memory, at its place. */
+static char *add_use(char *long_name, uint32_t generation, enum name_use use) {
+    char *made = long_name;
+    if (!generation && use == OF_MEMORY) return long_name;
+    const char *format = generation ? "%s (%s %u)" : "%s (%s)";
+    if (asprintf(&made, format, long_name, use == OF_NUMBER ? "number" : "variable", generation + 1) < 0)
+        fail(STATUS_NOTHING, "there is not enough memory to write the recording");
+    free(long_name);
+    return made;
 }
 
 uint32_t name_of_place(struct place place, uint32_t generation, enum name_use use) {
     struct key key = {PLACED, {place.object, place.offset, generation, place.kind | (uint64_t)use << 8}};
     if (find(&key)->name) return find(&key)->name - 1;
-    char base[MOST_NAME + 1], made[MOST_NAME + 1], ending[24] = "";
-    if (place.kind == LOCAL || place.kind == OTHER) {
-        numbered(made, place.kind == LOCAL ? "local" : "other");
-    } else {
-        base_of(base, place);
-        if (place.offset) snprintf(ending, sizeof ending, "_%lu", place.offset);
-        shorten(made, base, ending);
-    }
-    uint32_t name = unlike(made);
+    size_t length;
+    char *long_name = long_name_of(place, &length), made[MOST_NAME + 1];
+    char *front = strndup(long_name, length);
+    if (!front) fail(STATUS_NOTHING, "there is not enough memory to write the recording");
+    short_name(made, front, long_name + length);
+    free(front);
+    bool is_numbered = place.kind == LOCAL || place.kind == OTHER;
+    uint32_t name = unlike(made, is_numbered ? long_name : add_use(long_name, generation, use));
     return give(find(&key), &key, name);
 }
 
@@ -149,7 +199,7 @@ uint32_t name_of_word(const char *word) {
     plain(made, word);
     struct key key = text_key(WORD_GIVEN, made);
     struct entry *entry = find(&key);
-    return entry->name ? entry->name - 1 : give(entry, &key, add_text(made));
+    return entry->name ? entry->name - 1 : give(entry, &key, add_text(made, NULL));
 }
 
 uint32_t name_of_descriptor(uint64_t descriptor) {
@@ -157,8 +207,32 @@ uint32_t name_of_descriptor(uint64_t descriptor) {
     if (find(&key)->name) return find(&key)->name - 1;
     char made[MOST_NAME + 1];
     snprintf(made, sizeof made, "fd_%lu", descriptor);
-    uint32_t name = unlike(made);
+    char *long_name = NULL;
+    if (asprintf(&long_name, "descriptor %lu", descriptor) < 0) long_name = NULL;
+    uint32_t name = unlike(made, long_name);
     return give(find(&key), &key, name);
+}
+
+/* ---- The file of names ---- */
+
+static int by_text(const void *one, const void *other) {
+    return strcmp(texts[*(const uint32_t *)one], texts[*(const uint32_t *)other]);
+}
+
+static void print_name(FILE *file, uint32_t name) {
+    fprintf(file, "%s ", texts[name]);
+    for (const char *letter = long_names[name]; *letter; letter++) fputc(*letter >= ' ' && *letter <= '~' ? *letter : '?', file);
+    fputc('\n', file);
+}
+
+void print_names(FILE *file) {
+    uint32_t *order = NULL;
+    size_t count = 0;
+    for (uint32_t name = 0; name < text_count; name++)
+        if (long_names[name]) ADD(order, count, name);
+    if (count) qsort(order, count, sizeof *order, by_text);
+    for (size_t i = 0; i < count; i++) print_name(file, order[i]);
+    free(order);
 }
 
 const char *name_text(uint32_t name) { return texts[name]; }

@@ -56,6 +56,21 @@ _Noreturn void fail(int status, const char *format, ...) __attribute__((format(p
 /* The same array with room for one more element behind `count`. */
 void *room_for(void *array, size_t count, size_t size);
 
+/* The first element of an array whose member is above a value, in an array that has them in order. */
+#define FIRST_ABOVE(array, count, member, value) \
+    ({ \
+        size_t low_ = 0, high_ = (count); \
+        while (low_ < high_) { \
+            size_t middle_ = (low_ + high_) / 2; \
+            if ((array)[middle_].member <= (value)) { \
+                low_ = middle_ + 1; \
+            } else { \
+                high_ = middle_; \
+            } \
+        } \
+        low_; \
+    })
+
 #define ADD(array, count, ...) ((array) = room_for(array, count, sizeof *(array)), (array)[(count)++] = (__VA_ARGS__))
 
 /* ---- The run ---- */
@@ -80,19 +95,47 @@ const char *word_at(const struct log *log, uint32_t word);
 const struct record *behind(const struct log *log, const struct record *record);
 bool is_synchronisation(const struct record *record);
 
+/* ---- What the debug information of a file of the program tells ---- */
+
+struct debug;
+
+/* Of a variable, or a piece of it that begins so many bytes into it; or of the blocks that a place makes. */
+struct told {
+    const struct debug *debug;
+    uint64_t type, offset;
+    const char *name, *file; /* of the variable where it is a piece; of the type of a block or the function that makes it */
+    uint64_t line;
+};
+
+struct debug *open_debug(const char *path);
+/* What begins at an address of the file; false where nothing is known of it. */
+bool find_variable(const struct debug *debug, uint64_t address, struct told *told);
+/* The place of a call behind which the program goes on at an address of the file. */
+bool find_maker(const struct debug *debug, uint64_t behind, struct told *told);
+/* The members and elements down to a byte of a variable; of a block that has so many bytes. */
+void write_path(FILE *to, const struct told *told, uint64_t offset);
+void write_block_path(FILE *to, const struct told *told, uint64_t size, uint64_t offset);
+
 /* ---- Objects: what lies where, as the log goes on ---- */
 
 enum object_kind { SYMBOL, HEAP, LOCAL, OTHER };
 
 struct place {
     enum object_kind kind;
+    uint32_t size; /* of a block */
     uint64_t object, offset;
 };
 
+/* The files of the program, with their symbols and their debug information. */
+void read_modules(const struct log *log);
 void forget_objects(void);
-void note_object(const struct log *log, const struct record *record);
+void note_object(const struct record *record);
 struct place place_of(uint64_t address);
-const char *symbol_name(uint64_t object);
+/* Whether the place that made a block is known. */
+bool is_told_block(struct place place);
+/* The two parts of a long name, of a symbol or such a block; the back also of any other block. */
+void write_front(FILE *to, struct place place);
+void write_back(FILE *to, struct place place);
 
 /* ---- Names ---- */
 
@@ -104,6 +147,8 @@ uint32_t name_of_word(const char *word);
 uint32_t name_of_descriptor(uint64_t descriptor);
 const char *name_text(uint32_t name);
 uint32_t name_count(void);
+/* The lines of the file `names`: each name of a place, and its long name. */
+void print_names(FILE *file);
 
 /* ---- Cells ---- */
 
@@ -209,6 +254,8 @@ bool replays(const struct events *events, const struct windows *windows, uint64_
 const char *other_file(const struct words *words, const struct folder *folder, const struct events *events);
 void write_folder(const struct words *words, const struct folder *folder, const struct events *events,
                   const struct windows *windows);
+/* Behind all that is told, as there may be names in that. */
+void write_names(const char *folder);
 
 /* ---- A recording, as it is made of a log ---- */
 

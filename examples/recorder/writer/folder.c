@@ -227,6 +227,12 @@ const char *other_file(const struct words *words, const struct folder *folder, c
     return NULL;
 }
 
+void write_names(const char *folder) {
+    FILE *file = open_file(folder, "names");
+    print_names(file);
+    close_file(file, "names");
+}
+
 void write_folder(const struct words *words, const struct folder *folder, const struct events *events,
                   const struct windows *windows) {
     char name[32], lines[HEAD_ROOM];
@@ -245,11 +251,6 @@ void write_folder(const struct words *words, const struct folder *folder, const 
     file = open_file(words->folder, "run");
     write_run(words, file);
     close_file(file, "run");
+    write_names(words->folder);
     if (words->schedule) write_schedule(words, events, &windows->list[words->schedule - 1]);
-}
-
-void write_names(const char *folder) {
-    FILE *file = open_file(folder, "names");
-    print_names(file);
-    close_file(file, "names");
 }

@@ -132,7 +132,8 @@ static void write_heap_front(FILE *to, struct place place) {
     fputs(texts[find(&key)->name - 1], to);
 }
 
-/* Of a long name that has no room the front loses its end, down to some letters, and then the back its beginning. */
+/* Of a long name that has no room the front loses its end, down to some letters, and then the back its beginning, for which
+ * a low line stands. */
 static void short_name(char *to, const char *front, const char *back) {
     char *spelled = malloc(strlen(back) + 1);
     if (!spelled) fail(STATUS_NOTHING, "there is not enough memory to write the recording");
@@ -144,6 +145,7 @@ static void short_name(char *to, const char *front, const char *back) {
     size_t rest = length < MOST_NAME - front_length ? length : MOST_NAME - front_length;
     plain(to, front);
     memcpy(to + front_length, spelled + length - rest, rest);
+    if (rest < length) to[front_length] = '_';
     to[front_length + rest] = 0;
     free(spelled);
 }

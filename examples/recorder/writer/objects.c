@@ -36,6 +36,11 @@ static void read_symbol(const char *line, uint64_t base) {
     ADD(symbols, symbol_count, (struct symbol){.at = base + at, .size = size, .name = text, .module = module_count - 1});
 }
 
+static const char *without_folder(const char *path) {
+    const char *folder = path ? strrchr(path, '/') : NULL;
+    return folder ? folder + 1 : path;
+}
+
 /* The address at which a module says that it wants to lie: programs that say none are moved. */
 static bool is_moved(const char *path) {
     unsigned char head[18] = {0};
@@ -46,10 +51,11 @@ static bool is_moved(const char *path) {
     return got < sizeof head || head[16] == 3;
 }
 
+/* Of a file of the program; the recorder's own library has none of the program's variables, but may have their names. */
 static void read_symbols(const char *path, uint64_t loaded_at) {
     uint64_t base = is_moved(path) ? loaded_at : 0;
     char command[3 * LONGEST_WORD], line[2 * LONGEST_WORD];
-    if (!*path || strchr(path, '\'')) return;
+    if (!*path || strchr(path, '\'') || !strcmp(without_folder(path), "libgprecord.so")) return;
     ADD(modules, module_count, (struct module){base, open_debug(path)});
     snprintf(command, sizeof command, "nm -C -S --defined-only '%s' 2>/dev/null", path);
     FILE *lines = popen(command, "r");
@@ -150,11 +156,6 @@ static struct site {
 } *sites;
 static size_t site_count;
 static uint64_t made;
-
-static const char *without_folder(const char *path) {
-    const char *folder = path ? strrchr(path, '/') : NULL;
-    return folder ? folder + 1 : path;
-}
 
 static const struct module *module_of(uint64_t address) {
     const struct module *found = NULL;

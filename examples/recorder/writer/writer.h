@@ -254,7 +254,7 @@ bool replays(const struct events *events, const struct windows *windows, uint64_
 const char *other_file(const struct words *words, const struct folder *folder, const struct events *events);
 void write_folder(const struct words *words, const struct folder *folder, const struct events *events,
                   const struct windows *windows);
-/* Behind all that is told, as there may be names in that. */
+/* Once more behind all that is told, as there may be other names in that. */
 void write_names(const char *folder);
 
 /* ---- A recording, as it is made of a log ---- */

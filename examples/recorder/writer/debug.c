@@ -4,7 +4,7 @@
 
 #include "dwarf.h"
 
-enum { MOST_DEPTH = 32, MOST_SIZES = 8, SHORTEST_MOVE = 3 };
+enum { MOST_DEPTH = 32, MOST_SIZES = 8, MOVE_BYTES = 3 };
 
 /* ---- Types ---- */
 
@@ -381,27 +381,62 @@ static bool find_line(const struct unit *unit, uint64_t address, struct told *to
 
 /* ---- The place that makes a block ---- */
 
+static struct span code_at(const struct debug *debug, uint64_t address) {
+    return address < debug->text_at ? (struct span){0} : section_from(debug, TEXT, address - debug->text_at);
+}
+
 /* The register into which the result of a call is moved at once (`mov %rax, ..`), by its number in the debug information. */
 static bool moves_result(const struct debug *debug, uint64_t behind, uint64_t *number) {
     static const uint8_t numbers[] = {0, 2, 1, 3, 7, 6, 4, 5, 8, 9, 10, 11, 12, 13, 14, 15};
-    struct span code = behind < debug->text_at ? (struct span){0} : section_from(debug, TEXT, behind - debug->text_at);
+    struct span code = code_at(debug, behind);
     uint64_t prefix = take(&code, 1), operation = take(&code, 1), registers = take(&code, 1);
     if (code.bad || (prefix & ~(uint64_t)1) != 0x48 || operation != 0x89 || (registers & 0xf8) != 0xc0) return false;
     *number = numbers[(registers & 7) | (prefix & 1) << 3];
     return true;
 }
 
+/* An instruction with a place in the frame (`mov %rax, place(%rbp)`), in its short form or its long one. */
+static bool takes_frame(struct span *code, uint64_t operation, uint64_t registers, int64_t *place) {
+    struct span from = *code;
+    bool is_it = take(&from, 1) == 0x48 && take(&from, 1) == operation;
+    uint64_t mode = take(&from, 1);
+    *place = mode == registers ? (int8_t)take(&from, 1) : (int32_t)take(&from, 4);
+    if (from.bad || !is_it || (mode != registers && mode != registers + 0x40)) return false;
+    *code = from;
+    return true;
+}
+
+/* Where in the frame the result is stored at once; or behind the hook of that write, over which it is kept elsewhere. */
+static bool stores_result(const struct debug *debug, uint64_t behind, int64_t *place) {
+    struct span code = code_at(debug, behind);
+    int64_t kept, hooked, again, stored;
+    if (!takes_frame(&code, 0x89, 0x45, &kept)) return false;
+    *place = kept;
+    if (!takes_frame(&code, 0x8d, 0x7d, &hooked) || take(&code, 1) != 0xe8) return true;
+    take(&code, 4);
+    bool is_kept = takes_frame(&code, 0x8b, 0x45, &again) && takes_frame(&code, 0x89, 0x45, &stored);
+    if (is_kept && again == kept && stored == hooked) *place = stored;
+    return true;
+}
+
 /* Whether a variable has the result of the call from its end on: in the register of results, or in where that is moved. */
-static bool takes_result(const struct entry *variable, uint64_t behind) {
+static bool takes_result(const struct entry *variable, uint64_t behind, bool has_frame) {
+    const struct debug *debug = variable->unit->debug;
+    const struct value *located = &variable->values[LOCATED];
     uint64_t low, high, moved;
+    int64_t place;
     struct list list;
-    struct span code;
-    bool is_moved = moves_result(variable->unit->debug, behind, &moved);
-    if (!open_list(&list, variable->unit, &variable->values[LOCATED], true)) return false;
+    struct span code = located->code;
+    if (located->kind == CODE) {
+        bool is_in_frame = has_frame && take(&code, 1) == 0x91 && stores_result(debug, behind, &place);
+        return is_in_frame && take_signed_leb(&code) == place && code.at == code.end;
+    }
+    bool is_moved = moves_result(debug, behind, &moved);
+    if (!open_list(&list, variable->unit, located, true)) return false;
     while (next_range(&list, &low, &high, &code)) {
         bool is_register = code.end - code.at == 1 && low < high;
         if (is_register && low == behind && *code.at == 0x50) return true;
-        if (is_register && low == behind + SHORTEST_MOVE && is_moved && *code.at == 0x50 + moved) return true;
+        if (is_register && low == behind + MOVE_BYTES && is_moved && *code.at == 0x50 + moved) return true;
     }
     return false;
 }
@@ -423,23 +458,27 @@ static const char *name_of_type(const struct debug *debug, uint64_t type) {
 }
 
 /* Goes through a function: what is called is told by the innermost one that was built into it there; and the type by the
- * variables that take the result, where all that point to something point to the same. */
+ * variables that take the result, where all that point to something point to the same. Of those that share a place in the
+ * frame it is not known which one does. */
 bool find_maker(const struct debug *debug, uint64_t behind, struct told *told) {
     const struct thing *function = thing_at(&debug->functions, behind - 1);
     struct entry entry;
     *told = (struct told){.debug = debug};
     if (!function || behind > function->end || !entry_at(debug, function->entry, &entry)) return false;
     if (!find_line(entry.unit, behind - 1, told)) return false;
-    bool is_one = true;
+    struct span frame = entry.values[FRAME].code;
+    bool is_one = true, has_frame = frame.end - frame.at == 1 && *frame.at == 0x56;
+    unsigned in_frame = 0;
     told->name = name_of_entry(&entry);
     for (unsigned depth = 0; next_entry(&entry, &depth);) {
         if (entry.tag == INLINED && has_address(&entry, behind - 1)) told->name = name_of_entry(&entry);
-        if ((entry.tag != VARIABLE && entry.tag != PARAMETER) || !takes_result(&entry, behind)) continue;
+        if ((entry.tag != VARIABLE && entry.tag != PARAMETER) || !takes_result(&entry, behind, has_frame)) continue;
         uint64_t type = pointed_type(debug, &entry);
         is_one = is_one && (!type || !told->type || told->type == type);
         if (type) told->type = type;
+        in_frame += entry.values[LOCATED].kind == CODE;
     }
-    if (!is_one || !size_of_type(debug, told->type)) told->type = 0;
+    if (!is_one || in_frame > 1 || !size_of_type(debug, told->type)) told->type = 0;
     const char *name = told->type ? name_of_type(debug, told->type) : NULL;
     if (name) told->name = name;
     return told->name;

@@ -136,8 +136,8 @@ struct value take_value(const struct unit *unit, struct span *from, uint64_t for
 /* The attributes that matter, by their codes. */
 static const uint8_t attributes[256] = {
     [0x02] = LOCATED, [0x03] = NAMED, [0x0b] = SIZED, [0x0c] = BIT_FROM_LAST, [0x0d] = BITS, [0x10] = LINES, [0x11] = LOW,
-    [0x12] = HIGH, [0x2f] = UPPER, [0x31] = ORIGIN, [0x37] = COUNTED, [0x38] = AT_BYTE, [0x47] = SPECIFIED, [0x49] = TYPED,
-    [0x55] = IN_RANGES, [0x6b] = FIRST_BIT, [0x72] = STR_BASE, [0x73] = ADDR_BASE, [0x74] = RNGLISTS_BASE,
+    [0x12] = HIGH, [0x2f] = UPPER, [0x31] = ORIGIN, [0x37] = COUNTED, [0x38] = AT_BYTE, [0x40] = FRAME, [0x47] = SPECIFIED,
+    [0x49] = TYPED, [0x55] = IN_RANGES, [0x6b] = FIRST_BIT, [0x72] = STR_BASE, [0x73] = ADDR_BASE, [0x74] = RNGLISTS_BASE,
     [0x8c] = LOCLISTS_BASE};
 
 static const struct abbreviation *abbreviation_of(const struct unit *unit, uint64_t code) {
@@ -259,8 +259,8 @@ static bool read_unit(const struct debug *debug, struct span *from, struct unit 
     uint64_t kind = unit->version == 5 ? take(&rest, 1) : UNIT_COMPILE, address = unit->version == 5 ? take(&rest, 1) : 0;
     uint64_t abbreviations = take(&rest, 4);
     if (unit->version == 4) address = take(&rest, 1);
-    bool is_known = (unit->version == 4 || unit->version == 5) && address == 8 && (kind == UNIT_COMPILE || kind == UNIT_PARTIAL);
-    if (rest.bad || !is_known) return true;
+    bool is_known = (unit->version == 4 || unit->version == 5) && (kind == UNIT_COMPILE || kind == UNIT_PARTIAL);
+    if (rest.bad || !is_known || address != 8) return true;
     unit->first = (uint64_t)(rest.at - debug->sections[INFO].at);
     read_abbreviations(unit, abbreviations);
     read_root(unit);

@@ -223,7 +223,7 @@ static int by_text(const void *one, const void *other) {
 
 static void print_name(FILE *file, uint32_t name) {
     fprintf(file, "%s ", texts[name]);
-    for (const char *letter = long_names[name]; *letter; letter++) fputc(*letter >= ' ' && *letter <= '~' ? *letter : '?', file);
+    for (const char *at = long_names[name]; *at; at++) fputc(*at >= ' ' && *at <= '~' ? *at : '?', file);
     fputc('\n', file);
 }
 

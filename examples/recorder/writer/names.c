@@ -171,14 +171,12 @@ static char *long_name_of(struct place place, size_t *front) {
     return text;
 }
 
-/* What stands behind the long name of what is not the first thing, or no memory, at its place. */
-static char *add_use(char *long_name, uint32_t generation, enum name_use use) {
-    char *made = long_name;
-    if (!generation && use == OF_MEMORY) return long_name;
-    const char *format = generation ? "%s (%s %u)" : "%s (%s)";
-    if (asprintf(&made, format, long_name, use == OF_NUMBER ? "number" : "variable", generation + 1) < 0)
+/* The long name of a number that stands for what lies at a place, of which there may be several, one behind another. */
+static char *number_name(char *place_name, uint32_t generation) {
+    char *made = NULL;
+    if (asprintf(&made, generation ? "%s (number %u)" : "%s (number)", place_name, generation + 1) < 0)
         fail(STATUS_NOTHING, "there is not enough memory to write the recording");
-    free(long_name);
+    free(place_name);
     return made;
 }
 
@@ -191,8 +189,7 @@ uint32_t name_of_place(struct place place, uint32_t generation, enum name_use us
     if (!front) fail(STATUS_NOTHING, "there is not enough memory to write the recording");
     short_name(made, front, long_name + length);
     free(front);
-    bool is_numbered = place.kind == LOCAL || place.kind == OTHER;
-    uint32_t name = unlike(made, is_numbered ? long_name : add_use(long_name, generation, use));
+    uint32_t name = unlike(made, use == OF_NUMBER ? number_name(long_name, generation) : long_name);
     return give(find(&key), &key, name);
 }
 

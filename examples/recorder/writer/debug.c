@@ -361,20 +361,24 @@ static bool run_operation(const struct table *table, struct span *from, struct r
     }
 }
 
+/* Pieces of code that begin at 0 are those that the linker has left out. */
 static bool find_line(const struct unit *unit, uint64_t address, struct told *told) {
     struct table table;
-    struct row row = {0, 1, 1}, last = {UINT64_MAX, 0, 0};
+    const struct row first = {0, 1, 1}, none = {UINT64_MAX, 0, 0};
+    struct row row = first, last = none;
+    uint64_t begin = 0;
     if (!open_table(&table, unit)) return false;
     for (struct span from = table.program; from.at < from.end;) {
         bool ends = false;
         if (!run_operation(&table, &from, &row, &ends)) continue;
-        if (last.address <= address && address < row.address) {
+        if (last.address == none.address) begin = row.address;
+        if (begin && last.address <= address && address < row.address) {
             told->file = name_of_file(&table, last.file);
             told->line = last.line;
             return told->file;
         }
-        last = ends ? (struct row){UINT64_MAX, 0, 0} : row;
-        if (ends) row = (struct row){0, 1, 1};
+        last = ends ? none : row;
+        if (ends) row = first;
     }
     return false;
 }

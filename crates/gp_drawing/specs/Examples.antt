@@ -2,6 +2,8 @@
 use Rattle.std.specs.Prelude.{◌≡◌, ℕ, false, true, List, [], ◌∷◌, ◌++◌, Option, Some, None, codes}
 use Rattle.gp_trace.specs.declared.lock_use.LockMode.{LockMode}
 use Rattle.gp_trace.specs.declared.lock_use.LockMode.TheVariants.{Exclusive, Shared}
+use Rattle.gp_place.specs.Places.{nowhere}
+use Rattle.gp_place.specs.declared.places.Places.{Places}
 use Rattle.gp_window.specs.WindowForm.{WindowForm}
 use Rattle.gp_window.specs.declared.schedule.EventId.{EventId}
 use Rattle.gp_story.specs.Examples.{flagged, guarded, read}
@@ -34,6 +36,10 @@ bar thread mode from to = record { thread = thread; lock = codes "c"; mode = mod
 abbrev arrow : ℕ → ℕ → ArrowKind → Arrow
 arrow from to kind = record { from = from; to = to; kind = kind }
 
+-- of the events of this window, the one of thread 3 has a place
+abbrev pub in_main : Places
+in_main = record { texts = codes "a.c:7 in f<g" ∷ []; numbers = [] ∷ [] ∷ ((1 ∷ []) ∷ []) ∷ [] }
+
 pub record ExamplesHold : Type 0 where
   -- a read comes from the write and from the start of its thread
   pub flag_raised : drawn flagged (at 1 0 ∷ at 1 1 ∷ at 1 2 ∷ at 2 0 ∷ at 2 1 ∷ []) [] ≡ record {
@@ -54,7 +60,7 @@ pub record ExamplesHold : Type 0 where
     arrows = arrow 0 1 kinds.Lock ∷ arrow 0 3 kinds.Lock ∷ arrow 4 5 kinds.Lock ∷ [];
   }
   -- the text of the first two of those rows, the second of which is marked
-  pub two_rows : svg read (drawn read (at 3 0 ∷ at 1 0 ∷ []) (at 1 0 ∷ [])) ≡
+  pub two_rows : svg nowhere read (drawn read (at 3 0 ∷ at 1 0 ∷ []) (at 1 0 ∷ [])) ≡
       codes "<svg class='drawing' viewBox='0 0 584 84' width='584' height='84'>\n"
       ++ codes "<line class='lane' x1='40' y1='20' x2='40' y2='74'/>\n<text class='thread' x='40' y='14'>1</text>\n"
       ++ codes "<line class='lane' x1='88' y1='20' x2='88' y2='74'/>\n<text class='thread' x='88' y='14'>2</text>\n"
@@ -64,6 +70,19 @@ pub record ExamplesHold : Type 0 where
       ++ codes "<line class='arrow lock' x1='136' y1='30' x2='40' y2='52' marker-end='url(#tip)'/>\n"
       ++ codes "<g class='row'><title>3.0 release c</title><circle class='event' cx='136' cy='30' r='6'/>"
       ++ codes "<text class='words' x='184' y='34'>3.0 release c</text></g>\n"
+      ++ codes "<g class='row'><title>1.0 racquire c</title><circle class='event marked' cx='40' cy='52' r='6'/>"
+      ++ codes "<text class='words' x='184' y='56'>1.0 racquire c</text></g>\n</svg>\n"
+  -- the same where the first of these events has a place
+  pub with_place : svg in_main read (drawn read (at 3 0 ∷ at 1 0 ∷ []) (at 1 0 ∷ [])) ≡
+      codes "<svg class='drawing' viewBox='0 0 696 84' width='696' height='84'>\n"
+      ++ codes "<line class='lane' x1='40' y1='20' x2='40' y2='74'/>\n<text class='thread' x='40' y='14'>1</text>\n"
+      ++ codes "<line class='lane' x1='88' y1='20' x2='88' y2='74'/>\n<text class='thread' x='88' y='14'>2</text>\n"
+      ++ codes "<line class='lane' x1='136' y1='20' x2='136' y2='74'/>\n<text class='thread' x='136' y='14'>3</text>\n"
+      ++ codes "<line class='bar' x1='136' y1='20' x2='136' y2='30'><title>lock c</title></line>\n"
+      ++ codes "<line class='bar shared' x1='40' y1='52' x2='40' y2='74'><title>lock c</title></line>\n"
+      ++ codes "<line class='arrow lock' x1='136' y1='30' x2='40' y2='52' marker-end='url(#tip)'/>\n"
+      ++ codes "<g class='row'><title>3.0 release c  a.c:7 in f&lt;g</title><circle class='event' cx='136' cy='30' r='6'/>"
+      ++ codes "<text class='words' x='184' y='34'>3.0 release c  a.c:7 in f&lt;g</text></g>\n"
       ++ codes "<g class='row'><title>1.0 racquire c</title><circle class='event marked' cx='40' cy='52' r='6'/>"
       ++ codes "<text class='words' x='184' y='56'>1.0 racquire c</text></g>\n</svg>\n"
   pub markup : escaped (codes "a<b & 'c'>") ≡ codes "a&lt;b &amp; &#39;c&#39;&gt;"

@@ -2,6 +2,7 @@
 use Rattle.std.specs.Prelude.{ℕ, ◌≡◌, List, [], ◌∷◌, ◌++◌, codes, Contains}
 use Rattle.gp_drawing.specs.declared.drawing.Drawing.{Drawing}
 use Rattle.gp_drawing.specs.Svg.{svg, tip}
+use Rattle.gp_place.specs.declared.places.Places.{Places}
 use Rattle.gp_window.specs.WindowForm.{WindowForm}
 
 -- how the tags of drawings go on behind their angle bracket
@@ -28,7 +29,7 @@ BeginsWithTag bytes = (tag rest : List ℕ) × Contains (drawing_tags ++ text_ta
 abbrev pub HasOwnMarkup : List ℕ → Type 0
 HasOwnMarkup text = (front back : List ℕ) → text ≡ front ++ 60 ∷ back → BeginsWithTag back
 
--- nothing that stands in a window is read as markup
+-- nothing that stands in a window, or is told of places, is read as markup
 pub record DrawingsHaveOwnMarkup : Type 0 where
-  pub drawing : (window : WindowForm) (drawing : Drawing) → HasOwnMarkup (svg window drawing)
+  pub drawing : (places : Places) (window : WindowForm) (drawing : Drawing) → HasOwnMarkup (svg places window drawing)
   pub tip : HasOwnMarkup tip

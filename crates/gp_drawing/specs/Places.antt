@@ -34,9 +34,10 @@ abbrev pub end_y : ℕ → Option ℕ → ℕ
 end_y rows (Some row) = row_y row
 end_y rows None = row_y rows
 
--- how wide and how high a drawing of so many lanes and rows is; the words stand right of the lanes
-abbrev pub width : ℕ → ℕ
-width lanes = lane_x lanes + 400
+-- how wide a drawing of so many lanes is, with the words right of them, of which so many bytes tell a place, eight units each
+abbrev pub width : ℕ → ℕ → ℕ
+width lanes longest = lane_x lanes + 400 + 8 * longest
 
+-- how high a drawing of so many rows is
 abbrev pub height : ℕ → ℕ
 height rows = row_y rows + 10

@@ -3,6 +3,7 @@ use Rattle.std.specs.Prelude.{ℕ, ◌+◌, List, [], ◌∷◌, ◌++◌, codes
 use Rattle.std.specs.List.{flat_map}
 use Rattle.gp_trace.specs.declared.lock_use.LockMode.{LockMode}
 use Rattle.gp_trace.specs.declared.lock_use.LockMode.TheVariants.{Exclusive, Shared}
+use Rattle.gp_place.specs.declared.places.Places.{Places}
 use Rattle.gp_window.specs.WindowForm.{numbers_from, WindowForm}
 use Rattle.gp_drawing.specs.declared.drawing.Arrow.{Arrow}
 use Rattle.gp_drawing.specs.declared.drawing.ArrowKind.{ArrowKind}
@@ -14,7 +15,7 @@ use Rattle.gp_drawing.specs.declared.drawing.DrawnRow.TheVariants.{One, Several}
 use Rattle.gp_drawing.specs.Escaped.{escaped}
 use Rattle.gp_drawing.specs.Places.{begin_y, end_y, height, lane_x, row_y, thread_x, width, x_at}
 use Rattle.gp_drawing.specs.Rows.{thread_of}
-use Rattle.gp_drawing.specs.Words.{row_words}
+use Rattle.gp_drawing.specs.Words.{longest_place, row_words}
 
 -- an attribute that is a number
 abbrev pub attribute : List ℕ → ℕ → List ℕ
@@ -104,21 +105,23 @@ unfoldable pub row_text : ℕ → ℕ → List ℕ → List ℕ
 row_text lanes row words = words_at (codes "words") (lane_x lanes) (row_y row + 4) ++ between [] words (codes "</text></g>\n")
 
 -- a row: its circle, and its words in both places
-unfoldable pub row_svg : WindowForm → ℕ → ℕ → DrawnRow → List ℕ
-row_svg window lanes row drawn = row_title (row_words window drawn) ++ circle drawn row ++ row_text lanes row (row_words window drawn)
+unfoldable pub row_svg : Places → WindowForm → ℕ → ℕ → DrawnRow → List ℕ
+row_svg places window lanes row drawn =
+    row_title (row_words places window drawn) ++ circle drawn row ++ row_text lanes row (row_words places window drawn)
 
 -- rows right of so many lanes, from the row of this number on
-abbrev pub rows_svg : WindowForm → ℕ → ℕ → List DrawnRow → List ℕ
-rows_svg window lanes row [] = []
-rows_svg window lanes row (drawn ∷ more) = row_svg window lanes row drawn ++ rows_svg window lanes (row + 1) more
+abbrev pub rows_svg : Places → WindowForm → ℕ → ℕ → List DrawnRow → List ℕ
+rows_svg places window lanes row [] = []
+rows_svg places window lanes row (drawn ∷ more) = row_svg places window lanes row drawn ++ rows_svg places window lanes (row + 1) more
 
 -- what part of the plane a drawing shows
 unfoldable pub view : ℕ → ℕ → List ℕ
 view width height = tag (codes "svg") (codes "drawing") ++ pair (codes " viewBox='0 0 ") width height
 
--- the head of a drawing of so many lanes and rows: how wide and how high it is
-unfoldable pub head : ℕ → ℕ → List ℕ
-head lanes rows = view (width lanes) (height rows) ++ point (codes "width") (width lanes) (codes "height") (height rows) ++ codes ">\n"
+-- the head of a drawing of so many lanes and rows, whose longest place has so many bytes: how wide and how high it is
+unfoldable pub head : ℕ → ℕ → ℕ → List ℕ
+head lanes rows longest =
+    view (width lanes longest) (height rows) ++ point (codes "width") (width lanes longest) (codes "height") (height rows) ++ codes ">\n"
 
 -- what stands behind the rows: lanes, bars and arrows
 unfoldable pub behind : ℕ → Drawing → List ℕ
@@ -128,13 +131,14 @@ behind lanes drawing =
     ++ flat_map (arrow_svg drawing.rows) drawing.arrows
 
 -- a drawing with so many lanes
-abbrev pub svg_with : WindowForm → ℕ → Drawing → List ℕ
-svg_with window lanes drawing =
-    head lanes (length drawing.rows) ++ behind lanes drawing ++ rows_svg window lanes 0 drawing.rows ++ codes "</svg>\n"
+abbrev pub svg_with : Places → WindowForm → ℕ → Drawing → List ℕ
+svg_with places window lanes drawing =
+    head lanes (length drawing.rows) (longest_place places window drawing.rows)
+    ++ behind lanes drawing ++ rows_svg places window lanes 0 drawing.rows ++ codes "</svg>\n"
 
 -- the drawing of a story of a window, a lane for each thread of the window
-unfoldable pub svg : WindowForm → Drawing → List ℕ
-svg window drawing = svg_with window (length window.segments) drawing
+unfoldable pub svg : Places → WindowForm → Drawing → List ℕ
+svg places window drawing = svg_with places window (length window.segments) drawing
 
 -- the tip of all arrows of a page, which ends at the rim of a circle: a page has it once, before its drawings
 unfoldable pub tip : List ℕ

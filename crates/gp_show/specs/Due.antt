@@ -1,5 +1,7 @@
 -- What is due to the words and to the told files: a function of these alone.
 use Rattle.std.specs.Prelude.{ℕ, ◌≡◌, List, Option, Some, None, Result, Ok, Err}
+use Rattle.gp_beside.specs.Beside.{noted_at}
+use Rattle.gp_beside.specs.declared.beside.Noted.{Noted}
 use Rattle.gp_checker.specs.declared.failure.Checked.{Checked}
 use Rattle.gp_outside.specs.Folders.{File}
 use Rattle.gp_predict.specs.Due.{words_refused}
@@ -12,20 +14,24 @@ use Rattle.gp_predict.specs.declared.submission.Submission.{Submission}
 use Rattle.gp_words.specs.Showing.{ShowForm, show_command_of}
 use Rattle.gp_show.specs.Show.{of_shown}
 
--- what is due: a refusal, or what was submitted is shown as a command asks
+-- what is due: a refusal, or what was submitted is shown as a command asks, with what stands beside it
 pub data Expected : Type 0 where
   Text : Reply → Expected
-  Shown : ShowForm → Submission → Expected
+  Shown : ShowForm → Submission → Noted → Expected
+
+-- what stands beside what was submitted, as a command asks
+abbrev pub noted_of : List File → ShowForm → Submission → Noted
+noted_of files command submission = noted_at files command.folder command.source submission.listing.recording.traces
 
 -- what was submitted, or the refusal that came before it
-abbrev pub as_shown : ShowForm → Result Submission Reply → Expected
-as_shown command (Ok submission) = Shown command submission
-as_shown command (Err refusal) = Text refusal
+abbrev pub as_shown : List File → ShowForm → Result Submission Reply → Expected
+as_shown files command (Ok submission) = Shown command submission (noted_of files command submission)
+as_shown files command (Err refusal) = Text refusal
 
 -- what is due to a command, where these files are told; where none are told, nothing is said
 abbrev pub due_by : ShowForm → Option (List File) → Option Expected
 due_by command None = None
-due_by command (Some files) = Some (as_shown command (submission_at files command.folder))
+due_by command (Some files) = Some (as_shown files command (submission_at files command.folder))
 
 -- what is due where the words are this command
 abbrev pub due_in : Option (List File) → Option ShowForm → Option Expected
@@ -39,4 +45,5 @@ due_answer words told = due_in told (show_command_of words)
 -- what may be told where this is due: a refusal, or what is shown of the report with the verdict on it
 abbrev pub Means : Expected → Told → Type 0
 Means (Text reply) told = told ≡ of_reply reply
-Means (Shown command submission) told = (checked : Checked) × IsVerdict submission checked × (told ≡ of_shown command submission checked)
+Means (Shown command submission noted) told =
+    (checked : Checked) × IsVerdict submission checked × (told ≡ of_shown command submission noted checked)

@@ -1,5 +1,6 @@
 -- What is true of what is shown.
 use Rattle.std.specs.Prelude.{◌≡◌, List, map}
+use Rattle.gp_beside.specs.declared.beside.Noted.{Noted}
 use Rattle.gp_checker.specs.declared.failure.Checked.{Checked}
 use Rattle.gp_checker.specs.Accepted.{IsAccepted}
 use Rattle.gp_drawing.specs.Markup.{HasOwnMarkup}
@@ -22,5 +23,5 @@ AnswersAreEntries = (recording : RecordingForm) (properties : List PropertyForm)
 
 -- whatever the files hold, each angle bracket that opens in a page opens one of the program's own tags
 abbrev pub PagesHaveOwnMarkup : Type 0
-PagesHaveOwnMarkup = (command : ShowForm) (submission : Submission) (checked : Checked) → command.style ≡ Page
-    → HasOwnMarkup (show_text command submission checked)
+PagesHaveOwnMarkup = (command : ShowForm) (submission : Submission) (noted : Noted) (checked : Checked) → command.style ≡ Page
+    → HasOwnMarkup (show_text command submission noted checked)

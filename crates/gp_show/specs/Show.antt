@@ -1,5 +1,9 @@
--- What is shown of a report: the verdict, the table, and where the report is accepted the instances that are asked for.
-use Rattle.std.specs.Prelude.{ℕ, ◌-◌, List, [], ◌∷◌, ◌++◌, codes, decimal, flat_map, length}
+-- What is shown of a report: the verdict, the table, which files beside it are left out, and where the report is accepted the instances
+-- that are asked for, with what stands beside it.
+use Rattle.std.specs.Prelude.{ℕ, ◌-◌, List, [], ◌∷◌, ◌++◌, codes, decimal, flat_map, length, map}
+use Rattle.gp_beside.specs.Refusal.{fault_words}
+use Rattle.gp_beside.specs.declared.beside.Noted.{Noted}
+use Rattle.gp_beside.specs.declared.fault.NoteFault.{NoteFault}
 use Rattle.gp_checker.specs.declared.failure.Checked.{Checked}
 use Rattle.gp_checker.specs.declared.failure.Checked.TheVariants.{Accepted, Rejected}
 use Rattle.gp_drawing.specs.Escaped.{escaped}
@@ -7,6 +11,7 @@ use Rattle.gp_drawing.specs.Svg.{tip}
 use Rattle.gp_overview.specs.Page.{table_part, verdict_part}
 use Rattle.gp_overview.specs.Table.{table_text}
 use Rattle.gp_overview.specs.Verdict.{verdict_words}
+use Rattle.gp_place.specs.declared.beside.Beside.{Beside}
 use Rattle.gp_predict.specs.Told.{Nothing, Told}
 use Rattle.gp_predict.specs.declared.submission.Submission.{Submission}
 use Rattle.gp_text.specs.Spelling.{joined, spelling}
@@ -41,14 +46,28 @@ head_text Text submission checked =
 head_text Page submission checked =
     page_head ++ verdict_part submission.report.windows checked ++ table_part submission.listing.properties submission.report.windows
 
--- an instance
-abbrev pub answered_text : Style → AnsweredForm → List ℕ
-answered_text Text answered = spelling (answered_lines answered)
-answered_text Page answered = answered_part answered
+-- which files beside the report are left out, behind an empty line
+abbrev pub left_out_lines : List NoteFault → List (List (List ℕ))
+left_out_lines [] = []
+left_out_lines (fault ∷ faults) = [] ∷ fault_words fault ∷ map fault_words faults
+
+-- that a file is left out
+abbrev pub left_out_part : NoteFault → List ℕ
+left_out_part fault = codes "<p>" ++ escaped (joined (fault_words fault)) ++ codes "</p>\n"
+
+-- which files beside the report are left out
+abbrev pub left_out_text : Style → List NoteFault → List ℕ
+left_out_text Text faults = spelling (left_out_lines faults)
+left_out_text Page faults = flat_map left_out_part faults
+
+-- an instance, with what stands beside the report
+abbrev pub answered_text : Style → Beside → AnsweredForm → List ℕ
+answered_text Text beside answered = spelling (answered_lines beside answered)
+answered_text Page beside answered = answered_part beside answered
 
 -- those of further instances that are shown, where so many that are asked for were before them
-unfoldable pub text_after : ShowForm → ℕ → List AnsweredForm → List ℕ
-text_after command before answers = flat_map (answered_text command.style) (shown_of command (command.most - before) answers)
+unfoldable pub text_after : ShowForm → Beside → ℕ → List AnsweredForm → List ℕ
+text_after command beside before answers = flat_map (answered_text command.style beside) (shown_of command (command.most - before) answers)
 
 -- how many of so many instances that are asked for are shown
 abbrev pub shown_words : ℕ → ℕ → List (List ℕ)
@@ -65,24 +84,25 @@ foot_text Text = []
 foot_text Page = page_foot
 
 -- the instances of a report that are asked for
-abbrev pub answers_text : ShowForm → List AnsweredForm → List ℕ
-answers_text command answers =
-    flat_map (answered_text command.style) (shown_of command command.most answers)
+abbrev pub answers_text : ShowForm → Beside → List AnsweredForm → List ℕ
+answers_text command beside answers =
+    flat_map (answered_text command.style beside) (shown_of command command.most answers)
     ++ shown_text command.style (length (shown_of command command.most answers)) (length (asked_of command answers))
 
 -- all instances of what was submitted
 abbrev pub submitted_answers : Submission → List AnsweredForm
 submitted_answers submission = answers_of submission.listing.properties (all_windows submission.listing.recording) submission.report.windows
 
--- what is shown behind the table: nothing of a report that is rejected
-abbrev pub body_text : ShowForm → Submission → Checked → List ℕ
-body_text command submission Accepted = answers_text command (submitted_answers submission)
-body_text command submission (Rejected failure) = []
+-- which instances are shown: none of a report that is rejected
+abbrev pub body_text : ShowForm → Submission → Beside → Checked → List ℕ
+body_text command submission beside Accepted = answers_text command beside (submitted_answers submission)
+body_text command submission beside (Rejected failure) = []
 
--- what is shown of a report that was checked so
-abbrev pub show_text : ShowForm → Submission → Checked → List ℕ
-show_text command submission checked =
-    head_text command.style submission checked ++ body_text command submission checked ++ foot_text command.style
+-- what is shown of a report that was checked so, beside which this stands
+abbrev pub show_text : ShowForm → Submission → Noted → Checked → List ℕ
+show_text command submission noted checked =
+    head_text command.style submission checked ++ left_out_text command.style noted.left_out
+    ++ body_text command submission noted.beside checked ++ foot_text command.style
 
 -- 0 where it is accepted, and 1 where it is rejected
 abbrev pub show_status : Checked → ℕ
@@ -90,6 +110,6 @@ show_status Accepted = 0
 show_status (Rejected failure) = 1
 
 -- what is told, of which nothing is kept
-abbrev pub of_shown : ShowForm → Submission → Checked → Told
-of_shown command submission checked =
-    record { status = show_status checked; text = show_text command submission checked; kept = Nothing }
+abbrev pub of_shown : ShowForm → Submission → Noted → Checked → Told
+of_shown command submission noted checked =
+    record { status = show_status checked; text = show_text command submission noted checked; kept = Nothing }

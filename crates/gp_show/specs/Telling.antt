@@ -4,6 +4,6 @@ use Rattle.gp_words.specs.Showing.{show_form}
 use Rattle.gp_show.specs.declared.shown.Shown.{Shown}
 use Rattle.gp_show.specs.Show.{of_shown}
 
--- what is shown of a report that was checked
+-- what is shown of a report that was checked, with what stands beside it
 abbrev pub of_result : Shown → Told
-of_result shown = of_shown (show_form shown.command) shown.submission shown.checked
+of_result shown = of_shown (show_form shown.command) shown.submission shown.noted shown.checked

@@ -1,4 +1,4 @@
--- A story as text: a line for each part. A line is a list of phrases, and a space stands between two of them.
+-- A story as text: a line for each part. `behind` says what stands behind all else that is said of an event. A line is a list of phrases, and a space stands between two of them.
 use Rattle.std.specs.Prelude.{ℕ, ◌+◌, ◌-◌, Bool, List, [], ◌∷◌, ◌++◌, Option, Some, None, if◌then◌else◌, codes, decimal, length, slice_get}
 use Rattle.std.specs.List.{flat_map}
 use Rattle.gp_trace.specs.declared.event.Event.{Event}
@@ -50,9 +50,10 @@ abbrev pub told_words : Option Event → StoryLine → List (List ℕ)
 told_words (Some event) line = event_words event ++ (source_words event line.source ++ remark_words line)
 told_words None line = codes "no event" ∷ remark_words line
 
--- one line: its place from 1, the id of its event, and what is told of it
-abbrev pub single_line : WindowForm → StoryLine → List (List ℕ)
-single_line window line = decimal (line.place + 1) ∷ event_id_text line.event ∷ told_words (event_at window line.event) line
+-- one line: its place from 1, the id of its event, what is told of it, and what stands behind that
+abbrev pub single_line : (EventId → List (List ℕ)) → WindowForm → StoryLine → List (List ℕ)
+single_line behind window line =
+    decimal (line.place + 1) ∷ event_id_text line.event ∷ (told_words (event_at window line.event) line ++ behind line.event)
 
 -- so many lines as one: the first and the last place, the first and the last event, and how many there are
 abbrev pub run_line : StoryLine → StoryLine → ℕ → List (List ℕ)
@@ -68,10 +69,10 @@ run_between (Some first) None count = []
 run_between None last count = []
 
 -- the lines of a part; a run without lines has none
-abbrev pub part_lines : WindowForm → Part → List (List (List ℕ))
-part_lines window (Single line) = single_line window line ∷ []
-part_lines window (Run lines) = run_between (slice_get lines 0) (slice_get lines (length lines - 1)) (length lines)
+abbrev pub part_lines : (EventId → List (List ℕ)) → WindowForm → Part → List (List (List ℕ))
+part_lines behind window (Single line) = single_line behind window line ∷ []
+part_lines behind window (Run lines) = run_between (slice_get lines 0) (slice_get lines (length lines - 1)) (length lines)
 
 -- a story of a window
-abbrev pub story_lines : WindowForm → Story → List (List (List ℕ))
-story_lines window story = flat_map (part_lines window) story.parts
+abbrev pub story_lines : (EventId → List (List ℕ)) → WindowForm → Story → List (List (List ℕ))
+story_lines behind window story = flat_map (part_lines behind window) story.parts

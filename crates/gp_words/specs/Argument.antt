@@ -2,7 +2,7 @@
 use Rattle.std.specs.Prelude.{ℕ, Bool, true, false, List, Option, Some, None, if◌then◌else◌, codes}
 use Rattle.std.specs.Str.{bytes_eq}
 use Rattle.gp_words.specs.declared.argument.Argument.{Argument}
-use Rattle.gp_words.specs.declared.argument.Argument.TheVariants.{Task, Workers, Budget, Report, Seed, Threads, Events, As, Window, Property, Instance, Most, Part, Of, Folder}
+use Rattle.gp_words.specs.declared.argument.Argument.TheVariants.{Task, Workers, Budget, Report, Seed, Threads, Events, As, Source, Window, Property, Instance, Most, Part, Of, Folder}
 use Rattle.gp_words.specs.declared.argument.Program.{Program}
 use Rattle.gp_words.specs.declared.argument.Program.TheVariants.{Gpredict, Gpshow, Gpshards}
 
@@ -21,10 +21,11 @@ gpredict_option name =
 abbrev pub gpshow_option : List ℕ → Option Argument
 gpshow_option name =
     if bytes_eq name (codes "--as") then Some As
+    else (if bytes_eq name (codes "--source") then Some Source
     else (if bytes_eq name (codes "--window") then Some Window
     else (if bytes_eq name (codes "--property") then Some Property
     else (if bytes_eq name (codes "--instance") then Some Instance
-    else (if bytes_eq name (codes "--most") then Some Most else None))))
+    else (if bytes_eq name (codes "--most") then Some Most else None)))))
 
 -- the option of gpshards that has this name
 abbrev pub gpshards_option : List ℕ → Option Argument
@@ -49,6 +50,7 @@ same_argument Seed Seed = true
 same_argument Threads Threads = true
 same_argument Events Events = true
 same_argument As As = true
+same_argument Source Source = true
 same_argument Window Window = true
 same_argument Property Property = true
 same_argument Instance Instance = true

@@ -9,7 +9,7 @@ pub enum Program {
     Gpshards,
 }
 
-/// What the words of a command line may give: the values of seven options of gpredict, of five of gpshow or of three of gpshards, and
+/// What the words of a command line may give: the values of seven options of gpredict, of six of gpshow or of three of gpshards, and
 /// folders.
 #[derive(Clone, Copy, PartialEq, Eq)]
 pub enum Argument {
@@ -21,6 +21,7 @@ pub enum Argument {
     Threads,
     Events,
     As,
+    Source,
     Window,
     Property,
     Instance,
@@ -62,6 +63,7 @@ fn gpshow_option(name: &str) -> Option<Argument>
 {
     match name {
         "--as" => Some(Argument::As),
+        "--source" => Some(Argument::Source),
         "--window" => Some(Argument::Window),
         "--property" => Some(Argument::Property),
         "--instance" => Some(Argument::Instance),

@@ -1,4 +1,5 @@
 ghost use Rattle.std.specs.Prelude.{◌≡◌, IfSome, map, option_map, string_bytes};
+ghost use Rattle.gp_words.specs.Showing.{folder_asked};
 ghost use Rattle.gp_words.specs.Command.{IsInRanges, command_of, folder_of, form_of, is_folder, task_of};
 
 use crate::argument::{Argument, Program};
@@ -92,6 +93,16 @@ pub fn folder_of(words: &[String], program: Program) -> Option<&str>
     ensures { option_map (λ folder. folder.now) result ≡ folder_of program (map string_bytes words.now) }
 {
     value_of(words, program, Argument::Folder)?.filter(|name| is_folder(name))
+}
+
+/// The folder that an option names, where it is given.
+pub fn folder_asked(words: &[String], program: Program, option: Argument) -> Option<Option<&str>>
+    ensures { option_map (λ folder. option_map (λ name. name.now) folder) result ≡ folder_asked program option (map string_bytes words.now) }
+{
+    match value_of(words, program, option)? {
+        None => Some(None),
+        Some(name) => is_folder(name).then_some(Some(name)),
+    }
 }
 
 /// Whether a folder may have this name.

@@ -2,7 +2,7 @@ ghost use Rattle.std.specs.Prelude.{◌≡◌, map, option_map, string_bytes};
 ghost use Rattle.gp_words.specs.Showing.{show_command_of, show_form, style_named, style_of};
 
 use crate::argument::{Argument, Program};
-use crate::command::folder_of;
+use crate::command::{folder_asked, folder_of};
 use crate::number::{Setting, number, number_asked};
 use crate::value::value_of;
 
@@ -28,6 +28,8 @@ pub struct ShowCommand<'a> {
     pub style: Style,
     /// The folder that holds the files.
     pub folder: &'a str,
+    /// The directory in which the sources of the program lie, where that is said.
+    pub source: Option<&'a str>,
     /// The window whose instances are shown; those of all windows, where it is `None`.
     pub window: Option<u32>,
     /// The property whose instances are shown, or all.
@@ -45,6 +47,7 @@ pub fn show_command_of(words: &[String]) -> Option<ShowCommand<'_>>
     Some(ShowCommand {
         style: style_of(words)?,
         folder: folder_of(words, Program::Gpshow)?,
+        source: folder_asked(words, Program::Gpshow, Argument::Source)?,
         window: number_asked(words, Program::Gpshow, Argument::Window, 1, 4096)?,
         property: value_of(words, Program::Gpshow, Argument::Property)?,
         instance: number_asked(words, Program::Gpshow, Argument::Instance, 0, 9999)?,

@@ -1,0 +1,59 @@
+ghost use Rattle.std.specs.Prelude.{◌≡◌, ◌++◌, OnOk, option_map};
+ghost use Rattle.gp_text.specs.Spelling.{after_words};
+ghost use Rattle.gp_place.specs.Places.{behind, entry_of, in_parentheses, named, number_at, numbers_in, text_at};
+
+use gp_base::Row;
+use gp_window::{EventId, put_event_id};
+use std::alloc::AllocError;
+
+/// Where in the program the events of a recording are. A place has a number, from 1.
+#[derive(Drop)]
+pub struct Places {
+    /// The text of each place, in order of number.
+    pub texts: Row<Row<u8>>,
+    /// The number of the place of each event, by thread, window and index; 0 where none is told.
+    pub numbers: Row<Row<Row<u32>>>,
+}
+
+/// The text of an event's place, where it is told.
+pub fn text_at(places: &Places, window: u32, event: EventId) -> Option<&[u8]>
+    ensures { option_map (λ text. text.now) result ≡ text_at places.now window event }
+{
+    let number = number_at(places, window, event)?;
+    let text = entry_of(places.texts.as_slice(), number)?;
+    Some(text.as_slice())
+}
+
+/// Puts the place of an event behind what stands in the line, where it is told.
+pub fn put_behind(
+    text: &mut Vec<u8>,
+    places: &Places,
+    window: u32,
+    event: EventId,
+) -> Result<(), AllocError>
+    ensures { OnOk result (text.new.items ≡ text.old.items ++ after_words (behind places.now window event)) }
+{
+    let Some(place) = text_at(places, window, event) else {
+        return Ok(());
+    };
+    text.extend_from_slice(b"  ")?;
+    text.extend_from_slice(place)
+}
+
+/// Puts the id of an event, with its place in parentheses where that is told.
+pub fn put_named(
+    text: &mut Vec<u8>,
+    places: &Places,
+    window: u32,
+    event: EventId,
+) -> Result<(), AllocError>
+    ensures { OnOk result (text.new.items ≡ text.old.items ++ named places.now window event) }
+{
+    put_event_id(text, event)?;
+    let Some(place) = text_at(places, window, event) else {
+        return Ok(());
+    };
+    text.extend_from_slice(b" (")?;
+    text.extend_from_slice(place)?;
+    text.extend_from_slice(b")")
+}

@@ -1,6 +1,9 @@
 -- Nothing of what a page shows is read as markup.
 use Rattle.std.proofs.Common.{◌≡◌, refl, sym, ℕ, List, ◌++◌, length, subst}
 use Rattle.std.specs.Prelude.{codes, flat_map}
+use Rattle.gp_beside.specs.Refusal.{fault_words}
+use Rattle.gp_beside.specs.declared.beside.Noted.{Noted}
+use Rattle.gp_beside.specs.declared.fault.NoteFault.{NoteFault}
 use Rattle.gp_checker.specs.declared.failure.Checked.{Checked}
 use Rattle.gp_checker.specs.declared.failure.Checked.TheVariants.{Accepted, Rejected}
 use Rattle.gp_drawing.specs.Markup.{DrawingsHaveOwnMarkup, HasOwnMarkup}
@@ -13,12 +16,12 @@ use Rattle.gp_text.specs.Spelling.{joined}
 use Rattle.gp_view.specs.Answered.{AnsweredForm}
 use Rattle.gp_view.specs.Laws.{AnswersHaveOwnMarkup}
 use Rattle.gp_view.specs.Page.{answered_part}
-use Rattle.gp_words.specs.Showing.{ShowForm}
 use Rattle.gp_words.specs.declared.showing.Style.{Style}
 use Rattle.gp_words.specs.declared.showing.Style.TheVariants.{Page}
 use Rattle.gp_show.specs.Choice.{asked_of, shown_of}
 use Rattle.gp_show.specs.Laws.{PagesHaveOwnMarkup}
-use Rattle.gp_show.specs.Show.{answered_text, body_text, foot_text, head_text, page_foot, page_head, shown_text, shown_words, style_sheet, submitted_answers}
+use Rattle.gp_show.specs.Request.{RequestForm}
+use Rattle.gp_show.specs.Show.{answered_text, before_text, body_text, foot_text, head_text, left_out_part, left_out_text, page_foot, page_head, request_with, shown_text, shown_words, style_sheet, submitted_answers}
 
 style_own : HasOwnMarkup style_sheet
 unfolding style_sheet
@@ -47,20 +50,30 @@ module _ (drawings : DrawingsHaveOwnMarkup) (overviews : OverviewsHaveOwnMarkup)
       (markup_append page_head (verdict_part submission.report.windows checked) (head_own drawings) (overviews.verdict submission.report.windows checked))
       (overviews.table submission.listing.properties submission.report.windows)
 
+  left_out_own : (faults : List NoteFault) → HasOwnMarkup (left_out_text Page faults)
+  left_out_own faults = markup_flat_map left_out_part faults (λ fault. markup_words (codes "<p>") (joined (fault_words fault)) (codes "</p>\n") refl refl)
+
+  all_before_own : (submission : Submission) (noted : Noted) (checked : Checked) → HasOwnMarkup (before_text Page submission noted checked)
+  all_before_own submission noted checked =
+      markup_append (head_text Page submission checked) (left_out_text Page noted.left_out) (before_own submission checked) (left_out_own noted.left_out)
+
   -- the style is a page
-  body_own : (command : ShowForm) (submission : Submission) (checked : Checked) → command.style ≡ Page → HasOwnMarkup (body_text command submission checked)
-  body_own command submission Accepted is =
+  body_own : (request : RequestForm) (submission : Submission) (checked : Checked) → request.command.style ≡ Page → HasOwnMarkup (body_text request submission checked)
+  body_own request submission Accepted is =
       let answers : List AnsweredForm = submitted_answers submission in
-      let shown : List AnsweredForm = shown_of command command.most answers in
-      let asked : List AnsweredForm = asked_of command answers in
-      subst (λ (style : Style). HasOwnMarkup (flat_map (answered_text style) shown ++ shown_text style (length shown) (length asked))) (sym is)
-      (markup_append (flat_map answered_part shown) (shown_text Page (length shown) (length asked)) (markup_flat_map answered_part shown answers_own) (count_own (length shown) (length asked)))
-  body_own command submission (Rejected failure) is = markup_nil
+      let shown : List AnsweredForm = shown_of request.command request.command.most answers in
+      let asked : List AnsweredForm = asked_of request.command answers in
+      subst (λ (style : Style). HasOwnMarkup (flat_map (answered_text style request.beside) shown ++ shown_text style (length shown) (length asked))) (sym is)
+      (markup_append (flat_map (answered_part request.beside) shown) (shown_text Page (length shown) (length asked))
+      (markup_flat_map (answered_part request.beside) shown (answers_own request.beside)) (count_own (length shown) (length asked)))
+  body_own request submission (Rejected failure) is = markup_nil
 
   pub pages_own : PagesHaveOwnMarkup
-  pages_own command submission checked is =
-      markup_append (head_text command.style submission checked ++ body_text command submission checked) (foot_text command.style)
-      (markup_append (head_text command.style submission checked) (body_text command submission checked)
-      (subst (λ (style : Style). HasOwnMarkup (head_text style submission checked)) (sym is) (before_own submission checked))
-      (body_own command submission checked is))
+  pages_own command submission noted checked is =
+      let before : List ℕ = before_text command.style submission noted checked in
+      let body : List ℕ = body_text (request_with command noted) submission checked in
+      markup_append (before ++ body) (foot_text command.style)
+      (markup_append before body
+      (subst (λ (style : Style). HasOwnMarkup (before_text style submission noted checked)) (sym is) (all_before_own submission noted checked))
+      (body_own (request_with command noted) submission checked is))
       (subst (λ (style : Style). HasOwnMarkup (foot_text style)) (sym is) foot_own)

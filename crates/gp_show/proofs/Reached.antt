@@ -16,6 +16,6 @@ text_means reply = refl
 
 -- what is met by what was submitted is met by what is due
 pub reached : (command : ShowForm) (files : Option (List File)) (P : Expected → Type 0)
-    → ((told : List File) → files ≡ Some told → P (as_shown command (submission_at told command.folder))) → WhereDue (due_by command files) P
+    → ((told : List File) → files ≡ Some told → P (as_shown told command (submission_at told command.folder))) → WhereDue (due_by command files) P
 reached command None P holds = where_none P
-reached command (Some told) P holds = where_due (as_shown command (submission_at told command.folder)) P (holds told refl)
+reached command (Some told) P holds = where_due (as_shown told command (submission_at told command.folder)) P (holds told refl)

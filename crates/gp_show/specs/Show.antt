@@ -24,6 +24,7 @@ use Rattle.gp_words.specs.declared.showing.Style.{Style}
 use Rattle.gp_words.specs.declared.showing.Style.TheVariants.{Text, Page}
 use Rattle.gp_show.specs.Answers.{answers_of}
 use Rattle.gp_show.specs.Choice.{asked_of, shown_of}
+use Rattle.gp_show.specs.Request.{RequestForm}
 
 -- how a page looks, by light and by dark
 unfoldable pub style_sheet : List ℕ
@@ -39,7 +40,7 @@ page_head =
 unfoldable pub page_foot : List ℕ
 page_foot = codes "</body>\n</html>\n"
 
--- what stands before the instances
+-- the verdict and the table
 abbrev pub head_text : Style → Submission → Checked → List ℕ
 head_text Text submission checked =
     spelling (verdict_words submission.report.windows checked ∷ [] ∷ []) ++ table_text submission.listing.properties submission.report.windows
@@ -60,14 +61,19 @@ abbrev pub left_out_text : Style → List NoteFault → List ℕ
 left_out_text Text faults = spelling (left_out_lines faults)
 left_out_text Page faults = flat_map left_out_part faults
 
+-- what stands before the instances of a report beside which this stands
+abbrev pub before_text : Style → Submission → Noted → Checked → List ℕ
+before_text style submission noted checked = head_text style submission checked ++ left_out_text style noted.left_out
+
 -- an instance, with what stands beside the report
 abbrev pub answered_text : Style → Beside → AnsweredForm → List ℕ
 answered_text Text beside answered = spelling (answered_lines beside answered)
 answered_text Page beside answered = answered_part beside answered
 
 -- those of further instances that are shown, where so many that are asked for were before them
-unfoldable pub text_after : ShowForm → Beside → ℕ → List AnsweredForm → List ℕ
-text_after command beside before answers = flat_map (answered_text command.style beside) (shown_of command (command.most - before) answers)
+unfoldable pub text_after : RequestForm → ℕ → List AnsweredForm → List ℕ
+text_after request before answers =
+    flat_map (answered_text request.command.style request.beside) (shown_of request.command (request.command.most - before) answers)
 
 -- how many of so many instances that are asked for are shown
 abbrev pub shown_words : ℕ → ℕ → List (List ℕ)
@@ -84,25 +90,28 @@ foot_text Text = []
 foot_text Page = page_foot
 
 -- the instances of a report that are asked for
-abbrev pub answers_text : ShowForm → Beside → List AnsweredForm → List ℕ
-answers_text command beside answers =
-    flat_map (answered_text command.style beside) (shown_of command command.most answers)
-    ++ shown_text command.style (length (shown_of command command.most answers)) (length (asked_of command answers))
+abbrev pub answers_text : RequestForm → List AnsweredForm → List ℕ
+answers_text request answers =
+    flat_map (answered_text request.command.style request.beside) (shown_of request.command request.command.most answers)
+    ++ shown_text request.command.style (length (shown_of request.command request.command.most answers)) (length (asked_of request.command answers))
 
 -- all instances of what was submitted
 abbrev pub submitted_answers : Submission → List AnsweredForm
 submitted_answers submission = answers_of submission.listing.properties (all_windows submission.listing.recording) submission.report.windows
 
 -- which instances are shown: none of a report that is rejected
-abbrev pub body_text : ShowForm → Submission → Beside → Checked → List ℕ
-body_text command submission beside Accepted = answers_text command beside (submitted_answers submission)
-body_text command submission beside (Rejected failure) = []
+abbrev pub body_text : RequestForm → Submission → Checked → List ℕ
+body_text request submission Accepted = answers_text request (submitted_answers submission)
+body_text request submission (Rejected failure) = []
+
+-- a command, where this stands beside the report
+abbrev pub request_with : ShowForm → Noted → RequestForm
+request_with command noted = record { command = command; beside = noted.beside }
 
 -- what is shown of a report that was checked so, beside which this stands
 abbrev pub show_text : ShowForm → Submission → Noted → Checked → List ℕ
 show_text command submission noted checked =
-    head_text command.style submission checked ++ left_out_text command.style noted.left_out
-    ++ body_text command submission noted.beside checked ++ foot_text command.style
+    before_text command.style submission noted checked ++ body_text (request_with command noted) submission checked ++ foot_text command.style
 
 -- 0 where it is accepted, and 1 where it is rejected
 abbrev pub show_status : Checked → ℕ

@@ -3,10 +3,12 @@ ghost use Rattle.gp_outside.specs.Faults.{Rose};
 ghost use Rattle.gp_outside.specs.Sinks.{Appends, AppendsFront};
 ghost use Rattle.gp_show.specs.Answers.{answers_among, answers_from, answers_in, answers_of, answers_over};
 ghost use Rattle.gp_show.specs.Choice.{asked_count};
+ghost use Rattle.gp_show.specs.Request.{request_form};
 ghost use Rattle.gp_show.specs.Show.{submitted_answers, text_after};
 ghost use Rattle.gp_window.specs.Windows.{all_windows};
 ghost use Rattle.gp_words.specs.Showing.{show_form};
 
+use crate::request::Request;
 use crate::telling::put_if_shown;
 use gp_certificate::Step;
 use gp_constraint::{BaseFault, Encoded, base};
@@ -16,7 +18,6 @@ use gp_property::Property;
 use gp_report::{Entry, PropertyRecord, WindowRecord};
 use gp_view::Answered;
 use gp_window::{Recording, Window, Windows};
-use gp_words::ShowCommand;
 use std::alloc::Global;
 
 /// A window whose instances are told, with the steps that its certificates share.
@@ -31,20 +32,20 @@ struct Basis<'a> {
 pub fn put_submitted<S: Sink>(
     alloc: Global,
     sink: &mut S,
-    command: &ShowCommand<'_>,
+    request: &Request<'_>,
     submission: &Submission,
 ) -> Result<u64, PutFault>
     ensures later { S.faults sink.old ≤ S.faults sink.new }
-    ensures count { IfOk result (λ count. count ≡ 0 + asked_count (show_form command.now) (submitted_answers submission.now)) }
-    ensures ok { OnOk result (Appends (S.written sink.old) (S.written sink.new) (text_after (show_form command.now) 0 (submitted_answers submission.now))) }
-    ensures err { OnErr result (AppendsFront (S.written sink.old) (S.written sink.new) (text_after (show_form command.now) 0 (submitted_answers submission.now))) }
+    ensures count { IfOk result (λ count. count ≡ 0 + asked_count (show_form request.now.command) (submitted_answers submission.now)) }
+    ensures ok { OnOk result (Appends (S.written sink.old) (S.written sink.new) (text_after (request_form request.now) 0 (submitted_answers submission.now))) }
+    ensures err { OnErr result (AppendsFront (S.written sink.old) (S.written sink.new) (text_after (request_form request.now) 0 (submitted_answers submission.now))) }
     ensures failed { result ≡ Err PutFault.Failed → Rose (S.faults sink.old) (S.faults sink.new) }
 {
     let listing = &submission.listing;
     put_windows(
         alloc,
         sink,
-        command,
+        request,
         &listing.recording,
         listing.properties.as_slice(),
         submission.report.windows(),
@@ -54,19 +55,19 @@ pub fn put_submitted<S: Sink>(
 fn put_windows<S: Sink>(
     alloc: Global,
     sink: &mut S,
-    command: &ShowCommand<'_>,
+    request: &Request<'_>,
     recording: &Recording,
     properties: &[Property],
     records: &[WindowRecord],
 ) -> Result<u64, PutFault>
     ensures later { S.faults sink.old ≤ S.faults sink.new }
-    ensures count { IfOk result (λ count. count ≡ 0 + asked_count (show_form command.now) (answers_of properties.now (all_windows recording.now) records.now)) }
-    ensures ok { OnOk result (Appends (S.written sink.old) (S.written sink.new) (text_after (show_form command.now) 0 (answers_of properties.now (all_windows recording.now) records.now))) }
-    ensures err { OnErr result (AppendsFront (S.written sink.old) (S.written sink.new) (text_after (show_form command.now) 0 (answers_of properties.now (all_windows recording.now) records.now))) }
+    ensures count { IfOk result (λ count. count ≡ 0 + asked_count (show_form request.now.command) (answers_of properties.now (all_windows recording.now) records.now)) }
+    ensures ok { OnOk result (Appends (S.written sink.old) (S.written sink.new) (text_after (request_form request.now) 0 (answers_of properties.now (all_windows recording.now) records.now))) }
+    ensures err { OnErr result (AppendsFront (S.written sink.old) (S.written sink.new) (text_after (request_form request.now) 0 (answers_of properties.now (all_windows recording.now) records.now))) }
     ensures failed { result ≡ Err PutFault.Failed → Rose (S.faults sink.old) (S.faults sink.new) }
 {
     let mut windows = Windows::new(alloc, recording)?;
-    let asked = put_each_window(alloc, sink, command, properties, records, &mut windows);
+    let asked = put_each_window(alloc, sink, request, properties, records, &mut windows);
     drop(windows);
     asked
 }
@@ -75,15 +76,15 @@ fn put_windows<S: Sink>(
 fn put_each_window<S: Sink>(
     alloc: Global,
     sink: &mut S,
-    command: &ShowCommand<'_>,
+    request: &Request<'_>,
     properties: &[Property],
     records: &[WindowRecord],
     windows: &mut Windows,
 ) -> Result<u64, PutFault>
     ensures later { S.faults sink.old ≤ S.faults sink.new }
-    ensures count { IfOk result (λ count. count ≡ 0 + asked_count (show_form command.now) (answers_of properties.now windows.old records.now)) }
-    ensures ok { OnOk result (Appends (S.written sink.old) (S.written sink.new) (text_after (show_form command.now) 0 (answers_of properties.now windows.old records.now))) }
-    ensures err { OnErr result (AppendsFront (S.written sink.old) (S.written sink.new) (text_after (show_form command.now) 0 (answers_of properties.now windows.old records.now))) }
+    ensures count { IfOk result (λ count. count ≡ 0 + asked_count (show_form request.now.command) (answers_of properties.now windows.old records.now)) }
+    ensures ok { OnOk result (Appends (S.written sink.old) (S.written sink.new) (text_after (request_form request.now) 0 (answers_of properties.now windows.old records.now))) }
+    ensures err { OnErr result (AppendsFront (S.written sink.old) (S.written sink.new) (text_after (request_form request.now) 0 (answers_of properties.now windows.old records.now))) }
     ensures failed { result ≡ Err PutFault.Failed → Rose (S.faults sink.old) (S.faults sink.new) }
 {
     let mut asked = 0u64;
@@ -91,7 +92,7 @@ fn put_each_window<S: Sink>(
         let Some(window) = windows.next(alloc)? else {
             return Ok(asked);
         };
-        asked = put_window(alloc, sink, command, properties, window, told, asked)?;
+        asked = put_window(alloc, sink, request, properties, window, told, asked)?;
     }
     Ok(asked)
 }
@@ -99,21 +100,21 @@ fn put_each_window<S: Sink>(
 fn put_window<S: Sink>(
     alloc: Global,
     sink: &mut S,
-    command: &ShowCommand<'_>,
+    request: &Request<'_>,
     properties: &[Property],
     window: Window,
     told: &WindowRecord,
     asked: u64,
 ) -> Result<u64, PutFault>
     ensures later { S.faults sink.old ≤ S.faults sink.new }
-    ensures count { IfOk result (λ count. count ≡ asked + asked_count (show_form command.now) (answers_in properties.now window told.now)) }
-    ensures ok { OnOk result (Appends (S.written sink.old) (S.written sink.new) (text_after (show_form command.now) asked (answers_in properties.now window told.now))) }
-    ensures err { OnErr result (AppendsFront (S.written sink.old) (S.written sink.new) (text_after (show_form command.now) asked (answers_in properties.now window told.now))) }
+    ensures count { IfOk result (λ count. count ≡ asked + asked_count (show_form request.now.command) (answers_in properties.now window told.now)) }
+    ensures ok { OnOk result (Appends (S.written sink.old) (S.written sink.new) (text_after (request_form request.now) asked (answers_in properties.now window told.now))) }
+    ensures err { OnErr result (AppendsFront (S.written sink.old) (S.written sink.new) (text_after (request_form request.now) asked (answers_in properties.now window told.now))) }
     ensures failed { result ≡ Err PutFault.Failed → Rose (S.faults sink.old) (S.faults sink.new) }
 {
     match base(alloc, window) {
         Ok(encoded) => {
-            let put = put_encoded(alloc, sink, command, properties, &encoded, told, asked);
+            let put = put_encoded(alloc, sink, request, properties, &encoded, told, asked);
             drop(encoded);
             put
         }
@@ -125,16 +126,16 @@ fn put_window<S: Sink>(
 fn put_encoded<S: Sink>(
     alloc: Global,
     sink: &mut S,
-    command: &ShowCommand<'_>,
+    request: &Request<'_>,
     properties: &[Property],
     encoded: &Encoded,
     told: &WindowRecord,
     asked: u64,
 ) -> Result<u64, PutFault>
     ensures later { S.faults sink.old ≤ S.faults sink.new }
-    ensures count { IfOk result (λ count. count ≡ asked + asked_count (show_form command.now) (answers_over properties.now told.now (Ok encoded.now))) }
-    ensures ok { OnOk result (Appends (S.written sink.old) (S.written sink.new) (text_after (show_form command.now) asked (answers_over properties.now told.now (Ok encoded.now)))) }
-    ensures err { OnErr result (AppendsFront (S.written sink.old) (S.written sink.new) (text_after (show_form command.now) asked (answers_over properties.now told.now (Ok encoded.now)))) }
+    ensures count { IfOk result (λ count. count ≡ asked + asked_count (show_form request.now.command) (answers_over properties.now told.now (Ok encoded.now))) }
+    ensures ok { OnOk result (Appends (S.written sink.old) (S.written sink.new) (text_after (request_form request.now) asked (answers_over properties.now told.now (Ok encoded.now)))) }
+    ensures err { OnErr result (AppendsFront (S.written sink.old) (S.written sink.new) (text_after (request_form request.now) asked (answers_over properties.now told.now (Ok encoded.now)))) }
     ensures failed { result ≡ Err PutFault.Failed → Rose (S.faults sink.old) (S.faults sink.new) }
 {
     let basis = Basis {
@@ -144,7 +145,7 @@ fn put_encoded<S: Sink>(
     put_properties(
         alloc,
         sink,
-        command,
+        request,
         &basis,
         properties,
         told.body.properties(),
@@ -155,16 +156,16 @@ fn put_encoded<S: Sink>(
 fn put_properties<S: Sink>(
     alloc: Global,
     sink: &mut S,
-    command: &ShowCommand<'_>,
+    request: &Request<'_>,
     basis: &Basis<'_>,
     properties: &[Property],
     records: &[PropertyRecord],
     asked: u64,
 ) -> Result<u64, PutFault>
     ensures later { S.faults sink.old ≤ S.faults sink.new }
-    ensures count { IfOk result (λ count. count ≡ asked + asked_count (show_form command.now) (answers_among basis.now.encoded.now basis.now.shared.now properties.now records.now)) }
-    ensures ok { OnOk result (Appends (S.written sink.old) (S.written sink.new) (text_after (show_form command.now) asked (answers_among basis.now.encoded.now basis.now.shared.now properties.now records.now))) }
-    ensures err { OnErr result (AppendsFront (S.written sink.old) (S.written sink.new) (text_after (show_form command.now) asked (answers_among basis.now.encoded.now basis.now.shared.now properties.now records.now))) }
+    ensures count { IfOk result (λ count. count ≡ asked + asked_count (show_form request.now.command) (answers_among basis.now.encoded.now basis.now.shared.now properties.now records.now)) }
+    ensures ok { OnOk result (Appends (S.written sink.old) (S.written sink.new) (text_after (request_form request.now) asked (answers_among basis.now.encoded.now basis.now.shared.now properties.now records.now))) }
+    ensures err { OnErr result (AppendsFront (S.written sink.old) (S.written sink.new) (text_after (request_form request.now) asked (answers_among basis.now.encoded.now basis.now.shared.now properties.now records.now))) }
     ensures failed { result ≡ Err PutFault.Failed → Rose (S.faults sink.old) (S.faults sink.new) }
 {
     let mut count = asked;
@@ -175,7 +176,7 @@ fn put_properties<S: Sink>(
         count = put_entries(
             alloc,
             sink,
-            command,
+            request,
             basis,
             property,
             told.body.entries(),
@@ -189,16 +190,16 @@ fn put_properties<S: Sink>(
 fn put_entries<S: Sink>(
     alloc: Global,
     sink: &mut S,
-    command: &ShowCommand<'_>,
+    request: &Request<'_>,
     basis: &Basis<'_>,
     property: &Property,
     entries: &[Entry],
     asked: u64,
 ) -> Result<u64, PutFault>
     ensures later { S.faults sink.old ≤ S.faults sink.new }
-    ensures count { IfOk result (λ count. count ≡ asked + asked_count (show_form command.now) (answers_from basis.now.encoded.now basis.now.shared.now property.now 0 entries.now)) }
-    ensures ok { OnOk result (Appends (S.written sink.old) (S.written sink.new) (text_after (show_form command.now) asked (answers_from basis.now.encoded.now basis.now.shared.now property.now 0 entries.now))) }
-    ensures err { OnErr result (AppendsFront (S.written sink.old) (S.written sink.new) (text_after (show_form command.now) asked (answers_from basis.now.encoded.now basis.now.shared.now property.now 0 entries.now))) }
+    ensures count { IfOk result (λ count. count ≡ asked + asked_count (show_form request.now.command) (answers_from basis.now.encoded.now basis.now.shared.now property.now 0 entries.now)) }
+    ensures ok { OnOk result (Appends (S.written sink.old) (S.written sink.new) (text_after (request_form request.now) asked (answers_from basis.now.encoded.now basis.now.shared.now property.now 0 entries.now))) }
+    ensures err { OnErr result (AppendsFront (S.written sink.old) (S.written sink.new) (text_after (request_form request.now) asked (answers_from basis.now.encoded.now basis.now.shared.now property.now 0 entries.now))) }
     ensures failed { result ≡ Err PutFault.Failed → Rose (S.faults sink.old) (S.faults sink.new) }
 {
     if entries.len() > u32::MAX as usize {
@@ -213,7 +214,7 @@ fn put_entries<S: Sink>(
             number: number as u32,
             entry,
         };
-        count = put_if_shown(alloc, sink, command, &answered, count)?;
+        count = put_if_shown(alloc, sink, request, &answered, count)?;
     }
     Ok(count)
 }

@@ -3,9 +3,12 @@ ghost use Rattle.gp_outside.specs.Faults.{Rose};
 ghost use Rattle.gp_outside.specs.Sinks.{Appends, AppendsFront};
 ghost use Rattle.gp_overview.specs.Verdict.{verdict_words};
 ghost use Rattle.gp_text.specs.Spelling.{spelling};
-ghost use Rattle.gp_show.specs.Show.{head_text};
+ghost use Rattle.gp_show.specs.Show.{before_text, head_text};
+ghost use Rattle.gp_words.specs.Showing.{show_form};
 
+use crate::left_out::add_left_out;
 use crate::page::put_page_head;
+use crate::shown::Shown;
 use gp_checker::Checked;
 use gp_outside::{PutFault, Sink};
 use gp_overview::{put_table, put_table_part, put_verdict, put_verdict_part};
@@ -14,22 +17,24 @@ use gp_report::WindowRecord;
 use gp_words::Style;
 use std::alloc::{AllocError, Global};
 
-/// Writes what stands before the instances: the verdict on a report, and its table.
-pub fn put_head<S: Sink>(
-    alloc: Global,
-    sink: &mut S,
-    style: Style,
-    submission: &Submission,
-    checked: Checked,
-) -> Result<(), PutFault>
+/// Writes what stands before the instances: the verdict on a report, its table, and which files beside it are left out.
+pub fn put_head<S: Sink>(alloc: Global, sink: &mut S, shown: &Shown<'_>) -> Result<(), PutFault>
     ensures later { S.faults sink.old ≤ S.faults sink.new }
-    ensures ok { OnOk result (Appends (S.written sink.old) (S.written sink.new) (head_text style submission.now checked)) }
-    ensures err { OnErr result (AppendsFront (S.written sink.old) (S.written sink.new) (head_text style submission.now checked)) }
+    ensures ok { OnOk result (Appends (S.written sink.old) (S.written sink.new) (before_text (show_form shown.now.command).style shown.now.submission shown.now.noted shown.now.checked)) }
+    ensures err { OnErr result (AppendsFront (S.written sink.old) (S.written sink.new) (before_text (show_form shown.now.command).style shown.now.submission shown.now.noted shown.now.checked)) }
     ensures failed { result ≡ Err PutFault.Failed → Rose (S.faults sink.old) (S.faults sink.new) }
 {
     let mut text = Vec::new(alloc);
-    add_head(&mut text, style, submission, checked)?;
+    add_before(&mut text, shown)?;
     put_each_line(sink, text.as_slice())
+}
+
+fn add_before(text: &mut Vec<u8>, shown: &Shown<'_>) -> Result<(), AllocError>
+    ensures { OnOk result (text.new.items ≡ text.old.items ++ before_text (show_form shown.now.command).style shown.now.submission shown.now.noted shown.now.checked) }
+{
+    let style = shown.command.style;
+    add_head(text, style, &shown.submission, shown.checked)?;
+    add_left_out(text, style, shown.noted.left_out.as_slice())
 }
 
 fn add_head(

@@ -1,7 +1,8 @@
 // What people see of a report: the verdict on it, how often each property is found, impossible and undecided, and instances with what
 // shows their answers, as text or as one page.
 //
-// `show` reads a recording, its properties and a report, as task check does, and checks the report. What is rejected is told with the reason, and
+// `show` reads a recording, its properties and a report, as task check does, and what may stand beside them: where in the program the events
+// are, and which instances were seen to happen. It checks the report. What is rejected is told with the reason, and
 // then none of its instances is shown, since what they say may be wrong. A file that breaks a rule is refused by its name, the line
 // and the rule; a fault of the folder or of the sink is never told as an answer. A page wants nothing from outside, and nothing that the
 // files hold is read as markup.
@@ -12,7 +13,9 @@ mod choice;
 mod foot;
 mod head;
 mod laws;
+mod left_out;
 mod page;
+mod request;
 mod shown;
 mod telling;
 mod top;

@@ -2,15 +2,17 @@ ghost use Rattle.std.specs.Prelude.{◌≡◌, ◌≤◌, ◌+◌, ◌++◌, ◌
 ghost use Rattle.gp_outside.specs.Faults.{Rose};
 ghost use Rattle.gp_outside.specs.Sinks.{Appends, AppendsFront};
 ghost use Rattle.gp_show.specs.Choice.{asked_count, asks};
+ghost use Rattle.gp_show.specs.Request.{request_form};
 ghost use Rattle.gp_show.specs.Show.{answered_text, text_after};
 ghost use Rattle.gp_view.specs.Answered.{form_of};
 ghost use Rattle.gp_words.specs.Showing.{show_form};
 
 use crate::choice::asks;
+use crate::request::Request;
 use gp_outside::{PutFault, Sink};
 use gp_predict::put_each_line;
 use gp_view::{Answered, put_answered, put_answered_part};
-use gp_words::{ShowCommand, Style};
+use gp_words::Style;
 use std::alloc::{AllocError, Global};
 
 /// Writes an instance that is asked for, unless as many as may be shown were before it. `asked` are those that are asked for before it,
@@ -18,20 +20,20 @@ use std::alloc::{AllocError, Global};
 pub fn put_if_shown<S: Sink>(
     alloc: Global,
     sink: &mut S,
-    command: &ShowCommand<'_>,
+    request: &Request<'_>,
     answered: &Answered<'_>,
     asked: u64,
 ) -> Result<u64, PutFault>
     ensures later { S.faults sink.old ≤ S.faults sink.new }
-    ensures count { IfOk result (λ count. count ≡ asked + asked_count (show_form command.now) (form_of answered.now ∷ [])) }
-    ensures ok { OnOk result (Appends (S.written sink.old) (S.written sink.new) (text_after (show_form command.now) asked (form_of answered.now ∷ []))) }
-    ensures err { OnErr result (AppendsFront (S.written sink.old) (S.written sink.new) (text_after (show_form command.now) asked (form_of answered.now ∷ []))) }
+    ensures count { IfOk result (λ count. count ≡ asked + asked_count (show_form request.now.command) (form_of answered.now ∷ [])) }
+    ensures ok { OnOk result (Appends (S.written sink.old) (S.written sink.new) (text_after (request_form request.now) asked (form_of answered.now ∷ []))) }
+    ensures err { OnErr result (AppendsFront (S.written sink.old) (S.written sink.new) (text_after (request_form request.now) asked (form_of answered.now ∷ []))) }
     ensures failed { result ≡ Err PutFault.Failed → Rose (S.faults sink.old) (S.faults sink.new) }
 {
-    if !asks(command, answered) {
+    if !asks(&request.command, answered) {
         return Ok(asked);
     }
-    put_if_left(alloc, sink, command, answered, asked)?;
+    put_if_left(alloc, sink, request, answered, asked)?;
     Ok(one_more(asked)?)
 }
 
@@ -39,45 +41,45 @@ pub fn put_if_shown<S: Sink>(
 fn put_if_left<S: Sink>(
     alloc: Global,
     sink: &mut S,
-    command: &ShowCommand<'_>,
+    request: &Request<'_>,
     answered: &Answered<'_>,
     asked: u64,
 ) -> Result<(), PutFault>
-    requires { asks (show_form command.now) (form_of answered.now) ≡ true }
+    requires { asks (show_form request.now.command) (form_of answered.now) ≡ true }
     ensures later { S.faults sink.old ≤ S.faults sink.new }
-    ensures ok { OnOk result (Appends (S.written sink.old) (S.written sink.new) (text_after (show_form command.now) asked (form_of answered.now ∷ []))) }
-    ensures err { OnErr result (AppendsFront (S.written sink.old) (S.written sink.new) (text_after (show_form command.now) asked (form_of answered.now ∷ []))) }
+    ensures ok { OnOk result (Appends (S.written sink.old) (S.written sink.new) (text_after (request_form request.now) asked (form_of answered.now ∷ []))) }
+    ensures err { OnErr result (AppendsFront (S.written sink.old) (S.written sink.new) (text_after (request_form request.now) asked (form_of answered.now ∷ []))) }
     ensures failed { result ≡ Err PutFault.Failed → Rose (S.faults sink.old) (S.faults sink.new) }
 {
-    if u64::from(command.most) <= asked {
+    if u64::from(request.command.most) <= asked {
         return Ok(());
     }
-    put_told(alloc, sink, command.style, answered)
+    put_told(alloc, sink, request, answered)
 }
 
 /// Writes an instance, whose text is made in memory first.
 fn put_told<S: Sink>(
     alloc: Global,
     sink: &mut S,
-    style: Style,
+    request: &Request<'_>,
     answered: &Answered<'_>,
 ) -> Result<(), PutFault>
     ensures later { S.faults sink.old ≤ S.faults sink.new }
-    ensures ok { OnOk result (Appends (S.written sink.old) (S.written sink.new) (answered_text style (form_of answered.now))) }
-    ensures err { OnErr result (AppendsFront (S.written sink.old) (S.written sink.new) (answered_text style (form_of answered.now))) }
+    ensures ok { OnOk result (Appends (S.written sink.old) (S.written sink.new) (answered_text request.now.command.style request.now.beside.now (form_of answered.now))) }
+    ensures err { OnErr result (AppendsFront (S.written sink.old) (S.written sink.new) (answered_text request.now.command.style request.now.beside.now (form_of answered.now))) }
     ensures failed { result ≡ Err PutFault.Failed → Rose (S.faults sink.old) (S.faults sink.new) }
 {
     let mut text = Vec::new(alloc);
-    add_told(&mut text, style, answered)?;
+    add_told(&mut text, request, answered)?;
     put_each_line(sink, text.as_slice())
 }
 
-fn add_told(text: &mut Vec<u8>, style: Style, answered: &Answered<'_>) -> Result<(), AllocError>
-    ensures { OnOk result (text.new.items ≡ text.old.items ++ answered_text style (form_of answered.now)) }
+fn add_told(text: &mut Vec<u8>, request: &Request<'_>, answered: &Answered<'_>) -> Result<(), AllocError>
+    ensures { OnOk result (text.new.items ≡ text.old.items ++ answered_text request.now.command.style request.now.beside.now (form_of answered.now)) }
 {
-    match style {
-        Style::Text => put_answered(text, answered),
-        Style::Page => put_answered_part(text, answered),
+    match request.command.style {
+        Style::Text => put_answered(text, request.beside, answered),
+        Style::Page => put_answered_part(text, request.beside, answered),
     }
 }
 

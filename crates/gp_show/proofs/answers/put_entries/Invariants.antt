@@ -1,11 +1,11 @@
 use Rattle.std.proofs.Common.{◌≤◌, drop}
-use Rattle.gp_words.specs.Showing.{show_form}
 use Rattle.gp_show.specs.Answers.{answers_from}
+use Rattle.gp_show.specs.Request.{request_form}
 use Rattle.gp_show.proofs.Further.{AreShown}
 use Rattle.gp_show.proofs.answers.put_entries.Given as goal
 
 abbrev pub invariant-loop-number : goal.invariant-loop-number
 invariant-loop-number g l =
     (g.S.Sink.faults l.initial.sink ≤ g.S.Sink.faults l.sink)
-    × AreShown (show_form l.command) l.asked (answers_from l.basis.encoded.now l.basis.shared.now l.property 0 l.entries) (g.S.Sink.written l.initial.sink) (g.S.Sink.written l.sink) l.count
+    × AreShown (request_form l.request) l.asked (answers_from l.basis.encoded.now l.basis.shared.now l.property 0 l.entries) (g.S.Sink.written l.initial.sink) (g.S.Sink.written l.sink) l.count
     (answers_from l.basis.encoded.now l.basis.shared.now l.property l.number (drop l.number l.entries))

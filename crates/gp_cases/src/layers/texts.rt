@@ -185,12 +185,13 @@ fn show_command_text(alloc: Global, command: &ShowCommand) -> Result<String, All
     let ShowCommand {
         style,
         folder,
+        source,
         window,
         property,
         instance,
         most,
     } = *command;
-    format!(in alloc; "{style:?} {folder} {window:?} {property:?} {instance:?} {most}")
+    format!(in alloc; "{style:?} {folder} {source:?} {window:?} {property:?} {instance:?} {most}")
 }
 
 fn cut_text(alloc: Global, command: &CutCommand) -> Result<String, AllocError> {

@@ -19,9 +19,36 @@ pub struct Places {
 pub fn text_at(places: &Places, window: u32, event: EventId) -> Option<&[u8]>
     ensures { option_map (λ text. text.now) result ≡ text_at places.now window event }
 {
-    let number = number_at(places, window, event)?;
-    let text = entry_of(places.texts.as_slice(), number)?;
+    let text = entry_of(places.texts.as_slice(), number_at(places, window, event))?;
     Some(text.as_slice())
+}
+
+/// The number of an event's place; 0 where none is told.
+fn number_at(places: &Places, window: u32, event: EventId) -> u32
+    ensures { result ≡ number_at places.now window event }
+{
+    let numbers = numbers_in(places, window, event.thread);
+    numbers.get(event.index as usize).copied().unwrap_or(0)
+}
+
+fn numbers_in(places: &Places, window: u32, thread: u32) -> &[u32]
+    ensures { result.now ≡ numbers_in places.now window thread }
+{
+    let Some(windows) = entry_of(places.numbers.as_slice(), thread) else {
+        return &[];
+    };
+    match entry_of(windows.as_slice(), window) {
+        Some(numbers) => numbers.as_slice(),
+        None => &[],
+    }
+}
+
+/// The entry of this number, from 1.
+fn entry_of<T>(entries: &[T], number: u32) -> Option<&T>
+    ensures { option_map (λ entry. entry.now) result ≡ entry_of entries.now number }
+{
+    let place = number.checked_sub(1)?;
+    entries.get(place as usize)
 }
 
 /// Puts the place of an event behind what stands in the line, where it is told.

@@ -17,7 +17,7 @@ use Rattle.gp_beside.specs.declared.fault.NoteFile.TheVariants as file
 use Rattle.gp_beside.specs.declared.place_list.PlaceList.{PlaceList}
 use Rattle.gp_beside.specs.Files.{path_of, told_at}
 use Rattle.gp_beside.specs.Numbers.{numbers_told}
-use Rattle.gp_beside.specs.PlaceList.{list_told}
+use Rattle.gp_beside.specs.PlaceList.{list_of, list_told}
 use Rattle.gp_beside.specs.Sightings.{sightings_told}
 use Rattle.gp_beside.specs.Sources.{texts_of}
 
@@ -51,9 +51,17 @@ places_by files directory source traces (Some told) =
 abbrev pub some_list : List ℕ → List Line → Result (Option PlaceList) Cause
 some_list bytes lines = and_then (list_told bytes lines) (λ told. Ok (Some told))
 
+-- the same of lines that end at this line
+abbrev pub some_list_of : ℕ → List Line → Result (Option PlaceList) Cause
+some_list_of last lines = and_then (list_of last lines) (λ told. Ok (Some told))
+
+abbrev pub list_at : List File → List ℕ → Result (Option PlaceList) NoteFault
+list_at files directory = or_refused (fault_of file.Places) (told_at files directory file.Places None some_list)
+
+-- the places, by what that file tells
 abbrev pub places_at : List File → List ℕ → Option (List ℕ) → List LocalTraceForm → Result Places NoteFault
 places_at files directory source traces =
-    and_then (or_refused (fault_of file.Places) (told_at files directory file.Places None some_list)) (places_by files directory source traces)
+    and_then (list_at files directory) (places_by files directory source traces)
 
 -- what was seen
 abbrev pub sightings_at : List File → List ℕ → Result (List Sighting) NoteFault

@@ -1,8 +1,10 @@
 -- Lines of the program's source, and the text of a place.
 use Rattle.std.specs.Prelude.{ℕ, zero, suc, ◌-◌, Bool, false, not, ◌==◌, ◌||◌, ◌&&◌, nat_le, nat_lt, List, [], ◌∷◌, ◌++◌, Option, Some, None, codes, decimal, if◌then◌else◌, length, map, slice_get, take, unwrap_or}
 use Rattle.std.specs.List.{list_any, slice_split}
-use Rattle.std.specs.Str.{bytes_eq}
+use Rattle.std.specs.Str.{bytes_eq, is_utf8}
 use Rattle.gp_outside.specs.Folders.{File, file_named}
+use Rattle.gp_beside.specs.declared.files.Content.{Content}
+use Rattle.gp_beside.specs.declared.files.Content.TheVariants as content
 use Rattle.gp_beside.specs.declared.place_list.Place.{Place}
 use Rattle.gp_beside.specs.declared.place_list.PlaceList.{PlaceList}
 
@@ -12,16 +14,26 @@ begins_at_root [] = false
 begins_at_root (b ∷ bytes) = b == 47
 
 -- whether a name leads nowhere but into the directory that it is looked up in: it does not begin at the root, no part of it is `..`, and
--- it has no `%`, behind which other bytes are spelled; 37 is the `%`
+-- it has no `%`, behind which other bytes are spelled; 37 is the `%`. It is text, as a folder asks of names
 abbrev pub is_inside : List ℕ → Bool
 is_inside name =
     not (begins_at_root name) && not (list_any (λ b. b == 37) name)
-    && not (list_any (λ part. bytes_eq part (codes "..")) (slice_split (λ b. b == 47) name))
+    && not (list_any (λ part. bytes_eq part (codes "..")) (slice_split (λ b. b == 47) name)) && is_utf8 name
+
+-- the name, where it leads into the directory
+abbrev pub inside : List ℕ → Option (List ℕ)
+inside name = if is_inside name then Some name else None
 
 -- the lines of a source of at most 1,048,576 bytes; a longer one has none
 abbrev pub lines_of_source : Option (List ℕ) → List (List ℕ)
 lines_of_source None = []
 lines_of_source (Some bytes) = if nat_lt 1048576 (length bytes) then [] else slice_split (λ b. b == 10) bytes
+
+-- the lines of what was read of a source
+abbrev pub source_lines : Content → List (List ℕ)
+source_lines content.Absent = []
+source_lines content.TooLong = []
+source_lines (content.Held bytes) = slice_split (λ b. b == 10) bytes
 
 -- the lines of the source of this name, where the sources are said to lie in a directory
 abbrev pub source_at : List File → Option (List ℕ) → List ℕ → List (List ℕ)

@@ -1,8 +1,9 @@
-ghost use Rattle.std.specs.Prelude.{◌≡◌, ◌++◌, OnOk};
-ghost use Rattle.gp_text.specs.Spelling.{joined};
-ghost use Rattle.gp_beside.specs.Refusal.{fault_words};
+ghost use Rattle.std.specs.Prelude.{◌≡◌, ◌∷◌, ◌++◌, OnOk};
+ghost use Rattle.gp_text.specs.Spelling.{after_words, joined};
+ghost use Rattle.gp_beside.specs.Files.{name_of};
+ghost use Rattle.gp_beside.specs.Refusal.{at_line, cause_words, fault_words};
 
-use gp_text::TextFault;
+use gp_text::{TextFault, print_u64};
 use std::alloc::AllocError;
 
 /// A file that may stand beside a report.
@@ -66,5 +67,54 @@ impl From<AllocError> for NoteStop {
 pub fn put_fault(text: &mut Vec<u8>, fault: NoteFault) -> Result<(), AllocError>
     ensures { OnOk result (text.new.items ≡ text.old.items ++ joined (fault_words fault)) }
 {
-    TODO
+    text.extend_from_slice(b"left out: refused ")?;
+    put_told(text, fault)
+}
+
+#[tactic(auto, using(crate::proofs::Put::first_put))]
+fn put_told(text: &mut Vec<u8>, fault: NoteFault) -> Result<(), AllocError>
+    ensures { OnOk result (text.new.items ≡ text.old.items ++ joined (name_of fault.file ∷ cause_words fault.cause)) }
+{
+    put_name(text, fault.file)?;
+    put_cause(text, fault.cause)
+}
+
+fn put_name(text: &mut Vec<u8>, file: NoteFile) -> Result<(), AllocError>
+    ensures { OnOk result (text.new.items ≡ text.old.items ++ name_of file) }
+{
+    match file {
+        NoteFile::Places => text.extend_from_slice(b"places"),
+        NoteFile::ThreadPlaces(thread) => {
+            text.push(b't')?;
+            print_u64(text, u64::from(thread))?;
+            text.extend_from_slice(b".places")
+        }
+        NoteFile::Confirmed => text.extend_from_slice(b"confirmed"),
+    }
+}
+
+fn put_cause(text: &mut Vec<u8>, cause: Cause) -> Result<(), AllocError>
+    ensures { OnOk result (text.new.items ≡ text.old.items ++ after_words (cause_words cause)) }
+{
+    match cause {
+        Cause::TooLong => text.extend_from_slice(b" toolong"),
+        Cause::Text(TextFault::NotAscii(line)) => put_rule(text, line, b"notascii"),
+        Cause::Text(TextFault::LongLine(line)) => put_rule(text, line, b"longline"),
+        Cause::Text(TextFault::NoLastNewline(line)) => put_rule(text, line, b"nolastnewline"),
+        Cause::Text(TextFault::Memory) => Ok(()),
+        Cause::BadLine(line) => put_rule(text, line, b"badline"),
+        Cause::UnknownFile(line) => put_rule(text, line, b"unknownfile"),
+        Cause::UnknownPlace(line) => put_rule(text, line, b"unknownplace"),
+        Cause::EventCount(line) => put_rule(text, line, b"eventcount"),
+        Cause::TooMany(line) => put_rule(text, line, b"toomany"),
+    }
+}
+
+fn put_rule(text: &mut Vec<u8>, line: u32, rule: &[u8]) -> Result<(), AllocError>
+    ensures { OnOk result (text.new.items ≡ text.old.items ++ after_words (at_line line rule.now)) }
+{
+    text.push(b' ')?;
+    print_u64(text, u64::from(line))?;
+    text.push(b' ')?;
+    text.extend_from_slice(rule)
 }

@@ -5,6 +5,7 @@
 
 mod beside;
 mod fault;
+mod files;
 mod numbers;
 mod place_list;
 mod sightings;

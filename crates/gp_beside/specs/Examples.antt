@@ -1,0 +1,4 @@
+-- Rows.
+use Rattle.std.specs.Prelude.{◌≡◌}
+
+pub record ExamplesHold : Type 0 where

@@ -42,7 +42,7 @@ pub fn noted_at<F: Folder>(
     ensures later { F.faults folder.old ≤ F.faults folder.new }
     ensures kept { F.files folder.new ≡ F.files folder.old }
     ensures told { (files : List File) → F.files folder.old ≡ Some files
-        → IfOk result (λ noted. noted ≡ noted_at files directory.now (option_map (λ at. at.now) source) traces.now) }
+        → IfOk result (λ noted. noted ≡ noted_at files directory.now (option_map (λ at. at.now) source.entry) traces.now) }
     ensures fault { result ≡ Err NoteStop.FolderFailed → Rose (F.faults folder.old) (F.faults folder.new) }
 {
     let places = places_at(alloc, folder, directory, source, traces)?;
@@ -103,7 +103,7 @@ fn places_at<F: Folder>(
     ensures later { F.faults folder.old ≤ F.faults folder.new }
     ensures kept { F.files folder.new ≡ F.files folder.old }
     ensures told { (files : List File) → F.files folder.old ≡ Some files
-        → IfOk result (λ places. places ≡ places_at files directory.now (option_map (λ at. at.now) source) traces.now) }
+        → IfOk result (λ places. places ≡ places_at files directory.now (option_map (λ at. at.now) source.entry) traces.now) }
     ensures fault { result ≡ Err NoteStop.FolderFailed → Rose (F.faults folder.old) (F.faults folder.new) }
 {
     match list_at(alloc, folder, directory)? {
@@ -125,7 +125,7 @@ fn places_by<F: Folder>(
     ensures later { F.faults folder.old ≤ F.faults folder.new }
     ensures kept { F.files folder.new ≡ F.files folder.old }
     ensures told { (files : List File) → F.files folder.old ≡ Some files
-        → IfOk result (λ places. places ≡ places_by files directory.now (option_map (λ at. at.now) source) traces.now (Some told.now)) }
+        → IfOk result (λ places. places ≡ places_by files directory.now (option_map (λ at. at.now) source.entry) traces.now (Some told.now)) }
     ensures fault { result ≡ Err NoteStop.FolderFailed → Rose (F.faults folder.old) (F.faults folder.new) }
 {
     match all_numbers(alloc, folder, directory, told.places.len(), traces)? {
@@ -144,7 +144,7 @@ fn placed<F: Folder>(
     ensures later { F.faults folder.old ≤ F.faults folder.new }
     ensures kept { F.files folder.new ≡ F.files folder.old }
     ensures told { (files : List File) → F.files folder.old ≡ Some files
-        → IfOk result (λ places. places ≡ placed files (option_map (λ at. at.now) source) told.now numbers) }
+        → IfOk result (λ places. places ≡ placed files (option_map (λ at. at.now) source.entry) told.now numbers) }
     ensures fault { result ≡ Err NoteStop.FolderFailed → Rose (F.faults folder.old) (F.faults folder.new) }
 {
     let texts = texts_of(alloc, folder, source, told)?;

@@ -64,17 +64,18 @@ impl From<AllocError> for NoteStop {
 }
 
 /// Puts that a file is left out, since it breaks a rule, as a line that is not ended.
+#[tactic(auto, using(crate::proofs::Put::first_put))]
 pub fn put_fault(text: &mut Vec<u8>, fault: NoteFault) -> Result<(), AllocError>
     ensures { OnOk result (text.new.items ≡ text.old.items ++ joined (fault_words fault)) }
 {
-    text.extend_from_slice(b"left out: refused ")?;
+    text.extend_from_slice(b"left out: refused")?;
     put_told(text, fault)
 }
 
-#[tactic(auto, using(crate::proofs::Put::first_put))]
 fn put_told(text: &mut Vec<u8>, fault: NoteFault) -> Result<(), AllocError>
-    ensures { OnOk result (text.new.items ≡ text.old.items ++ joined (name_of fault.file ∷ cause_words fault.cause)) }
+    ensures { OnOk result (text.new.items ≡ text.old.items ++ after_words (name_of fault.file ∷ cause_words fault.cause)) }
 {
+    text.push(b' ')?;
     put_name(text, fault.file)?;
     put_cause(text, fault.cause)
 }

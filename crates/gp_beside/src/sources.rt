@@ -26,7 +26,7 @@ pub(crate) fn texts_of<F: Folder>(
     ensures later { F.faults folder.old ≤ F.faults folder.new }
     ensures kept { F.files folder.new ≡ F.files folder.old }
     ensures told { (files : List File) → F.files folder.old ≡ Some files
-        → IfOk result (λ texts. texts ≡ texts_of files (option_map (λ at. at.now) directory) told.now) }
+        → IfOk result (λ texts. texts ≡ texts_of files (option_map (λ at. at.now) directory.entry) told.now) }
     ensures fault { result ≡ Err NoteStop.FolderFailed → Rose (F.faults folder.old) (F.faults folder.new) }
 {
     let names = told.files.as_slice();
@@ -44,7 +44,7 @@ fn sources_at<F: Folder>(
     ensures later { F.faults folder.old ≤ F.faults folder.new }
     ensures kept { F.files folder.new ≡ F.files folder.old }
     ensures told { (files : List File) → F.files folder.old ≡ Some files
-        → IfOk result (λ sources. sources ≡ map (source_at files (option_map (λ at. at.now) directory)) names.now) }
+        → IfOk result (λ sources. sources ≡ map (source_at files (option_map (λ at. at.now) directory.entry)) names.now) }
     ensures fault { result ≡ Err NoteStop.FolderFailed → Rose (F.faults folder.old) (F.faults folder.new) }
 {
     let mut sources = Row::new(alloc);
@@ -65,7 +65,7 @@ fn source_at<F: Folder>(
     ensures later { F.faults folder.old ≤ F.faults folder.new }
     ensures kept { F.files folder.new ≡ F.files folder.old }
     ensures told { (files : List File) → F.files folder.old ≡ Some files
-        → IfOk result (λ lines. lines ≡ source_at files (option_map (λ at. at.now) directory) name.now) }
+        → IfOk result (λ lines. lines ≡ source_at files (option_map (λ at. at.now) directory.entry) name.now) }
     ensures fault { result ≡ Err NoteStop.FolderFailed → Rose (F.faults folder.old) (F.faults folder.new) }
 {
     let (Some(directory), Some(name)) = (directory, inside(name)) else {

@@ -1,6 +1,9 @@
 -- The texts of small stories and of reasons, written by hand.
 use Rattle.std.specs.Prelude.{◌≡◌, ℕ, true, false, List, [], ◌∷◌, ◌++◌, codes}
 use Rattle.gp_trace.specs.declared.event.Event.TheVariants as event
+use Rattle.gp_place.specs.Places.{behind, named}
+use Rattle.gp_place.specs.declared.places.Places.{Places}
+use Rattle.gp_window.specs.EventIds.{event_id_text}
 use Rattle.gp_window.specs.declared.schedule.EventId.{EventId}
 use Rattle.gp_window.specs.WindowForm.{WindowForm}
 use Rattle.gp_constraint.specs.declared.base_family.BaseFamily.TheVariants.{ProgramOrder, Start, Join, Read, Choice, StartChoice, Section, HeldLock}
@@ -16,9 +19,13 @@ use Rattle.gp_tell.specs.StoryText.{story_lines}
 abbrev at : ℕ → ℕ → EventId
 at thread index = record { thread = thread; index = index }
 
--- the text of the story of a schedule, of whose events some are marked
+-- the text of the story of a schedule, of whose events some are marked and none has a place
 abbrev pub story_told : WindowForm → List EventId → List EventId → List ℕ
-story_told window schedule marked = spelling (story_lines window (story_of window schedule marked))
+story_told window schedule marked = spelling (story_lines (λ id. []) window (story_of window schedule marked))
+
+-- of the events of the first window, the second one of thread 2 has a place
+abbrev pub in_second : Places
+in_second = record { texts = codes "work.c:12 in second" ∷ []; numbers = [] ∷ ((0 ∷ 1 ∷ []) ∷ []) ∷ [] }
 
 -- thread 1 waits for the end of thread 2, which works
 abbrev pub awaited : WindowForm
@@ -77,6 +84,12 @@ pub record ExamplesHold : Type 0 where
       ++ codes "2 2.0 read c 1 sees the beginning started by 1.0\n"
       ++ codes "3 2.1 op b <- instance\n"
       ++ codes "4 1.1 op a <- instance\n"
+  -- the same where one of these events has a place
+  pub flag_up_placed : spelling (story_lines (behind in_second 1) flagged (story_of flagged (at 1 0 ∷ at 2 0 ∷ at 2 1 ∷ at 1 1 ∷ []) (at 2 1 ∷ at 1 1 ∷ []))) ≡
+      codes "1 1.0 start 2\n"
+      ++ codes "2 2.0 read c 1 sees the beginning started by 1.0\n"
+      ++ codes "3 2.1 op b <- instance  work.c:12 in second\n"
+      ++ codes "4 1.1 op a <- instance\n"
   -- a run, and who lets in who takes a lock
   pub work_folded : story_told guarded (at 1 0 ∷ at 1 1 ∷ at 1 2 ∷ at 1 3 ∷ at 2 0 ∷ at 2 1 ∷ at 2 2 ∷ []) (at 2 1 ∷ []) ≡
       codes "1 1.0 acquire c\n"
@@ -91,7 +104,7 @@ pub record ExamplesHold : Type 0 where
       ++ codes "2 1.0 join 2 after 2.0\n"
       ++ codes "3 3.0 no event\n"
   -- clauses of a window, and a cycle
-  pub clauses : spelling (reason_lines by_clauses) ≡
+  pub clauses : spelling (reason_lines event_id_text by_clauses) ≡
       codes "this cannot all hold:\n"
       ++ codes "- 2.1 is executed\n"
       ++ codes "- 2.1 is before 1.0\n"
@@ -100,8 +113,18 @@ pub record ExamplesHold : Type 0 where
       ++ codes "- value of a read: 2.0 is not executed, or 2.0 sees 1.1\n"
       ++ codes "- what a read sees: 2.0 does not see 1.1, or 1.1 is before 2.0\n"
       ++ codes "- a cycle: 2.1 before 1.0 before 1.1 before 2.0 before 2.1\n"
+  -- the same where one of these events has a place
+  pub clauses_placed : spelling (reason_lines (named in_second 1) by_clauses) ≡
+      codes "this cannot all hold:\n"
+      ++ codes "- 2.1 (work.c:12 in second) is executed\n"
+      ++ codes "- 2.1 (work.c:12 in second) is before 1.0\n"
+      ++ codes "1. 2.1 (work.c:12 in second) is not executed, or 1.0 is before 2.1 (work.c:12 in second), since\n"
+      ++ codes "- program order: 2.0 is executed, or 2.1 (work.c:12 in second) is not executed\n"
+      ++ codes "- value of a read: 2.0 is not executed, or 2.0 sees 1.1\n"
+      ++ codes "- what a read sees: 2.0 does not see 1.1, or 1.1 is before 2.0\n"
+      ++ codes "- a cycle: 2.1 (work.c:12 in second) before 1.0 before 1.1 before 2.0 before 2.1 (work.c:12 in second)\n"
   -- the other families and facts, an earlier step, and a step that says nothing; none of them has a cycle
-  pub steps : spelling (reason_lines by_steps) ≡
+  pub steps : spelling (reason_lines event_id_text by_steps) ≡
       codes "this cannot all hold:\n"
       ++ codes "- 1.2 is the last write\n"
       ++ codes "- 3.0 takes the signal of 1.4\n"

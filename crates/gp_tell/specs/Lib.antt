@@ -1,4 +1,5 @@
 pub mod Examples
 pub mod FactText
+pub mod Naming
 pub mod ReasonText
 pub mod StoryText

@@ -1,56 +1,96 @@
 ghost use Rattle.std.specs.Prelude.{◌≡◌, ◌+◌, ◌-◌, ◌++◌, ◌∷◌, [], Some, None, OnOk, codes, decimal, length, slice_get};
 ghost use Rattle.std.specs.List.{flat_map};
 ghost use Rattle.gp_text.specs.Spelling.{after_words, spelling};
+ghost use Rattle.gp_place.specs.Places.{behind};
 ghost use Rattle.gp_window.specs.EventIds.{event_id_text};
 ghost use Rattle.gp_window.specs.Events.{event_at};
 ghost use Rattle.gp_tell.specs.StoryText.{awaited_words, mark_words, part_lines, remark_words, run_between, run_line, seen_words, single_line, source_words, starter_words, story_lines, told_words};
 
 use crate::event::put_event;
 use crate::line::{end_line, put_number};
+use gp_place::{Places, put_behind};
 use gp_story::{Part, Source, Story, StoryLine};
 use gp_trace::Event;
 use gp_window::{EventId, Window};
 use gp_writer::{put_word, put_words};
 use std::alloc::AllocError;
 
-/// Puts a story of a window: a line for each part.
-pub fn put_story(text: &mut Vec<u8>, window: &Window, story: &Story) -> Result<(), AllocError>
-    ensures { OnOk result (text.new.items ≡ text.old.items ++ spelling (story_lines window.now story.now)) }
+/// Puts a story of a window: a line for each part. The place of an event ends its line.
+pub fn put_story(
+    text: &mut Vec<u8>,
+    window: &Window,
+    places: &Places,
+    story: &Story,
+) -> Result<(), AllocError>
+    ensures { OnOk result (text.new.items ≡ text.old.items ++ spelling (story_lines (behind places.now window.now.number) window.now story.now)) }
 {
-    put_parts(text, window, story.parts.as_slice())
+    put_parts(text, window, places, story.parts.as_slice())
 }
 
-fn put_parts(text: &mut Vec<u8>, window: &Window, parts: &[Part]) -> Result<(), AllocError>
-    ensures { OnOk result (text.new.items ≡ text.old.items ++ spelling (flat_map (part_lines window.now) parts.now)) }
+fn put_parts(
+    text: &mut Vec<u8>,
+    window: &Window,
+    places: &Places,
+    parts: &[Part],
+) -> Result<(), AllocError>
+    ensures { OnOk result (text.new.items ≡ text.old.items ++ spelling (flat_map (part_lines (behind places.now window.now.number) window.now) parts.now)) }
 {
     for part in parts {
-        put_part(text, window, part)?;
+        put_part(text, window, places, part)?;
     }
     Ok(())
 }
 
-fn put_part(text: &mut Vec<u8>, window: &Window, part: &Part) -> Result<(), AllocError>
-    ensures { OnOk result (text.new.items ≡ text.old.items ++ spelling (part_lines window.now part.now)) }
+fn put_part(
+    text: &mut Vec<u8>,
+    window: &Window,
+    places: &Places,
+    part: &Part,
+) -> Result<(), AllocError>
+    ensures { OnOk result (text.new.items ≡ text.old.items ++ spelling (part_lines (behind places.now window.now.number) window.now part.now)) }
 {
     match part {
-        Part::Single(line) => put_single(text, window, line),
+        Part::Single(line) => put_single(text, window, places, line),
         Part::Run(lines) => put_run(text, lines.as_slice()),
     }
 }
 
-fn put_single(text: &mut Vec<u8>, window: &Window, line: &StoryLine) -> Result<(), AllocError>
-    ensures { OnOk result (text.new.items ≡ text.old.items ++ spelling (single_line window.now line.now ∷ [])) }
+fn put_single(
+    text: &mut Vec<u8>,
+    window: &Window,
+    places: &Places,
+    line: &StoryLine,
+) -> Result<(), AllocError>
+    ensures { OnOk result (text.new.items ≡ text.old.items ++ spelling (single_line (behind places.now window.now.number) window.now line.now ∷ [])) }
 {
     put_number(text, line.place)?;
-    put_event_told(text, window, line)?;
+    put_event_told(text, window, places, line)?;
     end_line(text)
 }
 
-fn put_event_told(text: &mut Vec<u8>, window: &Window, line: &StoryLine) -> Result<(), AllocError>
-    ensures { OnOk result (text.new.items ≡ text.old.items ++ after_words (event_id_text line.now.event ∷ told_words (event_at window.now line.now.event) line.now)) }
+fn put_event_told(
+    text: &mut Vec<u8>,
+    window: &Window,
+    places: &Places,
+    line: &StoryLine,
+) -> Result<(), AllocError>
+    ensures { OnOk result (text.new.items ≡ text.old.items ++ after_words (event_id_text line.now.event ∷ (told_words (event_at window.now line.now.event) line.now ++ behind places.now window.now.number line.now.event))) }
 {
     put_words(text, &[line.event])?;
-    put_told(text, window, line)
+    put_placed(text, window, places, line)
+}
+
+#[tactic(auto, using(crate::proofs::Told::two_put))]
+fn put_placed(
+    text: &mut Vec<u8>,
+    window: &Window,
+    places: &Places,
+    line: &StoryLine,
+) -> Result<(), AllocError>
+    ensures { OnOk result (text.new.items ≡ text.old.items ++ after_words (told_words (event_at window.now line.now.event) line.now ++ behind places.now window.now.number line.now.event)) }
+{
+    put_told(text, window, line)?;
+    put_behind(text, places, window.number(), line.event)
 }
 
 fn put_told(text: &mut Vec<u8>, window: &Window, line: &StoryLine) -> Result<(), AllocError>
@@ -133,7 +173,7 @@ fn put_mark(text: &mut Vec<u8>, is_marked: bool) -> Result<(), AllocError>
 }
 
 /// Puts a phrase and the event that it speaks of.
-pub(crate) fn put_reference(text: &mut Vec<u8>, says: &[u8], id: EventId) -> Result<(), AllocError>
+fn put_reference(text: &mut Vec<u8>, says: &[u8], id: EventId) -> Result<(), AllocError>
     ensures { OnOk result (text.new.items ≡ text.old.items ++ after_words (says.now ∷ event_id_text id ∷ [])) }
 {
     put_word(text, says)?;

@@ -1,8 +1,9 @@
--- Nothing that stands in a window is read as markup: each element of a drawing has the program's own.
+-- Nothing that stands in a window or is told of places is read as markup: each element of a drawing has the program's own.
 use Rattle.std.proofs.Common.{◌≡◌, ℕ, ◌+◌, true, false, List, [], ◌∷◌, ◌++◌, codes, decimal, length, refl}
 use Rattle.std.specs.List.{flat_map}
 use Rattle.gp_trace.specs.declared.lock_use.LockMode.{LockMode}
 use Rattle.gp_trace.specs.declared.lock_use.LockMode.TheVariants.{Exclusive, Shared}
+use Rattle.gp_place.specs.declared.places.Places.{Places}
 use Rattle.gp_window.specs.WindowForm.{numbers_from, WindowForm}
 use Rattle.gp_drawing.specs.declared.drawing.Arrow.{Arrow}
 use Rattle.gp_drawing.specs.declared.drawing.ArrowKind.{ArrowKind}
@@ -16,7 +17,7 @@ use Rattle.gp_drawing.specs.MarkupLaws.{is_own_markup, markup_after, markup_appe
 use Rattle.gp_drawing.specs.Places.{begin_y, end_y, height, lane_x, row_y, thread_x, width, x_at}
 use Rattle.gp_drawing.specs.Rows.{thread_of}
 use Rattle.gp_drawing.specs.Svg.{arrow_class, arrow_line, arrow_svg, attribute, bar_class, bar_svg, bar_title, behind, between, circle, head, lane_line, lane_name, lane_svg, pair, point, row_class, row_svg, row_text, row_title, rows_svg, stroke, svg, tag, tip, view, words_at}
-use Rattle.gp_drawing.specs.Words.{row_words}
+use Rattle.gp_drawing.specs.Words.{longest_place, row_words}
 
 attribute_own : (name : List ℕ) (value : ℕ) → HasOwnMarkup name → HasOwnMarkup (attribute name value)
 attribute_own name value own =
@@ -115,17 +116,17 @@ row_text_own lanes row words =
     markup_append (words_at (codes "words") (lane_x lanes) (row_y row + 4)) (between [] words (codes "</text></g>\n"))
     (words_at_own (codes "words") (lane_x lanes) (row_y row + 4) (markup_by_test (codes "words") refl)) (markup_words [] words (codes "</text></g>\n") refl refl)
 
-row_own : (window : WindowForm) (lanes row : ℕ) (drawn : DrawnRow) → HasOwnMarkup (row_svg window lanes row drawn)
+row_own : (places : Places) (window : WindowForm) (lanes row : ℕ) (drawn : DrawnRow) → HasOwnMarkup (row_svg places window lanes row drawn)
 unfolding row_svg
-row_own window lanes row drawn =
-    let words = row_words window drawn in
+row_own places window lanes row drawn =
+    let words = row_words places window drawn in
     markup_append (row_title words ++ circle drawn row) (row_text lanes row words)
     (markup_append (row_title words) (circle drawn row) (row_title_own words) (circle_own drawn row)) (row_text_own lanes row words)
 
-rows_own : (window : WindowForm) (lanes row : ℕ) (drawn : List DrawnRow) → HasOwnMarkup (rows_svg window lanes row drawn)
-rows_own window lanes row [] = markup_nil
-rows_own window lanes row (first ∷ more) =
-    markup_append (row_svg window lanes row first) (rows_svg window lanes (row + 1) more) (row_own window lanes row first) (rows_own window lanes (row + 1) more)
+rows_own : (places : Places) (window : WindowForm) (lanes row : ℕ) (drawn : List DrawnRow) → HasOwnMarkup (rows_svg places window lanes row drawn)
+rows_own places window lanes row [] = markup_nil
+rows_own places window lanes row (first ∷ more) =
+    markup_append (row_svg places window lanes row first) (rows_svg places window lanes (row + 1) more) (row_own places window lanes row first) (rows_own places window lanes (row + 1) more)
 
 view_own : (across down : ℕ) → HasOwnMarkup (view across down)
 unfolding view
@@ -133,12 +134,12 @@ view_own across down =
     markup_append (tag (codes "svg") (codes "drawing")) (pair (codes " viewBox='0 0 ") across down)
     (tag_own (codes "svg") (codes "drawing") refl (markup_by_test (codes "drawing") refl)) (pair_own (codes " viewBox='0 0 ") across down refl)
 
-head_own : (lanes rows : ℕ) → HasOwnMarkup (head lanes rows)
+head_own : (lanes rows longest : ℕ) → HasOwnMarkup (head lanes rows longest)
 unfolding head
-head_own lanes rows =
-    markup_before (view (width lanes) (height rows) ++ point (codes "width") (width lanes) (codes "height") (height rows)) (codes ">\n")
-    (markup_append (view (width lanes) (height rows)) (point (codes "width") (width lanes) (codes "height") (height rows))
-    (view_own (width lanes) (height rows)) (point_own (codes "width") (width lanes) (codes "height") (height rows) refl refl)) refl
+head_own lanes rows longest =
+    markup_before (view (width lanes longest) (height rows) ++ point (codes "width") (width lanes longest) (codes "height") (height rows)) (codes ">\n")
+    (markup_append (view (width lanes longest) (height rows)) (point (codes "width") (width lanes longest) (codes "height") (height rows))
+    (view_own (width lanes longest) (height rows)) (point_own (codes "width") (width lanes longest) (codes "height") (height rows) refl refl)) refl
 
 behind_own : (lanes : ℕ) (drawing : Drawing) → HasOwnMarkup (behind lanes drawing)
 unfolding behind
@@ -150,15 +151,16 @@ behind_own lanes drawing =
     (markup_flat_map (lane_svg rows) threads (lane_own rows)) (markup_flat_map (bar_svg rows) drawing.bars (bar_own rows)))
     (markup_flat_map (arrow_svg drawing.rows) drawing.arrows (arrow_own drawing.rows))
 
-svg_own : (window : WindowForm) (drawing : Drawing) → HasOwnMarkup (svg window drawing)
+svg_own : (places : Places) (window : WindowForm) (drawing : Drawing) → HasOwnMarkup (svg places window drawing)
 unfolding svg
-svg_own window drawing =
+svg_own places window drawing =
     let lanes = length window.segments in
-    let top = head lanes (length drawing.rows) in
-    let rows = rows_svg window lanes 0 drawing.rows in
+    let longest = longest_place places window drawing.rows in
+    let top = head lanes (length drawing.rows) longest in
+    let rows = rows_svg places window lanes 0 drawing.rows in
     markup_before (top ++ behind lanes drawing ++ rows) (codes "</svg>\n")
     (markup_append (top ++ behind lanes drawing) rows
-    (markup_append top (behind lanes drawing) (head_own lanes (length drawing.rows)) (behind_own lanes drawing)) (rows_own window lanes 0 drawing.rows)) refl
+    (markup_append top (behind lanes drawing) (head_own lanes (length drawing.rows) longest) (behind_own lanes drawing)) (rows_own places window lanes 0 drawing.rows)) refl
 
 tip_own : HasOwnMarkup tip
 unfolding tip

@@ -24,12 +24,12 @@ pub fn escaped_is_plain()
     ensures { EscapedIsPlain }
 {}
 
-/// In the text of a drawing each angle bracket that opens opens one of the program's own tags, whatever stands in the window.
+/// In the text of a drawing each angle bracket that opens opens one of the program's own tags, whatever stands in the window or is told of places.
 pub fn drawings_have_own_markup()
     ensures { DrawingsHaveOwnMarkup }
 {}
 
-/// The drawings of small stories, and the text of one.
+/// The drawings of small stories, and the text of one, with a place and without.
 pub fn draws_examples()
     ensures { ExamplesHold }
 {}

@@ -62,11 +62,11 @@ pub fn end_y(rows: u32, row: Option<u32>) -> u64
     }
 }
 
-/// How wide a drawing of so many lanes is, with the words right of them.
-pub fn width(lanes: u32) -> u64
-    ensures { result ≡ width lanes }
+/// How wide a drawing of so many lanes is, with the words right of them, of which so many bytes tell a place.
+pub fn width(lanes: u32, longest: u32) -> u64
+    ensures { result ≡ width lanes longest }
 {
-    lane_x(lanes) + 400
+    lane_x(lanes) + 400 + 8 * u64::from(longest)
 }
 
 /// How high a drawing of so many rows is.

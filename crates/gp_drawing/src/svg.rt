@@ -2,12 +2,14 @@ ghost use Rattle.std.specs.Prelude.{◌≡◌, ◌+◌, ◌-◌, ◌<◌, ◌^�
 ghost use Rattle.std.specs.List.{flat_map};
 ghost use Rattle.gp_window.specs.WindowForm.{numbers_from};
 ghost use Rattle.gp_drawing.specs.Svg.{arrow_class, arrow_line, arrow_svg, bar_class, bar_svg, bar_title, behind, circle, head, lane_line, lane_name, lane_svg, row_class, row_svg, row_text, row_title, rows_svg, svg, svg_with, tip, view};
+ghost use Rattle.gp_drawing.specs.Words.{longest_place};
 
 use crate::drawing::{Arrow, ArrowKind, Bar, Drawing, DrawnRow};
 use crate::places::{begin_y, end_y, height, lane_x, row_y, thread_x, width, x_at};
 use crate::rows::thread_of;
 use crate::tags::{put_between, put_pair, put_point, put_stroke, put_tag, put_words_at};
-use crate::words::row_words;
+use crate::words::{longest_place, row_words};
+use gp_place::Places;
 use gp_text::print_u64;
 use gp_trace::LockMode;
 use gp_window::{Window, windows_are_formed};
@@ -24,15 +26,20 @@ pub fn put_tip(text: &mut Vec<u8>) -> Result<(), AllocError>
 }
 
 /// Puts the drawing of a story of a window at the end of a text, as an `svg` element for a page that has the tip of its arrows.
-/// A drawing of 2^32 rows or more wants more memory than there is.
+/// A drawing of 2^32 rows or more, or with a place of as many bytes, wants more memory than there is.
 #[tactic(auto, unfolding(crate::specs::Svg::svg))]
-pub fn put_svg(text: &mut Vec<u8>, window: &Window, drawing: &Drawing) -> Result<(), AllocError>
-    ensures { OnOk result (text.new.items ≡ text.old.items ++ svg window.now drawing.now) }
+pub fn put_svg(
+    text: &mut Vec<u8>,
+    window: &Window,
+    places: &Places,
+    drawing: &Drawing,
+) -> Result<(), AllocError>
+    ensures { OnOk result (text.new.items ≡ text.old.items ++ svg places.now window.now drawing.now) }
 {
     if drawing.rows.len() > u32::MAX as usize {
         return Err(AllocError);
     }
-    put_svg_with(text, window, lanes_of(window), drawing)
+    put_svg_with(text, window, places, lanes_of(window), drawing)
 }
 
 fn lanes_of(window: &Window) -> u32
@@ -46,25 +53,45 @@ fn lanes_of(window: &Window) -> u32
 fn put_svg_with(
     text: &mut Vec<u8>,
     window: &Window,
+    places: &Places,
     lanes: u32,
     drawing: &Drawing,
 ) -> Result<(), AllocError>
     requires { length drawing.now.rows < 2 ^ 32 }
-    ensures { OnOk result (text.new.items ≡ text.old.items ++ svg_with window.now lanes drawing.now) }
+    ensures { OnOk result (text.new.items ≡ text.old.items ++ svg_with places.now window.now lanes drawing.now) }
 {
     let rows = drawing.rows.as_slice();
-    put_head(text, lanes, rows.len() as u32)?;
+    put_head_of(text, window, places, lanes, rows)?;
     put_behind(text, lanes, drawing)?;
-    put_rows(text, window, lanes, rows)?;
+    put_rows(text, window, places, lanes, rows)?;
     text.extend_from_slice(b"</svg>\n")
 }
 
-#[tactic(auto, unfolding(crate::specs::Svg::head))]
-fn put_head(text: &mut Vec<u8>, lanes: u32, rows: u32) -> Result<(), AllocError>
-    ensures { OnOk result (text.new.items ≡ text.old.items ++ head lanes rows) }
+/// Puts the head of a drawing of these rows.
+fn put_head_of(
+    text: &mut Vec<u8>,
+    window: &Window,
+    places: &Places,
+    lanes: u32,
+    rows: &[DrawnRow],
+) -> Result<(), AllocError>
+    requires { length rows.now < 2 ^ 32 }
+    ensures { OnOk result (text.new.items ≡ text.old.items ++ head lanes (length rows.now) (longest_place places.now window.now rows.now)) }
 {
-    put_view(text, width(lanes), height(rows))?;
-    put_point(text, b"width", width(lanes), b"height", height(rows))?;
+    let longest = longest_place(window, places, rows);
+    if longest > u32::MAX as usize {
+        return Err(AllocError);
+    }
+    put_head(text, lanes, rows.len() as u32, longest as u32)
+}
+
+#[tactic(auto, unfolding(crate::specs::Svg::head))]
+fn put_head(text: &mut Vec<u8>, lanes: u32, rows: u32, longest: u32) -> Result<(), AllocError>
+    ensures { OnOk result (text.new.items ≡ text.old.items ++ head lanes rows longest) }
+{
+    let width = width(lanes, longest);
+    put_view(text, width, height(rows))?;
+    put_point(text, b"width", width, b"height", height(rows))?;
     text.extend_from_slice(b">\n")
 }
 
@@ -205,14 +232,15 @@ fn arrow_class(kind: ArrowKind) -> &'static [u8]
 fn put_rows(
     text: &mut Vec<u8>,
     window: &Window,
+    places: &Places,
     lanes: u32,
     rows: &[DrawnRow],
 ) -> Result<(), AllocError>
     requires { length rows.now < 2 ^ 32 }
-    ensures { OnOk result (text.new.items ≡ text.old.items ++ rows_svg window.now lanes 0 rows.now) }
+    ensures { OnOk result (text.new.items ≡ text.old.items ++ rows_svg places.now window.now lanes 0 rows.now) }
 {
     for (row, drawn) in rows.iter().enumerate() {
-        put_row(text, window, lanes, row as u32, drawn)?;
+        put_row(text, window, places, lanes, row as u32, drawn)?;
     }
     Ok(())
 }
@@ -221,13 +249,14 @@ fn put_rows(
 fn put_row(
     text: &mut Vec<u8>,
     window: &Window,
+    places: &Places,
     lanes: u32,
     row: u32,
     drawn: &DrawnRow,
 ) -> Result<(), AllocError>
-    ensures { OnOk result (text.new.items ≡ text.old.items ++ row_svg window.now lanes row drawn.now) }
+    ensures { OnOk result (text.new.items ≡ text.old.items ++ row_svg places.now window.now lanes row drawn.now) }
 {
-    let words = row_words(*text.allocator(), window, drawn)?;
+    let words = row_words(*text.allocator(), window, places, drawn)?;
     put_row_title(text, words.as_slice())?;
     put_circle(text, drawn, row)?;
     put_row_text(text, lanes, row, words.as_slice())

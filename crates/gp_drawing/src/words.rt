@@ -1,34 +1,76 @@
-ghost use Rattle.std.specs.Prelude.{◌≡◌, [], ◌∷◌, ◌++◌, IfOk, OnOk, codes, decimal, option_copied};
+ghost use Rattle.std.specs.Prelude.{◌≡◌, [], ◌∷◌, ◌++◌, IfOk, OnOk, codes, decimal, length, option_copied, option_map};
 ghost use Rattle.std.specs.Fmt.{signed_decimal};
+ghost use Rattle.gp_place.specs.Places.{place_phrases};
 ghost use Rattle.gp_text.specs.Spelling.{after_words, joined};
 ghost use Rattle.gp_trace.specs.Printed.{event_words};
-ghost use Rattle.gp_drawing.specs.Words.{own_words, row_words, span_words};
+ghost use Rattle.gp_drawing.specs.Words.{longest_place, own_words, place_length, row_words, span_words};
 
 use crate::drawing::{DrawnRow, Span};
 use gp_base::Row;
+use gp_place::{Places, put_behind, text_at};
 use gp_text::{Name, print_i64, print_u64};
 use gp_trace::Event;
 use gp_window::{Window, put_event_id};
 use std::alloc::{AllocError, Global};
 
 /// The words of a row.
-pub fn row_words(alloc: Global, window: &Window, row: &DrawnRow) -> Result<Row<u8>, AllocError>
-    ensures { IfOk result (λ words. words ≡ row_words window.now row.now) }
+pub fn row_words(
+    alloc: Global,
+    window: &Window,
+    places: &Places,
+    row: &DrawnRow,
+) -> Result<Row<u8>, AllocError>
+    ensures { IfOk result (λ words. words ≡ row_words places.now window.now row.now) }
 {
     let mut words = Vec::new(alloc);
-    put_row_words(&mut words, window, row)?;
+    put_row_words(&mut words, window, places, row)?;
     Ok(Row::from_vec(words))
 }
 
-fn put_row_words(text: &mut Vec<u8>, window: &Window, row: &DrawnRow) -> Result<(), AllocError>
-    ensures { OnOk result (text.new.items ≡ text.old.items ++ row_words window.now row.now) }
+fn put_row_words(
+    text: &mut Vec<u8>,
+    window: &Window,
+    places: &Places,
+    row: &DrawnRow,
+) -> Result<(), AllocError>
+    ensures { OnOk result (text.new.items ≡ text.old.items ++ row_words places.now window.now row.now) }
 {
     match row {
         DrawnRow::One(event, _) => {
             put_event_id(text, *event)?;
-            put_own_words(text, window.event(*event))
+            put_own_words(text, window.event(*event))?;
+            put_behind(text, places, window.number(), *event)
         }
         DrawnRow::Several(span) => put_span_words(text, span),
+    }
+}
+
+/// The most bytes that one of these rows has for the place of its event.
+pub fn longest_place(window: &Window, places: &Places, rows: &[DrawnRow]) -> usize
+    ensures { result ≡ longest_place places.now window.now rows.now }
+{
+    let mut longest = 0;
+    for row in rows {
+        longest = longest.max(place_length(window, places, row));
+    }
+    longest
+}
+
+fn place_length(window: &Window, places: &Places, row: &DrawnRow) -> usize
+    ensures { result ≡ place_length places.now window.now row.now }
+{
+    match row {
+        DrawnRow::One(event, _) => length_behind(text_at(places, window.number(), *event)),
+        DrawnRow::Several(_) => 0,
+    }
+}
+
+fn length_behind(place: Option<&[u8]>) -> usize
+    ensures { result ≡ length (after_words (place_phrases (option_map (λ text. text.now) place.entry))) }
+{
+    match place {
+        Some(place) => place.len() + 2,
+        None => 0,
     }
 }
 

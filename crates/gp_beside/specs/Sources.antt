@@ -68,16 +68,22 @@ abbrev pub line_at : List (List ℕ) → ℕ → Option (List ℕ)
 line_at lines zero = None
 line_at lines (suc before) = slice_get lines before
 
--- the text of a place in a file of this name with these lines
-abbrev pub place_text : List ℕ → List (List ℕ) → Place → List ℕ
-place_text name lines place =
-    name ++ codes ":" ++ decimal place.line ++ codes " in " ++ place.function ++ line_text (line_at lines place.line)
+-- the text of a place in a file of this name
+abbrev pub place_text : List ℕ → Place → List ℕ
+place_text name place = name ++ codes ":" ++ decimal place.line ++ codes " in " ++ place.function
 
--- the text of a place among these files, whose lines these are
-abbrev pub text_of : List (List ℕ) → List (List (List ℕ)) → Place → List ℕ
-text_of names sources place =
-    place_text (unwrap_or (slice_get names (place.file - 1)) []) (unwrap_or (slice_get sources (place.file - 1)) []) place
+-- the text of a place among files of these names
+abbrev pub text_of : List (List ℕ) → Place → List ℕ
+text_of names place = place_text (unwrap_or (slice_get names (place.file - 1)) []) place
 
--- the texts of places, by what the files tell of the sources
-abbrev pub texts_of : List File → Option (List ℕ) → PlaceList → List (List ℕ)
-texts_of files source told = map (text_of told.files (map (source_at files source) told.files)) told.places
+-- the texts of places
+abbrev pub texts_of : PlaceList → List (List ℕ)
+texts_of told = map (text_of told.files) told.places
+
+-- the line of a place among files that have these lines
+abbrev pub line_of : List (List (List ℕ)) → Place → List ℕ
+line_of sources place = line_text (line_at (unwrap_or (slice_get sources (place.file - 1)) []) place.line)
+
+-- the lines of places, by what the files tell of the sources
+abbrev pub lines_of : List File → Option (List ℕ) → PlaceList → List (List ℕ)
+lines_of files source told = map (line_of (map (source_at files source) told.files)) told.places

@@ -3,7 +3,7 @@ ghost use Rattle.std.specs.List.{list_any, slice_split};
 ghost use Rattle.std.specs.Str.{bytes_eq};
 ghost use Rattle.gp_outside.specs.Faults.{Rose};
 ghost use Rattle.gp_outside.specs.Folders.{File};
-ghost use Rattle.gp_beside.specs.Sources.{begins_at_root, behind_colon, inside, line_at, line_text, place_text, shown_byte, source_at, source_lines, text_of, texts_of, trimmed};
+ghost use Rattle.gp_beside.specs.Sources.{begins_at_root, behind_colon, inside, line_at, line_of, line_text, lines_of, place_text, shown_byte, source_at, source_lines, text_of, texts_of, trimmed};
 
 use crate::fault::NoteStop;
 use crate::files::{Content, content_at, path_to};
@@ -16,8 +16,15 @@ use std::alloc::{AllocError, Global};
 /// The most bytes of a line that are shown.
 const LONGEST_SHOWN: usize = 200;
 
-/// The texts of places, where the sources may lie in a directory. Each source that is named is read once, in order.
-pub(crate) fn texts_of<F: Folder>(
+/// The texts of places.
+pub(crate) fn texts_of(alloc: Global, told: &PlaceList) -> Result<Row<Row<u8>>, AllocError>
+    ensures { IfOk result (λ texts. texts ≡ texts_of told.now) }
+{
+    texts_among(alloc, told.files.as_slice(), told.places.as_slice())
+}
+
+/// The lines of places, where the sources may lie in a directory. Each source that is named is read once, in order.
+pub(crate) fn lines_of<F: Folder>(
     alloc: Global,
     folder: &mut F,
     directory: Option<&str>,
@@ -26,13 +33,12 @@ pub(crate) fn texts_of<F: Folder>(
     ensures later { F.faults folder.old ≤ F.faults folder.new }
     ensures kept { F.files folder.new ≡ F.files folder.old }
     ensures told { (files : List File) → F.files folder.old ≡ Some files
-        → IfOk result (λ texts. texts ≡ texts_of files (option_map (λ at. at.now) directory.entry) told.now) }
+        → IfOk result (λ lines. lines ≡ lines_of files (option_map (λ at. at.now) directory.entry) told.now) }
     ensures fault { result ≡ Err NoteStop.FolderFailed → Rose (F.faults folder.old) (F.faults folder.new) }
 {
-    let names = told.files.as_slice();
-    let sources = sources_at(alloc, folder, directory, names)?;
-    let texts = texts_among(alloc, names, sources.as_slice(), told.places.as_slice())?;
-    Ok(texts)
+    let sources = sources_at(alloc, folder, directory, told.files.as_slice())?;
+    let lines = lines_among(alloc, sources.as_slice(), told.places.as_slice())?;
+    Ok(lines)
 }
 
 fn sources_at<F: Folder>(
@@ -120,11 +126,11 @@ fn source_lines(alloc: Global, content: Content) -> Result<Row<Row<u8>>, AllocEr
 {
     match content {
         Content::Absent | Content::TooLong => Ok(Row::new(alloc)),
-        Content::Held(bytes) => lines_of(alloc, bytes.as_slice()),
+        Content::Held(bytes) => lines_in(alloc, bytes.as_slice()),
     }
 }
 
-fn lines_of(alloc: Global, bytes: &[u8]) -> Result<Row<Row<u8>>, AllocError>
+fn lines_in(alloc: Global, bytes: &[u8]) -> Result<Row<Row<u8>>, AllocError>
     ensures { IfOk result (λ lines. lines ≡ slice_split (λ b. b == 10) bytes.now) }
 {
     let mut lines = Row::new(alloc);
@@ -140,28 +146,48 @@ fn lines_of(alloc: Global, bytes: &[u8]) -> Result<Row<Row<u8>>, AllocError>
 fn texts_among(
     alloc: Global,
     names: &[Row<u8>],
-    sources: &[Row<Row<u8>>],
     places: &[Place],
 ) -> Result<Row<Row<u8>>, AllocError>
-    ensures { IfOk result (λ texts. texts ≡ map (text_of names.now sources.now) places.now) }
+    ensures { IfOk result (λ texts. texts ≡ map (text_of names.now) places.now) }
 {
     let mut texts = Row::new(alloc);
     for place in places {
-        texts.push(text_of(alloc, names, sources, place)?)?;
+        texts.push(text_of(alloc, names, place)?)?;
     }
     Ok(texts)
 }
 
-fn text_of(
+fn text_of(alloc: Global, names: &[Row<u8>], place: &Place) -> Result<Row<u8>, AllocError>
+    ensures { IfOk result (λ text. text ≡ text_of names.now place.now) }
+{
+    place_text(alloc, row_at(names, place.file.saturating_sub(1) as usize), place)
+}
+
+fn lines_among(
     alloc: Global,
-    names: &[Row<u8>],
+    sources: &[Row<Row<u8>>],
+    places: &[Place],
+) -> Result<Row<Row<u8>>, AllocError>
+    ensures { IfOk result (λ lines. lines ≡ map (line_of sources.now) places.now) }
+{
+    let mut lines = Row::new(alloc);
+    for place in places {
+        lines.push(line_of(alloc, sources, place)?)?;
+    }
+    Ok(lines)
+}
+
+fn line_of(
+    alloc: Global,
     sources: &[Row<Row<u8>>],
     place: &Place,
 ) -> Result<Row<u8>, AllocError>
-    ensures { IfOk result (λ text. text ≡ text_of names.now sources.now place.now) }
+    ensures { IfOk result (λ line. line ≡ line_of sources.now place.now) }
 {
-    let file = place.file.saturating_sub(1) as usize;
-    place_text(alloc, row_at(names, file), row_at(sources, file), place)
+    let source = row_at(sources, place.file.saturating_sub(1) as usize);
+    let mut text = Vec::new(alloc);
+    put_line(&mut text, line_at(source, place.line))?;
+    Ok(Row::from_vec(text))
 }
 
 /// The elements of the row that stands there, none where no row does.
@@ -174,20 +200,14 @@ fn row_at<T>(rows: &[Row<T>], place: usize) -> &[T]
     }
 }
 
-fn place_text(
-    alloc: Global,
-    name: &[u8],
-    lines: &[Row<u8>],
-    place: &Place,
-) -> Result<Row<u8>, AllocError>
-    ensures { IfOk result (λ text. text ≡ place_text name.now lines.now place.now) }
+fn place_text(alloc: Global, name: &[u8], place: &Place) -> Result<Row<u8>, AllocError>
+    ensures { IfOk result (λ text. text ≡ place_text name.now place.now) }
 {
     let mut text = Vec::from_slice(alloc, name)?;
     text.push(b':')?;
     print_u64(&mut text, u64::from(place.line))?;
     text.extend_from_slice(b" in ")?;
     text.extend_from_slice(place.function.as_slice())?;
-    put_line(&mut text, line_at(lines, place.line))?;
     Ok(Row::from_vec(text))
 }
 

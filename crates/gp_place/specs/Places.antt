@@ -21,14 +21,18 @@ number_at places window event = unwrap_or (slice_get (numbers_in places window e
 abbrev pub text_at : Places → ℕ → EventId → Option (List ℕ)
 text_at places window event = entry_of places.texts (number_at places window event)
 
--- a place that stands behind what else is said of an event, with one space more between them
-abbrev pub place_phrases : Option (List ℕ) → List (List ℕ)
-place_phrases None = []
-place_phrases (Some text) = (codes " " ++ text) ∷ []
+-- what is told of the source there, behind its place; nothing where nothing is told
+abbrev pub line_at : Places → ℕ → EventId → List ℕ
+line_at places window event = unwrap_or (entry_of places.lines (number_at places window event)) []
+
+-- a place with its line that stands behind what else is said of an event, with one space more between them
+abbrev pub place_phrases : List ℕ → Option (List ℕ) → List (List ℕ)
+place_phrases line None = []
+place_phrases line (Some text) = (codes " " ++ text ++ line) ∷ []
 
 -- what stands behind all else that a line says of an event
 abbrev pub behind : Places → ℕ → EventId → List (List ℕ)
-behind places window event = place_phrases (text_at places window event)
+behind places window event = place_phrases (line_at places window event) (text_at places window event)
 
 -- a place in parentheses
 abbrev pub in_parentheses : Option (List ℕ) → List ℕ
@@ -41,4 +45,4 @@ named places window event = event_id_text event ++ in_parentheses (text_at place
 
 -- no place is told of any event
 abbrev pub nowhere : Places
-nowhere = record { texts = []; numbers = [] }
+nowhere = record { texts = []; lines = []; numbers = [] }

@@ -1,6 +1,6 @@
 ghost use Rattle.std.specs.Prelude.{◌≡◌, ◌++◌, OnOk, option_map};
 ghost use Rattle.gp_text.specs.Spelling.{after_words};
-ghost use Rattle.gp_place.specs.Places.{behind, entry_of, in_parentheses, named, number_at, numbers_in, text_at};
+ghost use Rattle.gp_place.specs.Places.{behind, entry_of, in_parentheses, line_at, named, number_at, numbers_in, text_at};
 
 use gp_base::Row;
 use gp_window::{EventId, put_event_id};
@@ -11,6 +11,8 @@ use std::alloc::AllocError;
 pub struct Places {
     /// The text of each place, in order of number.
     pub texts: Row<Row<u8>>,
+    /// What is told of the source at each place, in the same order, behind its text; nothing of those that lack.
+    pub lines: Row<Row<u8>>,
     /// The number of the place of each event, by thread, window and index; 0 where none is told.
     pub numbers: Row<Row<Row<u32>>>,
 }
@@ -21,6 +23,16 @@ pub fn text_at(places: &Places, window: u32, event: EventId) -> Option<&[u8]>
 {
     let text = entry_of(places.texts.as_slice(), number_at(places, window, event))?;
     Some(text.as_slice())
+}
+
+/// What is told of the source at an event's place.
+fn line_at(places: &Places, window: u32, event: EventId) -> &[u8]
+    ensures { result.now ≡ line_at places.now window event }
+{
+    match entry_of(places.lines.as_slice(), number_at(places, window, event)) {
+        Some(line) => line.as_slice(),
+        None => &[],
+    }
 }
 
 /// The number of an event's place; 0 where none is told.
@@ -51,7 +63,7 @@ fn entry_of<T>(entries: &[T], number: u32) -> Option<&T>
     entries.get(place as usize)
 }
 
-/// Puts the place of an event behind what stands in the line, where it is told.
+/// Puts the place of an event behind what stands in the line, with what is told of the source there, where the place is told.
 pub fn put_behind(
     text: &mut Vec<u8>,
     places: &Places,
@@ -64,7 +76,8 @@ pub fn put_behind(
         return Ok(());
     };
     text.extend_from_slice(b"  ")?;
-    text.extend_from_slice(place)
+    text.extend_from_slice(place)?;
+    text.extend_from_slice(line_at(places, window, event))
 }
 
 /// Puts the id of an event, with its place in parentheses where that is told.

@@ -25,7 +25,7 @@ story_told window schedule marked = spelling (story_lines (λ id. []) window (st
 
 -- of the events of the first window, the second one of thread 2 has a place
 abbrev pub in_second : Places
-in_second = record { texts = codes "work.c:12 in second" ∷ []; numbers = [] ∷ ((0 ∷ 1 ∷ []) ∷ []) ∷ [] }
+in_second = record { texts = codes "work.c:12 in second" ∷ []; lines = codes ": work();" ∷ []; numbers = [] ∷ ((0 ∷ 1 ∷ []) ∷ []) ∷ [] }
 
 -- thread 1 waits for the end of thread 2, which works
 abbrev pub awaited : WindowForm
@@ -88,7 +88,7 @@ pub record ExamplesHold : Type 0 where
   pub flag_up_placed : spelling (story_lines (behind in_second 1) flagged (story_of flagged (at 1 0 ∷ at 2 0 ∷ at 2 1 ∷ at 1 1 ∷ []) (at 2 1 ∷ at 1 1 ∷ []))) ≡
       codes "1 1.0 start 2\n"
       ++ codes "2 2.0 read c 1 sees the beginning started by 1.0\n"
-      ++ codes "3 2.1 op b <- instance  work.c:12 in second\n"
+      ++ codes "3 2.1 op b <- instance  work.c:12 in second: work();\n"
       ++ codes "4 1.1 op a <- instance\n"
   -- a run, and who lets in who takes a lock
   pub work_folded : story_told guarded (at 1 0 ∷ at 1 1 ∷ at 1 2 ∷ at 1 3 ∷ at 2 0 ∷ at 2 1 ∷ at 2 2 ∷ []) (at 2 1 ∷ []) ≡

@@ -1,7 +1,7 @@
 -- The lines so far, and then those of what is left, are all.
 use Rattle.std.proofs.Common.{◌≡◌, ◌==◌, ◌++◌, length}
 use Rattle.std.specs.List.{slice_split}
-use Rattle.gp_beside.proofs.sources.lines_of.Given as goal
+use Rattle.gp_beside.proofs.sources.lines_in.Given as goal
 
 abbrev pub invariant-loop-line : goal.invariant-loop-line
 invariant-loop-line l = l.lines ++ slice_split (λ b. b == 10) l.rest ≡ slice_split (λ b. b == 10) l.bytes

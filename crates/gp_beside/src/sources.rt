@@ -1,6 +1,6 @@
-ghost use Rattle.std.specs.Prelude.{◌≡◌, ◌≤◌, ◌++◌, ◌==◌, [], IfOk, List, OnOk, Some, codes, map, option_map, slice_get, take, unwrap_or};
+ghost use Rattle.std.specs.Prelude.{◌≡◌, ◌≤◌, ◌++◌, ◌==◌, [], if◌then◌else◌, IfOk, List, None, OnOk, Some, codes, map, option_map, slice_get, take, unwrap_or};
 ghost use Rattle.std.specs.List.{list_any, slice_split};
-ghost use Rattle.std.specs.Str.{bytes_eq};
+ghost use Rattle.std.specs.Str.{bytes_eq, is_utf8};
 ghost use Rattle.gp_outside.specs.Faults.{Rose};
 ghost use Rattle.gp_outside.specs.Folders.{File};
 ghost use Rattle.gp_beside.specs.Sources.{begins_at_root, behind_colon, inside, line_at, line_of, line_text, lines_of, place_text, shown_byte, source_at, source_lines, text_of, texts_of, trimmed};
@@ -89,7 +89,16 @@ fn inside(name: &[u8]) -> Option<&str>
     if begins_at_root(name) || has_percent(name) || has_parent(name) {
         return None;
     }
-    str::from_utf8(name).ok()
+    text_of_name(name)
+}
+
+fn text_of_name(name: &[u8]) -> Option<&str>
+    ensures { option_map (λ text. text.now) result ≡ if is_utf8 name.now then Some name.now else None }
+{
+    match str::from_utf8(name) {
+        Ok(text) => Some(text),
+        Err(_) => None,
+    }
 }
 
 fn begins_at_root(name: &[u8]) -> bool
@@ -219,7 +228,7 @@ fn line_at(lines: &[Row<u8>], number: u32) -> Option<&[u8]>
 }
 
 fn put_line(text: &mut Vec<u8>, line: Option<&[u8]>) -> Result<(), AllocError>
-    ensures { OnOk result (text.new.items ≡ text.old.items ++ line_text (option_map (λ line. line.now) line)) }
+    ensures { OnOk result (text.new.items ≡ text.old.items ++ line_text (option_map (λ line. line.now) line.entry)) }
 {
     match line {
         Some(line) => put_behind_colon(text, shown_part(line)),
@@ -232,7 +241,11 @@ fn shown_part(line: &[u8]) -> &[u8]
     ensures { result.now ≡ take 200 (trimmed line.now) }
 {
     let line = trimmed(line);
-    &line[..line.len().min(LONGEST_SHOWN)]
+    if line.len() > LONGEST_SHOWN {
+        &line[..LONGEST_SHOWN]
+    } else {
+        line
+    }
 }
 
 fn trimmed(line: &[u8]) -> &[u8]

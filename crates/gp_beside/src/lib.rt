@@ -6,6 +6,7 @@
 mod beside;
 mod fault;
 mod files;
+mod laws;
 mod numbers;
 mod place_list;
 mod sightings;
@@ -13,3 +14,4 @@ mod sources;
 
 pub use beside::{Noted, noted_at};
 pub use fault::{Cause, NoteFault, NoteFile, NoteStop, put_fault};
+pub use laws::places_examples;

@@ -1,0 +1,46 @@
+use Rattle.std.proofs.Common.{refl}
+use Rattle.std.specs.Fmt.{digits}
+use Rattle.gp_beside.proofs.laws.places_examples.Goals as goal
+
+pub returns : goal.returns
+unfolding digits
+returns c = record {
+  two = refl;
+  absent = refl;
+  nothing = refl;
+  no_head = refl;
+  late_file = refl;
+  file_zero = refl;
+  file_three = refl;
+  no_decimal = refl;
+  each = refl;
+  number_too_many = refl;
+  number_too_few = refl;
+  number_lacks_at_end = refl;
+  mark_too_many = refl;
+  mark_too_few = refl;
+  no_place = refl;
+  no_number = refl;
+  tab = refl;
+  long = refl;
+  second_line = refl;
+  no_line = refl;
+  behind_last = refl;
+  from_root = refl;
+  above = refl;
+  spelled = refl;
+  dots = ?;
+  seen = refl;
+  no_word = refl;
+  toolong = refl;
+  notascii = refl;
+  longline = refl;
+  nolastnewline = refl;
+  badline = refl;
+  unknownfile = refl;
+  unknownplace = refl;
+  eventcount = refl;
+  toomany = refl;
+  no_files = refl;
+  left_out = refl;
+}

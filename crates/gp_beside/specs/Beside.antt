@@ -29,7 +29,7 @@ fault_of file cause = record { file = file; cause = cause }
 abbrev pub thread_numbers : List File → List ℕ → ℕ → LocalTraceForm → Result (List (List ℕ)) NoteFault
 thread_numbers files directory places trace =
     or_refused (fault_of (file.ThreadPlaces trace.thread))
-        (told_at files directory (file.ThreadPlaces trace.thread) [] (numbers_told places trace.segments))
+    (told_at files directory (file.ThreadPlaces trace.thread) [] (numbers_told places trace.segments))
 
 -- the same of threads
 abbrev pub all_numbers : List File → List ℕ → ℕ → List LocalTraceForm → Result (List (List (List ℕ))) NoteFault

@@ -18,7 +18,7 @@ use Rattle.gp_beside.specs.Files.{told_in}
 use Rattle.gp_beside.specs.Numbers.{numbers_told}
 use Rattle.gp_beside.specs.Refusal.{fault_words}
 use Rattle.gp_beside.specs.Sightings.{sightings_told}
-use Rattle.gp_beside.specs.Sources.{is_inside, place_text, shown_line}
+use Rattle.gp_beside.specs.Sources.{is_inside, line_of, shown_line, texts_of}
 
 -- the text of these lines
 abbrev pub text : List (List ℕ) → List ℕ
@@ -85,12 +85,13 @@ pub record ExamplesHold : Type 0 where
   pub mark_too_few : numbered (codes "1" ∷ codes "0" ∷ []) ≡ Err (EventCount 3)
   pub no_place : numbered (codes "3" ∷ []) ≡ Err (UnknownPlace 1)
   pub no_number : numbered (codes "one" ∷ []) ≡ Err (BadLine 1)
-  -- the lines of a source, and the texts of places
+  -- the texts of places, and lines of a source
   pub tab : shown_line (9 ∷ codes "x" ++ 9 ∷ codes "= 1;") ≡ codes "x = 1;"
   pub long : shown_line (replicate 201 97) ≡ replicate 200 97
-  pub second_line : place_text (codes "a.c") source (place_at 2) ≡ codes "a.c:2 in main: x = 1;"
-  pub no_line : place_text (codes "a.c") source (place_at 0) ≡ codes "a.c:0 in main"
-  pub behind_last : place_text (codes "a.c") source (place_at 3) ≡ codes "a.c:3 in main"
+  pub places : texts_of two_places ≡ codes "a.c:3 in main" ∷ codes "b.c:0 in run" ∷ []
+  pub second_line : line_of (source ∷ []) (place_at 2) ≡ codes ": x = 1;"
+  pub no_line : line_of (source ∷ []) (place_at 0) ≡ []
+  pub behind_last : line_of (source ∷ []) (place_at 3) ≡ []
   -- names
   pub from_root : is_inside (codes "/etc/hosts") ≡ false
   pub above : is_inside (codes "a/../../b") ≡ false

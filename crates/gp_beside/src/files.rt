@@ -106,10 +106,7 @@ fn lines_held(
     }
 }
 
-fn file_lines(
-    alloc: Global,
-    bytes: &[u8],
-) -> Result<Result<Option<FileLines>, Cause>, AllocError>
+fn file_lines(alloc: Global, bytes: &[u8]) -> Result<Result<Option<FileLines>, Cause>, AllocError>
     requires { length bytes.now ≤ 1048576 }
     ensures { IfOk result (λ found. found ≡ file_lines bytes.now (lines_of bytes.now)) }
 {

@@ -1,4 +1,4 @@
-ghost use Rattle.std.specs.Prelude.{◌≡◌, IfOk};
+ghost use Rattle.std.specs.Prelude.{◌≡◌, ◌==◌, IfOk, length};
 ghost use Rattle.gp_beside.specs.Numbers.{finished, no_numbers, numbers_of, size_due, with_lines, with_mark, with_number, with_number_of, with_words};
 
 use crate::fault::Cause;
@@ -127,9 +127,7 @@ fn with_mark(
 ) -> Result<Result<Numbers, Cause>, AllocError>
     ensures { IfOk result (λ more. more ≡ with_mark segments.now told line) }
 {
-    if told.whole.as_slice().len() + 1 >= segments.len()
-        || told.begun.len() != size_due(segments, &told)
-    {
+    if told.whole.as_slice().len() + 1 >= segments.len() || !is_complete(segments, &told) {
         return Ok(Err(Cause::EventCount(line)));
     }
     let Numbers { mut whole, begun } = told;
@@ -138,6 +136,13 @@ fn with_mark(
         whole,
         begun: Row::new(alloc),
     }))
+}
+
+/// Whether the segment that is being told has a number for each of its events.
+fn is_complete(segments: &[Row<Event>], told: &Numbers) -> bool
+    ensures { result ≡ (length told.now.begun == size_due segments.now told.now) }
+{
+    told.begun.len() == size_due(segments, told)
 }
 
 /// How many events the segment has that is being told; behind the last one, none.
@@ -157,9 +162,7 @@ fn finished(
 ) -> Result<Result<Row<Row<u32>>, Cause>, AllocError>
     ensures { IfOk result (λ numbers. numbers ≡ finished segments.now last told) }
 {
-    if told.whole.as_slice().len() + 1 != segments.len()
-        || told.begun.len() != size_due(segments, &told)
-    {
+    if told.whole.as_slice().len() + 1 != segments.len() || !is_complete(segments, &told) {
         return Ok(Err(Cause::EventCount(last)));
     }
     let Numbers { mut whole, begun } = told;

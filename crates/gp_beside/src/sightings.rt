@@ -29,9 +29,16 @@ fn sighting_of(alloc: Global, words: &[Word]) -> Result<Option<Sighting>, AllocE
     ensures { IfOk result (λ sighting. sighting ≡ sighting_of words.now) }
 {
     match words {
-        [one, window, other, property, last, instance, seen, more @ ..]
-            if are_keywords(one.as_bytes(), other.as_bytes(), last.as_bytes()) =>
-        {
+        [
+            one,
+            window,
+            other,
+            property,
+            last,
+            instance,
+            seen,
+            more @ ..,
+        ] if are_keywords(one.as_bytes(), other.as_bytes(), last.as_bytes()) => {
             sighting_with(
                 alloc,
                 read_u32(window.as_bytes()),
@@ -47,9 +54,7 @@ fn sighting_of(alloc: Global, words: &[Word]) -> Result<Option<Sighting>, AllocE
 fn are_keywords(one: &[u8], other: &[u8], last: &[u8]) -> bool
     ensures { result ≡ are_keywords one.now other.now last.now }
 {
-    one == b"window".as_slice()
-        && other == b"property".as_slice()
-        && last == b"instance".as_slice()
+    one == b"window".as_slice() && other == b"property".as_slice() && last == b"instance".as_slice()
 }
 
 fn sighting_with(

@@ -169,7 +169,11 @@ fn texts_among(
 fn text_of(alloc: Global, names: &[Row<u8>], place: &Place) -> Result<Row<u8>, AllocError>
     ensures { IfOk result (λ text. text ≡ text_of names.now place.now) }
 {
-    place_text(alloc, row_at(names, place.file.saturating_sub(1) as usize), place)
+    place_text(
+        alloc,
+        row_at(names, place.file.saturating_sub(1) as usize),
+        place,
+    )
 }
 
 fn lines_among(
@@ -186,11 +190,7 @@ fn lines_among(
     Ok(lines)
 }
 
-fn line_of(
-    alloc: Global,
-    sources: &[Row<Row<u8>>],
-    place: &Place,
-) -> Result<Row<u8>, AllocError>
+fn line_of(alloc: Global, sources: &[Row<Row<u8>>], place: &Place) -> Result<Row<u8>, AllocError>
     ensures { IfOk result (λ line. line ≡ line_of sources.now place.now) }
 {
     let source = row_at(sources, place.file.saturating_sub(1) as usize);
@@ -283,5 +283,9 @@ fn put_shown(text: &mut Vec<u8>, part: &[u8]) -> Result<(), AllocError>
 fn shown_byte(byte: u8) -> u8
     ensures { result ≡ shown_byte byte }
 {
-    if byte < b' ' || byte == 127 { b' ' } else { byte }
+    if byte < b' ' || byte == 127 {
+        b' '
+    } else {
+        byte
+    }
 }

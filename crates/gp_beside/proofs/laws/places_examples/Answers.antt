@@ -1,6 +1,13 @@
-use Rattle.std.proofs.Common.{refl}
+use Rattle.std.proofs.Common.{◌≡◌, refl, true, codes}
+use Rattle.std.proofs.lemmas.Str.{is_utf8-from_IsUtf8}
 use Rattle.std.specs.Fmt.{digits}
+use Rattle.std.specs.Str.{is_utf8}
+use lib.Utf8.{encode}
 use Rattle.gp_beside.proofs.laws.places_examples.Goals as goal
+
+text_with_dots : is_utf8 (codes "a..b/c.c") ≡ true
+unfolding encode
+text_with_dots = is_utf8-from_IsUtf8 (codes "a..b/c.c") (codes "a..b/c.c", (refl, refl))
 
 pub returns : goal.returns
 unfolding digits
@@ -23,13 +30,14 @@ returns c = record {
   no_number = refl;
   tab = refl;
   long = refl;
+  places = refl;
   second_line = refl;
   no_line = refl;
   behind_last = refl;
   from_root = refl;
   above = refl;
   spelled = refl;
-  dots = ?;
+  dots = text_with_dots;
   seen = refl;
   no_word = refl;
   toolong = refl;

@@ -11,7 +11,7 @@
 
 enum { MOST_THREADS = 64, LONGEST_WORD = 4096, RECORD_BYTES = 32, HEAD_RECORDS = 32, GRANULE = 8 };
 
-#define LOG_MAGIC "gplog 4"
+#define LOG_MAGIC "gplog 5"
 
 enum kind {
     NOTHING, /* a place in the log that is passed over */
@@ -49,6 +49,7 @@ enum kind {
     MODULE, /* a file of the program with symbols, loaded at `address`: `more` is its path */
     WIDENED, /* record `old` has got the bytes of `mask` as well, where it is wanted what each record comes from */
     WORD,   /* `more` bytes of text in the records that follow */
+    SITE,   /* `more` bytes of addresses there: the calls that led to some record, from the innermost one on */
     /* The run. */
     PAUSED,  /* accesses are not recorded from here on */
     RESUMED, /* they are again */
@@ -64,15 +65,18 @@ enum { READS = 1, WRITES = 2, CONTINUES = 4, UNSETTLED = 8, OLD_UNKNOWN = 16 };
 /* What a thread waits for at a stop. */
 enum waits { FOR_LOCK, FOR_CONDITION, FOR_SEMAPHORE, FOR_THREAD, FOR_BARRIER, FOR_FUTEX, FOR_TIME };
 
-/* ---- A schedule that is to be confirmed ---- */
+/* ---- Where records come from ---- */
 
 /* Where a record comes from, in a file of its own beside the log: the entry of a record has the record's number. */
 struct step {
-    uint64_t caller;      /* the place in the program behind the call or the hook that made it */
-    uint64_t number : 48; /* which of the thread's calls and hooks this was, from 1 */
-    uint64_t phase : 8;   /* of a call that waits in between: behind how many such places */
+    uint64_t site : 24;   /* the place in the program: which of the SITE records, from 1, or 0 */
+    uint64_t number : 40; /* and where that is counted, which of the thread's calls and hooks this was, from 1; */
+    uint64_t caller : 48; /* the address behind it; */
+    uint64_t phase : 8;   /* of a call that waits in between: behind how many such places; */
     uint64_t merged : 8;  /* other writes of its segment are in it too */
 };
+
+/* ---- A schedule that is to be confirmed ---- */
 
 /* A script: a head, the moves of all threads in the order in which they are to come, and the deeds of each. A thread does
  * no move before its time, and stands at a STOP to the script's end; an ATTEMPT is to find its lock held. */

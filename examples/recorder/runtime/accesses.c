@@ -86,7 +86,7 @@ static uint32_t log_piece(struct thread *me, enum kind kind, uintptr_t granule, 
 
 static void widen(struct thread *me, struct record *record, unsigned mask, unsigned cuts) {
     head->private_accesses++;
-    if (__builtin_expect(steps != NULL, 0)) note_merged(me, record, mask & ~(unsigned)record->mask);
+    note_merged(me, record, mask & ~(unsigned)record->mask);
     record->mask |= (uint8_t)mask;
     record->cuts |= (uint8_t)cuts;
 }
@@ -161,7 +161,7 @@ static struct cell *write_piece(struct thread *me, struct piece piece) {
     struct cell *cell = cell_of(piece.granule);
     bool known = cell->segment == me->segment && !cell->shared && !(piece.mask & ~(unsigned)cell->written);
     if (following) do_deed(me, WRITE, piece.granule, piece.mask, 0, 0);
-    if (known && __builtin_expect(steps != NULL, 0)) note_merged(me, &records[cell->write_at], 0);
+    if (known && __builtin_expect(counting, 0)) note_merged(me, &records[cell->write_at], 0);
     if (known) {
         head->private_accesses++;
     } else {
@@ -256,13 +256,16 @@ void forget_range(uintptr_t address, size_t size) {
 }
 
 /* The memory is given back by this thread, for which that counts as touching all of it. */
-void forget_memory(struct thread *me, uintptr_t address, size_t size) {
-    if (!log_open || !recording) return;
+bool forget_memory(struct thread *me, uintptr_t address, size_t size) {
+    bool by_others = false;
+    if (!log_open || !recording) return false;
     for (uintptr_t at = address & ~(uintptr_t)(GRANULE - 1); at < address + size; at += GRANULE) {
         struct cell *cell = cell_of(at);
         if (cell->owner && cell->owner != me->number) flush(cell);
+        by_others |= is_shared(me, cell);
     }
     cell_clear(address, size);
+    return by_others;
 }
 
 /* ---- The sanitizer's hooks ---- */
@@ -326,7 +329,8 @@ static inline __attribute__((always_inline)) void hook(const volatile void *addr
     }
     me->inside = 1;
     if (me->pending_count) settle_all(me);
-    if (__builtin_expect(steps != NULL, 0) && follows(me, address, size, write, (uintptr_t)__builtin_return_address(0))) return;
+    me->frame = __builtin_frame_address(0);
+    if (__builtin_expect(counting, 0) && follows(me, address, size, write, (uintptr_t)__builtin_return_address(0))) return;
     unsigned offset = (unsigned)((uintptr_t)address & (GRANULE - 1));
     struct cell *cell = NULL;
     if (recording && offset + size <= GRANULE) {
@@ -337,7 +341,7 @@ static inline __attribute__((always_inline)) void hook(const volatile void *addr
     if (__builtin_expect(!cell || !stays_private(me), 0)) {
         slow_hook(me, address, size, write);
     } else if (write) {
-        if (__builtin_expect(steps != NULL, 0)) note_merged(me, &records[cell->write_at], 0);
+        if (__builtin_expect(counting, 0)) note_merged(me, &records[cell->write_at], 0);
         await_write(me, cell, (uintptr_t)address - offset);
     }
     leave(me);

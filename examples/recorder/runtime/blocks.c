@@ -35,8 +35,9 @@ static void *made_for(void *block, void *caller) {
 }
 
 static void ended(struct thread *me, void *block, size_t size) {
-    append(me, FREE, block)->old = size;
-    forget_memory(me, (uintptr_t)block, size);
+    struct record *record = append(me, FREE, block);
+    record->old = size;
+    if (forget_memory(me, (uintptr_t)block, size)) note_far_site(me, record);
     if (following) block_freed((uintptr_t)block, size);
 }
 

@@ -17,7 +17,7 @@ enum { NOWHERE = HEAD_RECORDS - 1 }; /* a place in the head for what comes after
 
 struct step *steps;
 
-bool recording, log_open;
+bool recording, log_open, counting;
 struct log_head *head;
 struct record *records;
 
@@ -41,7 +41,7 @@ static bool add_piece(void) {
     uint64_t size = room * RECORD_BYTES;
     if (size + LOG_PIECE > LOG_ROOM || posix_fallocate(journal, (off_t)size, (off_t)LOG_PIECE)) return false;
     void *made = mmap((char *)records + size, LOG_PIECE, PROT_READ | PROT_WRITE, MAP_SHARED | MAP_FIXED, journal, (off_t)size);
-    if (made == MAP_FAILED || (steps && !add_steps(size / 2))) return false;
+    if (made == MAP_FAILED || !add_steps(size / 2)) return false;
     room += LOG_PIECE / RECORD_BYTES;
     return true;
 }
@@ -54,20 +54,21 @@ static int open_high(const char *path) {
     return high < 0 ? file : high;
 }
 
-/* Address space for the log and the steps, also where these are not wanted: so that all else lies where it lay. */
+/* Address space for the log and the steps. */
 static bool reserve(void) {
     records = mmap(NULL, LOG_ROOM + LOG_ROOM / 2, PROT_NONE, MAP_PRIVATE | MAP_ANONYMOUS | MAP_NORESERVE, -1, 0);
     if (records == MAP_FAILED) return false;
-    if (journal_of_steps >= 0) steps = (struct step *)((char *)records + LOG_ROOM);
+    steps = (struct step *)((char *)records + LOG_ROOM);
     return true;
 }
 
 bool open_log(const char *path) {
-    const char *limit = getenv("GPRECORD_LOG_MIB"), *wanted = getenv("GPRECORD_STEPS");
+    const char *limit = getenv("GPRECORD_LOG_MIB"), *beside = getenv("GPRECORD_STEPS");
     if (limit) most = strtoull(limit, NULL, 10) * (1048576 / RECORD_BYTES);
     journal = open_high(path);
-    if (wanted) journal_of_steps = open_high(wanted);
-    if (journal < 0 || !reserve() || !add_piece()) return false;
+    if (beside) journal_of_steps = open_high(beside);
+    if (journal < 0 || journal_of_steps < 0 || !reserve() || !add_piece() || !open_sites()) return false;
+    counting = getenv("GPRECORD_COUNTS");
     head = (struct log_head *)records;
     memcpy(head->magic, LOG_MAGIC, sizeof head->magic);
     head->used = HEAD_RECORDS;
@@ -101,23 +102,34 @@ static struct record *next_record(void) {
     return &records[head->used++];
 }
 
+static struct step step_of(const struct thread *me, uint32_t site) {
+    return (struct step){.site = site, .number = me->steps, .caller = me->caller, .phase = (uint8_t)me->phase};
+}
+
+/* Of blocks the place is in their own record, and most of their ends are no events; the others come by no call. */
+static bool has_site(enum kind kind) { return kind <= END && kind != EXIT && kind != OBJECT_WORD && kind != OBJECT_AT; }
+
 struct record *append(struct thread *me, enum kind kind, const volatile void *address) {
+    uint32_t site = has_site(kind) ? site_of(me, true) : 0;
     struct record *record = next_record();
     *record = (struct record){.kind = (uint8_t)kind, .thread = (uint8_t)me->number, .address = (uint64_t)address};
     me->last_record = (uint64_t)(record - records);
-    if (__builtin_expect(!steps, 1)) return record;
-    steps[record - records] = (struct step){me->caller, me->steps, me->phase, 0};
+    steps[record - records] = step_of(me, site);
     if (following && kind >= DESCRIPTOR_OPENED) do_deed(me, kind, (uint64_t)address, 0xff, 0, 0);
     return record;
 }
 
+void note_far_site(struct thread *me, struct record *record) { steps[record - records].site = site_of(me, true); }
+
+/* Where steps are not counted, it does not matter which of several accesses at one place of the program it was. */
 void note_merged(struct thread *me, struct record *record, unsigned mask) {
     steps[record - records].merged = 1;
-    if (!mask) return;
+    uint32_t site = mask ? site_of(me, true) : 0;
+    if (!mask || (!counting && site == steps[record - records].site)) return;
     struct record *made = next_record();
     *made = (struct record){.kind = WIDENED, .thread = (uint8_t)me->number, .mask = (uint8_t)mask};
     made->old = (uint64_t)(record - records);
-    steps[made - records] = (struct step){me->caller, me->steps, me->phase, 0};
+    steps[made - records] = step_of(me, site);
 }
 
 uint32_t new_segment(void) { return ++segments; }
@@ -129,18 +141,19 @@ struct record *note(struct thread *me, enum kind kind, const volatile void *addr
 
 /* ---- Words ---- */
 
-static uint32_t log_word(const char *text) {
-    size_t length = strnlen(text, LONGEST_WORD), done = 0;
+uint32_t log_bytes(enum kind kind, const void *bytes, size_t size) {
     struct record *record = next_record();
     uint32_t number = (uint32_t)(record - records);
-    *record = (struct record){.kind = WORD, .more = (uint32_t)length};
-    for (; done < length && log_open; done += RECORD_BYTES) {
+    *record = (struct record){.kind = (uint8_t)kind, .more = (uint32_t)size};
+    for (size_t done = 0; done < size && log_open; done += RECORD_BYTES) {
         struct record *piece = next_record();
         memset(piece, 0, sizeof *piece);
-        memcpy(piece, text + done, length - done < RECORD_BYTES ? length - done : RECORD_BYTES);
+        memcpy(piece, (const char *)bytes + done, size - done < RECORD_BYTES ? size - done : RECORD_BYTES);
     }
     return number;
 }
+
+static uint32_t log_word(const char *text) { return log_bytes(WORD, text, strnlen(text, LONGEST_WORD)); }
 
 uint32_t word_of(const char *text) {
     if (!log_open) return 0;
@@ -164,6 +177,8 @@ void log_stack(struct thread *me) {
     size_t size;
     if (pthread_getattr_np(pthread_self(), &attributes)) return;
     if (!pthread_attr_getstack(&attributes, &low, &size)) {
+        me->stack_low = (uintptr_t)low;
+        me->stack_high = (uintptr_t)low + size;
         forget_range((uintptr_t)low, size);
         struct record *record = append(me, STACK, low);
         record->old = size;

@@ -62,7 +62,7 @@ API int pthread_once(pthread_once_t *once, void (*function)(void)) {
     function();
     me->inside = 1;
     settle_all(me);
-    begin_step(me, __builtin_return_address(0));
+    begin_step(me);
     end_once(me, (uint8_t *)once, 2);
     LEAVE_WITH(me, 0);
 }

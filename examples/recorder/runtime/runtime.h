@@ -89,6 +89,8 @@ struct thread {
     struct held held[MOST_HELD];
     int held_count;
     struct thread *next; /* in the list of the threads that are not joined */
+    uintptr_t stack_low, stack_high;
+    const uintptr_t *frame; /* of our call or hook in which it is or was last, or NULL where it is in none */
     uint64_t steps;       /* how many of its calls and hooks there were, with this one */
     uintptr_t caller;     /* the place in the program behind it */
     unsigned phase;       /* how many places it has passed in it at which it may have waited */
@@ -109,8 +111,9 @@ void run_signals(struct thread *me);
 extern bool scripted, following;
 extern uintptr_t foreign_low, foreign_size; /* where the C library lies, whose own calls are no steps of a thread */
 
-/* Of each record where it comes from, where that is wanted; always where there is a script. */
+/* Of each record where it comes from; whether the calls and hooks are counted too, as they are where there is a script. */
 extern struct step *steps;
+extern bool counting;
 
 bool open_script(const char *path);
 void checkpoint(struct thread *me);
@@ -127,9 +130,10 @@ void block_made(uintptr_t address, size_t size);
 
 void count_step(struct thread *me, uintptr_t caller);
 
-/* A call or a hook of the program begins; they are counted where it is wanted what each record comes from. */
-static inline __attribute__((always_inline)) void begin_step(struct thread *me, void *caller) {
-    if (__builtin_expect(steps != NULL, 0)) count_step(me, (uintptr_t)caller);
+/* A call or a hook of the program begins. */
+static inline __attribute__((always_inline)) void begin_step(struct thread *me) {
+    me->frame = __builtin_frame_address(0);
+    if (__builtin_expect(counting, 0)) count_step(me, (uintptr_t)__builtin_return_address(0));
 }
 
 /* Behind a place of a call at which it may wait. */
@@ -144,7 +148,7 @@ static inline __attribute__((always_inline)) struct thread *enter(void) {
     if (!me || me->inside) return NULL;
     me->inside = 1;
     if (me->pending_count) settle_all(me);
-    begin_step(me, __builtin_return_address(0));
+    begin_step(me);
     return me;
 }
 
@@ -222,8 +226,15 @@ bool open_log(const char *path);
 void grow_log(void);
 void close_log(void);
 uint32_t word_of(const char *text);
+/* A record with so many bytes behind it, and its number. */
+uint32_t log_bytes(enum kind kind, const void *bytes, size_t size);
 struct record *append(struct thread *me, enum kind kind, const volatile void *address);
 uint32_t new_segment(void);
+/* The record is of a call that may have come by code of others, as `append` does not look through it. */
+void note_far_site(struct thread *me, struct record *record);
+bool open_sites(void);
+/* The number of the calls that led to where a thread is, or 0 where they are not known; with those through code of others. */
+uint32_t site_of(const struct thread *me, bool unwinds);
 /* An access is put to the record of an earlier one, with these bytes that this does not have yet. */
 void note_merged(struct thread *me, struct record *record, unsigned mask);
 /* As `append`, and a new segment of the thread begins. */
@@ -247,7 +258,8 @@ void end_write(struct thread *me, const volatile void *address, size_t size);
 void note_written(struct thread *me, const volatile void *address, size_t size);
 /* An atomic access behind which the memory is as it is now; `old` was there before. */
 void note_atomic(struct thread *me, const volatile void *address, size_t size, const void *old, unsigned flags);
-void forget_memory(struct thread *me, uintptr_t address, size_t size);
+/* Whether others had to do with it. */
+bool forget_memory(struct thread *me, uintptr_t address, size_t size);
 void forget_range(uintptr_t address, size_t size);
 
 /* ---- Locks ---- */

@@ -45,7 +45,7 @@ bool open_script(const char *path) {
     if (script == MAP_FAILED || memcmp(script->magic, SCRIPT_MAGIC, sizeof script->magic)) return false;
     moves = (const struct move *)(script + 1);
     deeds = (const struct deed *)(moves + script->move_count);
-    return scripted = steps != NULL;
+    return scripted = counting;
 }
 
 /* ---- Where a thread stands in it ---- */

@@ -20,6 +20,7 @@ static void call_handler(int signal, siginfo_t *info, void *context) {
 static void run_handler(struct thread *me, int signal, siginfo_t *info, void *context) {
     int inside = me->inside, error = errno;
     struct wait wait = me->wait;
+    const uintptr_t *frame = me->frame;
     struct pending pending[MOST_PENDING];
     unsigned pending_count = me->pending_count;
     memcpy(pending, me->pending, sizeof pending);
@@ -31,6 +32,7 @@ static void run_handler(struct thread *me, int signal, siginfo_t *info, void *co
     memcpy(me->pending, pending, sizeof pending);
     me->pending_count = pending_count;
     me->wait = wait;
+    me->frame = frame;
     errno = error;
 }
 

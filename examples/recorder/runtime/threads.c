@@ -50,6 +50,7 @@ static void end_thread(void *ended) {
         return;
     }
     me->inside = 1;
+    me->frame = NULL;
     settle_all(me);
     append(me, EXIT, NULL);
     me->state = ENDED;

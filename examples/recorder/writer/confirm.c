@@ -247,7 +247,8 @@ int confirm(int count, char **given) {
     struct words words = read_run(question.folder);
     struct schedule schedule = read_schedule(&question);
     words.program = question.program;
-    words.steps = steps_path; /* also of the run by the script, so that both logs have the same records up to the mark */
+    words.steps = steps_path;
+    words.counts = true; /* also of the run by the script, so that both logs have the same records up to the mark */
     words.limit = 2 * question.limit;
     make_file(log_path, sizeof log_path);
     make_file(steps_path, sizeof steps_path);

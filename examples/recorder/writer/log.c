@@ -28,9 +28,10 @@ const char *word_at(const struct log *log, uint32_t word) {
     return text;
 }
 
-/* The record behind this one, past the text of a word. */
+/* The record behind this one, past what belongs to it. */
 const struct record *behind(const struct log *log, const struct record *record) {
-    uint64_t records = record->kind == WORD ? 1 + (record->more + RECORD_BYTES - 1) / RECORD_BYTES : 1;
+    bool has_more = record->kind == WORD || record->kind == SITE;
+    uint64_t records = has_more ? 1 + (record->more + RECORD_BYTES - 1) / RECORD_BYTES : 1;
     const struct record *end = log->records + log->count;
     return record + records < end ? record + records : end;
 }

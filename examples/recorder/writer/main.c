@@ -104,7 +104,7 @@ struct recording make_recording(const struct words *words, const struct log *log
     find_cells(log, words->alike);
     struct events *events = &made.events;
     *events = make_events(log);
-    for (uint64_t i = 0; words->steps && i < events->count; i++)
+    for (uint64_t i = 0; words->counts && i < events->count; i++)
         if (is_event(&events->list[i])) ADD(made.records, made.record_count, events->list[i].record);
     if (!keep_wanted(events, words->from)) fail(STATUS_NOTHING, "there is no operation %s", words->from);
     made.folded = fold_loops(events);
@@ -141,12 +141,15 @@ void make_file(char *path, size_t room) {
 
 static int record(int count, char **given) {
     struct words words = read_words(count, given);
-    char path[4096];
+    char path[4096], steps[4096];
     make_file(path, sizeof path);
+    make_file(steps, sizeof steps);
+    words.steps = steps;
     struct ending ending = run_program(&words, path);
     struct log log;
     bool mapped = map_log(path, &log);
     unlink(path);
+    unlink(steps);
     if (!mapped && !ending.started) return STATUS_NOTHING;
     if (!mapped) fail(STATUS_NOTHING, "%s has no recorder in it; build it by gprecord cc", words.program[0]);
     return write_recording(&words, &log, ending);

@@ -24,9 +24,11 @@ struct words {
     bool strict;
     const char *props, *asked, *from, *folder;
     char **program;
+    const char *steps; /* the file beside the log */
     /* Of a run that is made to confirm a finding. */
-    const char *steps, *script;
+    const char *script;
     uint64_t limit; /* it is ended where it does nothing for as many seconds, or 0 */
+    bool counts;    /* the calls and hooks of each thread are counted */
     bool quiet;     /* what it prints is not shown */
 };
 

@@ -3,9 +3,6 @@
 #include <signal.h>
 #include <stdlib.h>
 #include <string.h>
-#include <sys/mman.h>
-#include <sys/stat.h>
-#include <fcntl.h>
 #include <time.h>
 #include <unistd.h>
 
@@ -22,28 +19,6 @@ static void remove_files(void) {
 }
 
 /* ---- The two runs ---- */
-
-static int by_widened(const void *one, const void *other) {
-    const struct record *first = *(const struct record *const *)one, *second = *(const struct record *const *)other;
-    if (first->old != second->old) return first->old < second->old ? -1 : 1;
-    return first < second ? -1 : 1;
-}
-
-static struct origins find_origins(const struct log *log) {
-    struct origins origins = {0};
-    struct stat status;
-    int file = open(steps_path, O_RDONLY | O_CLOEXEC);
-    if (file < 0 || fstat(file, &status)) fail(STATUS_NOTHING, "the steps of the run cannot be read");
-    void *made = mmap(NULL, (size_t)status.st_size, PROT_READ, MAP_PRIVATE, file, 0);
-    close(file);
-    if (made == MAP_FAILED) fail(STATUS_NOTHING, "the steps of the run cannot be read");
-    origins.steps = made;
-    const struct record *end = log->records + log->count;
-    for (const struct record *record = log->records + HEAD_RECORDS; record < end; record = behind(log, record))
-        if (record->kind == WIDENED) ADD(origins.widened, origins.count, record);
-    if (origins.count) qsort(origins.widened, origins.count, sizeof *origins.widened, by_widened);
-    return origins;
-}
 
 static struct ending run(const struct words *words, struct log *log) {
     struct ending ending = run_program(words, log_path);
@@ -232,7 +207,7 @@ static int print_left(const struct plan *plan, const struct recording *recording
     printf("left the schedule at %u.%u\n", pick->thread, pick->index);
     print_told(plan, recording, move);
     if (follow->left) {
-        print_why(log, find_origins(log).steps, plan);
+        print_why(log, find_origins(log, steps_path).steps, plan);
     } else {
         text_of_ending(ended, sizeof ended, log, ending);
         printf("the program ended before, with %s\n", ended);
@@ -256,7 +231,7 @@ int confirm(int count, char **given) {
     atexit(remove_files);
     struct log log;
     struct recording recording = record_again(words, &log);
-    struct origins origins = find_origins(&log);
+    struct origins origins = find_origins(&log, steps_path);
     unlink(log_path);
     unlink(steps_path);
     struct plan plan = make_plan(&log, &origins, &recording, &question, &schedule);

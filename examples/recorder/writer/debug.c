@@ -162,8 +162,7 @@ void write_block_path(FILE *to, const struct told *told, uint64_t size, uint64_t
 
 /* ---- Variables ---- */
 
-/* The last one that begins at an address or before it. */
-static const struct thing *thing_at(const struct things *things, uint64_t address) {
+const struct thing *thing_at(const struct things *things, uint64_t address) {
     size_t above = FIRST_ABOVE(things->list, things->count, address, address);
     return above ? &things->list[above - 1] : NULL;
 }
@@ -256,7 +255,7 @@ static bool next_range(struct list *list, uint64_t *low, uint64_t *high, struct 
     return !list->at.bad;
 }
 
-static bool has_address(const struct entry *entry, uint64_t address) {
+bool has_address(const struct entry *entry, uint64_t address) {
     uint64_t low, high;
     struct list list;
     struct span code;
@@ -264,122 +263,6 @@ static bool has_address(const struct entry *entry, uint64_t address) {
     if (!open_list(&list, entry->unit, &entry->values[IN_RANGES], false)) return false;
     while (next_range(&list, &low, &high, &code))
         if (low <= address && address < high) return true;
-    return false;
-}
-
-/* ---- Lines ---- */
-
-struct table {
-    const struct unit *unit;
-    struct span program, files; /* the names of the files begin there */
-    uint64_t step, range, version;
-    int64_t base;
-    uint8_t first, lengths[256]; /* the first opcode of its own, and how many numbers stand behind those before it */
-};
-
-static bool open_table(struct table *table, const struct unit *unit) {
-    struct span from = section_from(unit->debug, LINE, unit->lines);
-    *table = (struct table){.unit = unit};
-    table->program = take_span(&from, take(&from, 4));
-    from = table->program;
-    table->version = take(&from, 2);
-    if (!unit->has_lines || from.bad || table->version < 4 || table->version > 5) return false;
-    if (table->version == 5) take(&from, 2);
-    table->files = take_span(&from, take(&from, 4));
-    table->program.at = from.at;
-    table->step = take(&table->files, 1);
-    take(&table->files, 2);
-    table->base = (int8_t)take(&table->files, 1);
-    table->range = take(&table->files, 1);
-    table->first = (uint8_t)take(&table->files, 1);
-    for (unsigned i = 1; i < table->first; i++) table->lengths[i] = (uint8_t)take(&table->files, 1);
-    return !from.bad && !table->files.bad && table->range && table->first;
-}
-
-/* Passes over the folders, or goes to the name of the file with a number, in a table of version 5. */
-static const char *take_names(const struct table *table, struct span *from, uint64_t wanted) {
-    struct span formats = *from;
-    const char *name = NULL;
-    uint64_t form_count = take(from, 1);
-    for (uint64_t i = 0; i < form_count; i++) take_leb(from), take_leb(from);
-    uint64_t count = take_leb(from);
-    if (count > (uint64_t)(from->end - from->at)) return NULL;
-    for (uint64_t i = 0; i < count && i <= wanted && !from->bad; i++) {
-        struct span form = formats;
-        take(&form, 1);
-        for (uint64_t k = 0; k < form_count; k++) {
-            uint64_t content = take_leb(&form);
-            struct value value = take_value(table->unit, from, take_leb(&form), 0);
-            if (content == 1 && i == wanted && value.kind == TEXTUAL) name = value.text;
-        }
-    }
-    return from->bad ? NULL : name;
-}
-
-static const char *name_of_file(const struct table *table, uint64_t file) {
-    struct span from = table->files;
-    if (table->version == 5) {
-        take_names(table, &from, UINT64_MAX);
-        return take_names(table, &from, file);
-    }
-    while (*take_text(&from)) continue;
-    for (uint64_t i = 1; !from.bad; i++) {
-        const char *name = take_text(&from);
-        if (!*name) return NULL;
-        if (i == file) return name;
-        take_leb(&from), take_leb(&from), take_leb(&from);
-    }
-    return NULL;
-}
-
-struct row {
-    uint64_t address, file, line;
-};
-
-/* Runs an operation that changes the row; true where it makes one, and where it ends the rows of a piece of code. */
-static bool run_operation(const struct table *table, struct span *from, struct row *row, bool *ends) {
-    uint64_t operation = take(from, 1), other = operation >= table->first ? operation - table->first : 255 - table->first;
-    struct span more;
-    if (operation >= table->first || operation == 8) row->address += other / table->range * table->step;
-    if (operation >= table->first) row->line += (uint64_t)(table->base + (int64_t)(other % table->range));
-    if (operation >= table->first) return true;
-    switch (operation) {
-    case 0:
-        more = take_span(from, take_leb(from));
-        operation = take(&more, 1);
-        if (operation == 2) row->address = take(&more, 8);
-        return *ends = operation == 1;
-    case 1: return true;
-    case 2: row->address += take_leb(from) * table->step; return false;
-    case 3: row->line += (uint64_t)take_signed_leb(from); return false;
-    case 4: row->file = take_leb(from); return false;
-    case 8: return false;
-    case 9: row->address += take(from, 2); return false;
-    default:
-        for (unsigned i = 0; i < table->lengths[operation]; i++) take_leb(from);
-        return false;
-    }
-}
-
-/* Pieces of code that begin at 0 are those that the linker has left out. */
-static bool find_line(const struct unit *unit, uint64_t address, struct told *told) {
-    struct table table;
-    const struct row first = {0, 1, 1}, none = {UINT64_MAX, 0, 0};
-    struct row row = first, last = none;
-    uint64_t begin = 0;
-    if (!open_table(&table, unit)) return false;
-    for (struct span from = table.program; from.at < from.end;) {
-        bool ends = false;
-        if (!run_operation(&table, &from, &row, &ends)) continue;
-        if (last.address == none.address) begin = row.address;
-        if (begin && last.address <= address && address < row.address) {
-            told->file = name_of_file(&table, last.file);
-            told->line = last.line;
-            return told->file;
-        }
-        last = ends ? none : row;
-        if (ends) row = first;
-    }
     return false;
 }
 
@@ -469,7 +352,11 @@ bool find_maker(const struct debug *debug, uint64_t behind, struct told *told) {
     struct entry entry;
     *told = (struct told){.debug = debug};
     if (!function || behind > function->end || !entry_at(debug, function->entry, &entry)) return false;
-    if (!find_line(entry.unit, behind - 1, told)) return false;
+    struct line line;
+    if (!find_line(entry.unit, behind - 1, &line)) return false;
+    told->line = line.number;
+    told->file = name_of_file(entry.unit, line.file, NULL);
+    if (!told->file) return false;
     struct span frame = entry.values[FRAME].code;
     bool is_one = true, has_frame = frame.end - frame.at == 1 && *frame.at == 0x56;
     unsigned in_frame = 0;

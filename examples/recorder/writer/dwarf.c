@@ -9,7 +9,7 @@
 
 #include "dwarf.h"
 
-enum { MOST_DEPTH = 32, UNIT_COMPILE = 1, UNIT_PARTIAL = 3 };
+enum { MOST_DEPTH = 32, MOST_AROUND = 32, UNIT_COMPILE = 1, UNIT_PARTIAL = 3 };
 
 /* ---- Bytes ---- */
 
@@ -138,7 +138,7 @@ static const uint8_t attributes[256] = {
     [0x02] = LOCATED, [0x03] = NAMED, [0x0b] = SIZED, [0x0c] = BIT_FROM_LAST, [0x0d] = BITS, [0x10] = LINES, [0x11] = LOW,
     [0x12] = HIGH, [0x2f] = UPPER, [0x31] = ORIGIN, [0x37] = COUNTED, [0x38] = AT_BYTE, [0x40] = FRAME, [0x47] = SPECIFIED,
     [0x49] = TYPED, [0x55] = IN_RANGES, [0x6b] = FIRST_BIT, [0x72] = STR_BASE, [0x73] = ADDR_BASE, [0x74] = RNGLISTS_BASE,
-    [0x8c] = LOCLISTS_BASE};
+    [0x8c] = LOCLISTS_BASE, [0x1b] = FOLDER, [0x58] = CALL_FILE, [0x59] = CALL_LINE};
 
 static const struct abbreviation *abbreviation_of(const struct unit *unit, uint64_t code) {
     if (code <= unit->abbreviation_count && unit->abbreviations[code - 1].code == code) return &unit->abbreviations[code - 1];
@@ -201,6 +201,25 @@ const char *name_of_entry(const struct entry *entry) {
     return name.kind == TEXTUAL && *name.text ? name.text : NULL;
 }
 
+static void write_scope(FILE *to, const struct debug *debug, size_t scope) {
+    if (!scope) return;
+    write_scope(to, debug, debug->scopes[scope - 1].outer);
+    fprintf(to, "%s::", debug->scopes[scope - 1].name);
+}
+
+void write_whole_name(FILE *to, const struct entry *entry) {
+    const struct debug *debug = entry->unit->debug;
+    struct entry other = *entry;
+    while (!other.values[NAMED].kind) {
+        struct value next = other.values[ORIGIN].kind ? other.values[ORIGIN] : other.values[SPECIFIED];
+        if (next.kind != REFERENCE || next.number == other.at || !entry_at(debug, next.number, &other)) break;
+    }
+    size_t above = FIRST_ABOVE(debug->members, debug->member_count, entry, other.at);
+    if (above && debug->members[above - 1].entry == other.at) write_scope(to, debug, debug->members[above - 1].scope);
+    const char *name = name_of_entry(entry);
+    fputs(name ? name : "?", to);
+}
+
 uint64_t high_of(const struct entry *entry) {
     const struct value *high = &entry->values[HIGH];
     return high->kind == NUMBER ? entry->values[LOW].number + high->number : high->kind == ADDRESS ? high->number : 0;
@@ -245,11 +264,13 @@ static void read_root(struct unit *unit) {
     unit->has_lines = root.values[LINES].kind;
     unit->lines = root.values[LINES].number;
     unit->name = name_of_entry(&root);
+    unit->folder = root.values[FOLDER].kind == TEXTUAL ? root.values[FOLDER].text : "";
 }
 
 /* The unit at the beginning of `from`; false where it cannot be passed over. One that is not known has no entries. */
 static bool read_unit(const struct debug *debug, struct span *from, struct unit *unit) {
-    *unit = (struct unit){.debug = debug, .at = (uint64_t)(from->at - debug->sections[INFO].at)};
+    *unit = (struct unit){.debug = debug, .at = (uint64_t)(from->at - debug->sections[INFO].at), .folder = ""};
+    if (!(unit->rows = calloc(1, sizeof *unit->rows))) return false;
     uint64_t size = take(from, 4);
     struct span rest = take_span(from, size);
     if (from->bad || size >= 0xfffffff0) return false;
@@ -292,9 +313,43 @@ static void note_variable(struct debug *debug, const struct entry *entry) {
     if (made.address && !made.is_piece && !code.bad) ADD(variables->list, variables->count, made);
 }
 
+/* The entries around one: of each its name, where functions may be members of it, and its number among the scopes. */
+struct around {
+    const char *names[MOST_AROUND];
+    size_t numbers[MOST_AROUND];
+    unsigned depth;
+};
+
+static void go_in(struct around *around, const struct entry *entry) {
+    bool is_scope = entry->tag == NAMESPACE || entry->tag == CLASS || entry->tag == STRUCTURE || entry->tag == FUNCTION;
+    if (around->depth < MOST_AROUND) {
+        around->names[around->depth] = is_scope ? name_of_entry(entry) : NULL;
+        around->numbers[around->depth] = 0;
+    }
+    around->depth++;
+}
+
+/* The number of the innermost of so many scopes, or 0 where there is none. */
+static size_t innermost_scope(struct debug *debug, struct around *around, unsigned depth) {
+    while (depth && !around->names[depth - 1]) depth--;
+    if (!depth || around->numbers[depth - 1]) return depth ? around->numbers[depth - 1] : 0;
+    size_t outer = innermost_scope(debug, around, depth - 1);
+    ADD(debug->scopes, debug->scope_count, (struct scope){around->names[depth - 1], outer});
+    return around->numbers[depth - 1] = debug->scope_count;
+}
+
+static void note_member(struct debug *debug, struct around *around, const struct entry *entry) {
+    size_t scope = innermost_scope(debug, around, around->depth < MOST_AROUND ? around->depth : MOST_AROUND);
+    if (scope) ADD(debug->members, debug->member_count, (struct member){entry->at, scope});
+}
+
 static void note_entries(struct debug *debug, const struct unit *unit) {
     struct entry entry;
+    struct around around = {.depth = 0};
     for (uint64_t at = unit->first; read_entry(unit, at, &entry); at = entry.behind) {
+        if (!entry.tag && around.depth) around.depth--;
+        if (entry.tag == FUNCTION) note_member(debug, &around, &entry);
+        if (entry.tag && entry.has_children) go_in(&around, &entry);
         if (entry.tag == VARIABLE && entry.values[LOCATED].kind == CODE) note_variable(debug, &entry);
         struct thing made = {.address = entry.values[LOW].number, .entry = entry.at, .end = high_of(&entry)};
         if (entry.tag == FUNCTION && made.address) ADD(debug->functions.list, debug->functions.count, made);

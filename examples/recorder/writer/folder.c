@@ -126,7 +126,7 @@ struct folder make_folder(const struct events *events, const struct windows *win
 
 /* ---- Files ---- */
 
-static FILE *open_file(const char *folder, const char *name) {
+FILE *open_file(const char *folder, const char *name) {
     char path[4200];
     snprintf(path, sizeof path, "%s/%s", folder, name);
     FILE *file = fopen(path, "w");
@@ -134,17 +134,19 @@ static FILE *open_file(const char *folder, const char *name) {
     return file;
 }
 
-static void close_file(FILE *file, const char *name) {
+void close_file(FILE *file, const char *name) {
     if (ferror(file) | fclose(file)) fail(STATUS_NOTHING, "%s cannot be written", name);
 }
 
 static bool is_old(const char *name) {
     unsigned number;
     int end = 0;
-    static const char *const names[] = {"schedule", "report", "run", "confirmed", "names"};
+    static const char *const names[] = {"schedule", "report", "run", "confirmed", "names", "places"};
     for (size_t i = 0; i < sizeof names / sizeof *names; i++)
         if (!strcmp(name, names[i])) return true;
-    return sscanf(name, "t%u.trace%n", &number, &end) == 1 && end && !name[end];
+    bool is_trace = sscanf(name, "t%u.trace%n", &number, &end) == 1 && end && !name[end];
+    end = 0;
+    return is_trace || (sscanf(name, "t%u.places%n", &number, &end) == 1 && end && !name[end]);
 }
 
 static void clear_folder(const char *folder) {

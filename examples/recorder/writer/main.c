@@ -118,13 +118,15 @@ struct recording make_recording(const struct words *words, const struct log *log
     return made;
 }
 
-static int write_recording(const struct words *words, const struct log *log, struct ending ending) {
+static int write_recording(const struct words *words, const struct log *log, const struct origins *origins,
+                           struct ending ending) {
     struct recording made = make_recording(words, log);
     if (!replays(&made.events, &made.windows, made.folder.windows)) return STATUS_NOTHING;
     if (words->schedule > made.folder.windows) fail(STATUS_WORDS, "there is no window %lu", words->schedule);
     write_folder(words, &made.folder, &made.events, &made.windows);
     tell_all(words, log, &made.folder, &made.events, made.folded);
     tell_unpaired(&made.events, &made.windows, made.folder.windows);
+    write_places(words->folder, &made, origins);
     tell_ending(log, ending);
     write_names(words->folder);
     if (ending.signal || ending.status) return STATUS_NOT_WELL;
@@ -148,11 +150,13 @@ static int record(int count, char **given) {
     struct ending ending = run_program(&words, path);
     struct log log;
     bool mapped = map_log(path, &log);
+    struct origins origins = {0};
+    if (mapped) origins = find_origins(&log, steps);
     unlink(path);
     unlink(steps);
     if (!mapped && !ending.started) return STATUS_NOTHING;
     if (!mapped) fail(STATUS_NOTHING, "%s has no recorder in it; build it by gprecord cc", words.program[0]);
-    return write_recording(&words, &log, ending);
+    return write_recording(&words, &log, &origins, ending);
 }
 
 int main(int count, char **given) {

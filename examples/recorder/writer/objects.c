@@ -164,11 +164,18 @@ static const struct module *module_of(uint64_t address) {
     return found;
 }
 
+const struct debug *debug_of(uint64_t address, uint64_t *in_file) {
+    const struct module *module = module_of(address);
+    *in_file = module ? address - module->base : 0;
+    return module ? module->debug : NULL;
+}
+
 /* The number of the place, from 1, or 0 where nothing is told of it. */
 static uint64_t find_site(uint64_t caller) {
-    const struct module *module = module_of(caller);
+    uint64_t in_file;
+    const struct debug *debug = debug_of(caller, &in_file);
     struct told told, *other;
-    if (!module || !find_maker(module->debug, caller - module->base, &told)) return 0;
+    if (!debug || !find_maker(debug, in_file, &told)) return 0;
     told.file = without_folder(told.file);
     size_t first = site_count;
     for (size_t i = 0; i < site_count; i++) {

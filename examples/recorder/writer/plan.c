@@ -40,27 +40,6 @@ static bool is_earlier(uint64_t one, uint64_t other) {
     return steps[one].phase < steps[other].phase;
 }
 
-/* The record by which it is known of which access an event comes: bytes may have come to its own record later. */
-static uint64_t origin_of(const struct event *event) {
-    const struct record *found = NULL;
-    size_t low = 0, high = origins->count;
-    while (low < high) {
-        size_t middle = (low + high) / 2;
-        if (origins->widened[middle]->old < event->record) {
-            low = middle + 1;
-        } else {
-            high = middle;
-        }
-    }
-    uint8_t first = log->records[event->record].mask;
-    for (size_t i = low; i < origins->count && origins->widened[i]->old == event->record && event->mask; i++) {
-        const struct record *widened = origins->widened[i];
-        first &= (uint8_t)~widened->mask;
-        if (!found && widened->mask & event->mask) found = widened;
-    }
-    return found && !(first & event->mask) ? (uint64_t)(found - log->records) : event->record;
-}
-
 /* ---- The window ---- */
 
 static void find_own(uint64_t number) {
@@ -69,7 +48,7 @@ static void find_own(uint64_t number) {
     for (uint64_t at = window->begin; at < window->end; at++) {
         const struct event *event = &recording->events.list[at];
         if (!is_event(event)) continue;
-        if (!event->record) fail(STATUS_NOTHING, "window %lu stands for what is not recorded: nothing of it is confirmed", number);
+        if (event->is_made_up) fail(STATUS_NOTHING, "window %lu stands for what is not recorded: nothing of it is confirmed", number);
         ADD(own[event->thread], own_count[event->thread], event);
     }
 }
@@ -108,7 +87,7 @@ static void find_units(void) {
         order[i] = event_of(schedule->picks[i]);
         used[thread]++;
         for (size_t k = 0; k < schedule->atoms; k++) in_instance[i] |= is_pick(schedule->picks[i], schedule->instance[k]);
-        uint64_t origin = origin_of(order[i]);
+        uint64_t origin = origin_of(origins, order[i]);
         if (!last[thread] || !is_same_unit(origin, units[last[thread] - 1].record)) {
             bool early = begins_before(origin);
             ADD(units, unit_count, (struct unit){.thread = thread, .record = origin, .early = early});
@@ -296,14 +275,14 @@ static void add_stops(struct plan *plan, const struct window *window) {
     }
     for (size_t i = 0; i < schedule->atoms && plan->is_cycle; i++) {
         const struct event *event = event_of(schedule->instance[i]);
-        add_move(plan, ATTEMPT, origin_of(event), schedule->instance[i], event);
+        add_move(plan, ATTEMPT, origin_of(origins, event), schedule->instance[i], event);
         stopped[event->thread] = true;
     }
     for (uint64_t at = window->begin; at < recording->events.count; at++) {
         const struct event *event = &recording->events.list[at];
         unsigned thread = event->thread;
-        if (!is_event(event) || stopped[thread] || !event->record || met[thread]++ < used[thread]) continue;
-        uint64_t origin = origin_of(event);
+        if (!is_event(event) || stopped[thread] || event->is_made_up || met[thread]++ < used[thread]) continue;
+        uint64_t origin = origin_of(origins, event);
         if ((last[thread] && !is_earlier(last[thread], origin)) || begins_before(origin)) continue;
         add_move(plan, STOP, origin, (struct pick){thread, (uint32_t)met[thread] - 1}, event);
         stopped[thread] = true;

@@ -110,6 +110,16 @@ struct told {
 };
 
 struct debug *open_debug(const char *path);
+/* A place in the source: the words by which a file, a function and a line are told; and whether the file is the user's. */
+struct spot {
+    char *file, *function;
+    uint64_t line;
+    bool is_own;
+};
+
+/* Of the functions that were built into each other at an address of the file, the innermost of the user's own files, or
+ * else the innermost; false where nothing is known of it. */
+bool find_spot(const struct debug *debug, uint64_t address, struct spot *spot);
 /* What begins at an address of the file; false where nothing is known of it. */
 bool find_variable(const struct debug *debug, uint64_t address, struct told *told);
 /* The place of a call behind which the program goes on at an address of the file. */
@@ -130,6 +140,8 @@ struct place {
 
 /* The files of the program, with their symbols and their debug information. */
 void read_modules(const struct log *log);
+/* That of the file in which an address of the run lies, and the address in that file; NULL where there is none. */
+const struct debug *debug_of(uint64_t address, uint64_t *in_file);
 void forget_objects(void);
 void note_object(const struct record *record);
 struct place place_of(uint64_t address);
@@ -197,10 +209,10 @@ enum event_kind { AN_EXIT, A_READ, A_WRITE, AN_ACQUIRE, A_RELEASE, AN_RACQUIRE, 
  * again, in a new window. */
 struct event {
     uint8_t kind, thread, objects;
-    bool ends_unit;
+    bool ends_unit, is_made_up; /* the latter of one that stands for what is not recorded */
     uint8_t mask;  /* of an access: which bytes of its granule */
     uint32_t name; /* or the thread of a start or a join */
-    uint64_t record; /* the number in the log of the record that it came of, or 0 */
+    uint64_t record; /* the number in the log of the record that it came of or stands for, or 0 */
     int64_t value; /* or, of an operation, where its objects are */
 };
 
@@ -239,6 +251,28 @@ struct windows {
 
 struct windows cut_windows(const struct events *events, uint32_t per);
 
+/* ---- Where records come from ---- */
+
+/* The calls and accesses of which records come, as they are known beside a log. */
+struct origins {
+    const struct log *log;
+    const struct step *steps;
+    const struct record **widened, **sites; /* the WIDENED records, by the records that they widen; the SITE records */
+    size_t count, site_count;
+};
+
+/* Addresses behind calls in the program, from the innermost one on. */
+struct calls {
+    const uint64_t *list;
+    size_t count;
+};
+
+struct origins find_origins(const struct log *log, const char *steps);
+/* The record by which it is known of which access an event comes: bytes may have come to its own record later. */
+uint64_t origin_of(const struct origins *origins, const struct event *event);
+/* Those of a site, by its number from 1. */
+struct calls calls_of(const struct origins *origins, uint32_t site);
+
 /* ---- The folder ---- */
 
 struct folder {
@@ -258,6 +292,8 @@ void write_folder(const struct words *words, const struct folder *folder, const 
                   const struct windows *windows);
 /* Once more behind all that is told, as there may be other names in that. */
 void write_names(const char *folder);
+FILE *open_file(const char *folder, const char *name);
+void close_file(FILE *file, const char *name);
 
 /* ---- A recording, as it is made of a log ---- */
 
@@ -271,6 +307,8 @@ struct recording {
 };
 
 struct recording make_recording(const struct words *words, const struct log *log);
+/* Where in the program each event is, as far as that is known. */
+void write_places(const char *folder, const struct recording *recording, const struct origins *origins);
 void tell_ending(const struct log *log, struct ending ending);
 /* Makes a file of its own for the time of the run; its path. */
 void make_file(char *path, size_t room);
@@ -309,13 +347,6 @@ struct plan {
     bool is_cycle;
     uint32_t moved; /* how many notifies come behind a sleep that the schedule has behind them */
     const char *split; /* where the program does at once what the schedule has apart: which events */
-};
-
-/* The calls and accesses of which records come, as they are known beside a log. */
-struct origins {
-    const struct step *steps;
-    const struct record **widened; /* the WIDENED records, by the records that they widen */
-    size_t count;
 };
 
 struct plan make_plan(const struct log *log, const struct origins *origins, const struct recording *recording,

@@ -11,13 +11,35 @@ struct frame {
     uint64_t function, file, line;
 };
 
-/* The functions that were built into each other at an address, from the outermost one on. */
-static size_t find_frames(const struct debug *debug, uint64_t address, struct frame *frames) {
+struct frames {
+    const struct unit *unit;
+    struct frame list[MOST_FRAMES]; /* from the outermost one on */
+    size_t count;
+};
+
+/* Of a function that has no entry, as where there are lines alone. */
+static bool find_line_alone(const struct debug *debug, uint64_t address, struct frames *frames) {
+    struct line line;
+    for (size_t i = 0; i < debug->unit_count; i++) {
+        if (!find_line(&debug->units[i], address, &line)) continue;
+        frames->unit = &debug->units[i];
+        frames->list[frames->count++] = (struct frame){0, line.file, line.number};
+        return true;
+    }
+    return false;
+}
+
+/* The functions that were built into each other at an address; false where nothing is known of it. */
+static bool find_frames(const struct debug *debug, uint64_t address, struct frames *found) {
     const struct thing *function = thing_at(&debug->functions, address);
+    struct frame *frames = found->list;
     struct entry entry;
     struct line line;
-    if (!function || address >= function->end || !entry_at(debug, function->entry, &entry)) return 0;
-    if (!find_line(entry.unit, address, &line)) return 0;
+    found->count = 0;
+    if (!function || address >= function->end || !entry_at(debug, function->entry, &entry))
+        return find_line_alone(debug, address, found);
+    if (!find_line(entry.unit, address, &line)) return false;
+    found->unit = entry.unit;
     size_t count = 0;
     frames[count++] = (struct frame){.function = entry.at};
     for (unsigned depth = 0; count < MOST_FRAMES && next_entry(&entry, &depth);) {
@@ -28,7 +50,8 @@ static size_t find_frames(const struct debug *debug, uint64_t address, struct fr
     }
     frames[count - 1].file = line.file;
     frames[count - 1].line = line.number;
-    return count;
+    found->count = count;
+    return true;
 }
 
 /* ---- Names of files ---- */
@@ -112,6 +135,7 @@ static char *function_word(const struct debug *debug, uint64_t function) {
     struct entry entry;
     FILE *to = some(open_memstream(&name, &size));
     if (entry_at(debug, function, &entry)) write_whole_name(to, &entry);
+    else fputc('?', to);
     if (fclose(to)) some(NULL);
     char *made = escaped(name, LONGEST_FUNCTION);
     free(name);
@@ -119,15 +143,13 @@ static char *function_word(const struct debug *debug, uint64_t function) {
 }
 
 /* False where the file of a frame is not known. */
-static bool tell_frame(const struct debug *debug, const struct frame *frame, struct spot *spot) {
-    struct entry entry;
-    const char *folder, *name = NULL;
-    if (entry_at(debug, frame->function, &entry)) name = name_of_file(entry.unit, frame->file, &folder);
+static bool tell_frame(const struct unit *unit, const struct frame *frame, struct spot *spot) {
+    const char *folder, *name = name_of_file(unit, frame->file, &folder);
     if (!name || !*name) return false;
-    char *lies_in = joined(entry.unit->folder, folder), *whole = joined(lies_in, name);
-    char *path = simple(whole), *from = simple(entry.unit->folder);
+    char *lies_in = joined(unit->folder, folder), *whole = joined(lies_in, name);
+    char *path = simple(whole), *from = simple(unit->folder);
     uint64_t line = frame->line <= UINT32_MAX ? frame->line : 0;
-    *spot = (struct spot){file_word(seen_from(from, path)), function_word(debug, frame->function), line, !is_of_system(path)};
+    *spot = (struct spot){file_word(seen_from(from, path)), function_word(unit->debug, frame->function), line, !is_of_system(path)};
     free(lies_in);
     free(whole);
     free(path);
@@ -136,11 +158,12 @@ static bool tell_frame(const struct debug *debug, const struct frame *frame, str
 }
 
 bool find_spot(const struct debug *debug, uint64_t address, struct spot *spot) {
-    struct frame frames[MOST_FRAMES];
+    struct frames frames;
     bool is_found = false;
     struct spot told;
-    for (size_t i = find_frames(debug, address, frames); i > 0; i--) {
-        if (!tell_frame(debug, &frames[i - 1], &told)) continue;
+    if (!find_frames(debug, address, &frames)) return false;
+    for (size_t i = frames.count; i > 0; i--) {
+        if (!tell_frame(frames.unit, &frames.list[i - 1], &told)) continue;
         if (!is_found || told.is_own) *spot = told;
         is_found = true;
         if (told.is_own) break;

@@ -63,12 +63,12 @@ static bool reserve(void) {
 }
 
 bool open_log(const char *path) {
-    const char *limit = getenv("GPRECORD_LOG_MIB"), *beside = getenv("GPRECORD_STEPS");
+    const char *limit = getenv("GPRECORD_LOG_MIB"), *beside = getenv("GPRECORD_STEPS"), *counts = getenv("GPRECORD_COUNTS");
     if (limit) most = strtoull(limit, NULL, 10) * (1048576 / RECORD_BYTES);
     journal = open_high(path);
     if (beside) journal_of_steps = open_high(beside);
     if (journal < 0 || journal_of_steps < 0 || !reserve() || !add_piece() || !open_sites()) return false;
-    counting = getenv("GPRECORD_COUNTS");
+    counting = counts && *counts == '1';
     head = (struct log_head *)records;
     memcpy(head->magic, LOG_MAGIC, sizeof head->magic);
     head->used = HEAD_RECORDS;

@@ -41,7 +41,7 @@ _Noreturn static void become(const struct words *words, const char *log) {
     set_number("GPRECORD_SWITCH", words->switch_every);
     set_number("GPRECORD_LOG_MIB", words->log_mib);
     setenv("GPRECORD_STEPS", words->steps, 1);
-    if (words->counts) setenv("GPRECORD_COUNTS", "1", 1);
+    setenv("GPRECORD_COUNTS", words->counts ? "1" : "0", 1); /* of one length, so that the stack lies where it lay */
     if (words->script) setenv("GPRECORD_SCRIPT", words->script, 1);
     if (words->quiet) hide_output();
     execvp(words->program[0], words->program);

@@ -2,6 +2,7 @@ ghost use Rattle.std.specs.Prelude.{◌≡◌, ◌++◌, IfOk, OnOk};
 ghost use Rattle.gp_text.specs.Spelling.{spelling};
 ghost use Rattle.gp_cycle.specs.Cycle.{cycle_of};
 ghost use Rattle.gp_cycle.specs.Forced.{forced};
+ghost use Rattle.gp_place.specs.Places.{behind, named};
 ghost use Rattle.gp_reason.specs.Reasons.{reason_of};
 ghost use Rattle.gp_tell.specs.ReasonText.{reason_lines};
 ghost use Rattle.gp_tell.specs.StoryText.{story_lines};
@@ -12,6 +13,7 @@ use gp_clause::Lit;
 use gp_constraint::Encoded;
 use gp_cycle::Order;
 use gp_instance::Instance;
+use gp_place::Places;
 use gp_property::Property;
 use gp_reason::Reason;
 use gp_story::Story;
@@ -51,15 +53,25 @@ pub fn reason(
 }
 
 /// As `gp_tell::put_reason`.
-pub fn put_reason(text: &mut Vec<u8>, reason: &Reason) -> Result<(), AllocError>
-    ensures { OnOk result (text.new.items ≡ text.old.items ++ spelling (reason_lines reason.now)) }
+pub fn put_reason(
+    text: &mut Vec<u8>,
+    places: &Places,
+    window: u32,
+    reason: &Reason,
+) -> Result<(), AllocError>
+    ensures { OnOk result (text.new.items ≡ text.old.items ++ spelling (reason_lines (named places.now window) reason.now)) }
 {
-    gp_tell::put_reason(text, reason)
+    gp_tell::put_reason(text, places, window, reason)
 }
 
 /// As `gp_tell::put_story`.
-pub fn put_story(text: &mut Vec<u8>, window: &Window, story: &Story) -> Result<(), AllocError>
-    ensures { OnOk result (text.new.items ≡ text.old.items ++ spelling (story_lines window.now story.now)) }
+pub fn put_story(
+    text: &mut Vec<u8>,
+    window: &Window,
+    places: &Places,
+    story: &Story,
+) -> Result<(), AllocError>
+    ensures { OnOk result (text.new.items ≡ text.old.items ++ spelling (story_lines (behind places.now window.now.number) window.now story.now)) }
 {
-    gp_tell::put_story(text, window, story)
+    gp_tell::put_story(text, window, places, story)
 }

@@ -4,16 +4,20 @@ use Rattle.gp_text.specs.Spelling.{after_words, joined, spelling}
 use Rattle.gp_text.specs.SpellingLaws.{after_append, joined_after, spelling_append}
 
 -- the first word of a line, and then the words that follow it
-pub first_put : (old first : List ℕ) (words : List (List ℕ)) → (old ++ first) ++ after_words words ≡ old ++ joined (first ∷ words)
+first_put : (old first : List ℕ) (words : List (List ℕ)) → (old ++ first) ++ after_words words ≡ old ++ joined (first ∷ words)
 first_put old first words = append_assoc old first (after_words words) ∙ ap (λ line. old ++ line) (sym (joined_after first words))
 
 -- words, and then more words
 two_put : (old : List ℕ) (xs ys : List (List ℕ)) → (old ++ after_words xs) ++ after_words ys ≡ old ++ after_words (xs ++ ys)
 two_put old xs ys = append_assoc old (after_words xs) (after_words ys) ∙ ap (λ rest. old ++ rest) (sym (after_append xs ys))
 
+-- the first word of a line, and then the words that follow it, two times some of them
+pub first_two_put : (old first : List ℕ) (xs ys : List (List ℕ)) → ((old ++ first) ++ after_words xs) ++ after_words ys ≡ old ++ joined (first ∷ (xs ++ ys))
+first_two_put old first xs ys = two_put (old ++ first) xs ys ∙ first_put old first (xs ++ ys)
+
 -- the first word of a line, and then the words that follow it, three times some of them
 pub three_put : (old first : List ℕ) (xs ys zs : List (List ℕ)) → (((old ++ first) ++ after_words xs) ++ after_words ys) ++ after_words zs ≡ old ++ joined (first ∷ (xs ++ (ys ++ zs)))
-three_put old first xs ys zs = two_put ((old ++ first) ++ after_words xs) ys zs ∙ two_put (old ++ first) xs (ys ++ zs) ∙ first_put old first (xs ++ (ys ++ zs))
+three_put old first xs ys zs = two_put ((old ++ first) ++ after_words xs) ys zs ∙ first_two_put old first xs (ys ++ zs)
 
 -- a line, and then more lines
 pub line_put : (old : List ℕ) (words : List (List ℕ)) (lines : List (List (List ℕ))) → ((old ++ joined words) ++ 10 ∷ []) ++ spelling lines ≡ old ++ spelling (words ∷ lines)
@@ -25,3 +29,8 @@ lines_put old xs ys =
     append_assoc (old ++ 10 ∷ []) (spelling xs) (spelling ys)
     ∙ append_assoc old (10 ∷ []) (spelling xs ++ spelling ys)
     ∙ ap (λ rest. old ++ 10 ∷ rest) (sym (spelling_append xs ys))
+
+-- the pieces of a section, one after another
+pub section_put : (old start title events sightings answer close : List ℕ)
+    → (((((old ++ start) ++ title) ++ events) ++ sightings) ++ answer) ++ close ≡ old ++ (((((start ++ title) ++ events) ++ sightings) ++ answer) ++ close)
+section_put old start title events sightings answer close = simp append_assoc

@@ -1,7 +1,7 @@
-// One instance of a report for people: what it is, its events as their traces have them, and what shows its answer. A found one has the
-// story of its schedule, or on a page the drawing of that; an impossible one has the steps of its certificate as facts of its
-// events. All is put at the end of a text, so that the text so far stays. Where memory is wanting, no contract says what the
-// text is.
+// One instance of a report for people: what it is, its events as their traces have them, what was seen of it, and what shows
+// its answer. A found one has the story of its schedule, or on a page the drawing of that; an impossible one has the steps of
+// its certificate as facts of its events. Each event has its place in the program where one is told. All is put at the end of
+// a text, so that the text so far stays. Where memory is wanting, no contract says what the text is.
 #![tactic(auto)]
 
 mod answered;

@@ -1,14 +1,15 @@
 ghost use Rattle.std.specs.Prelude.{◌≡◌, ◌++◌, OnOk, codes, decimal, flat_map};
 ghost use Rattle.gp_drawing.specs.Drawing.{drawing_of};
 ghost use Rattle.gp_view.specs.Answered.{form_of};
-ghost use Rattle.gp_view.specs.Page.{answer_part, answered_part, drawing_part, event_item, events_part, fold_head, reason_part, reason_text, spent_part, title_part};
+ghost use Rattle.gp_view.specs.Page.{answer_part, answered_part, drawing_part, event_item, events_part, fold_head, reason_part, reason_text, sighting_part, sightings_part, spent_part, title_part};
 ghost use Rattle.gp_view.specs.Text.{reason_in, story_in};
 
 use crate::answered::Answered;
-use crate::shown::{reason_in, story_in};
-use crate::words::{put_event_line, put_spent, put_title};
+use crate::shown::{is_of, reason_in, story_in};
+use crate::words::{put_event_line, put_sighting_line, put_spent, put_title};
 use gp_certificate::Certificate;
 use gp_drawing::{Drawing, draw, put_between, put_svg};
+use gp_place::{Beside, Places, Sighting};
 use gp_reason::Reason;
 use gp_report::Answer;
 use gp_tell::put_reason;
@@ -20,14 +21,18 @@ use std::alloc::AllocError;
 const MOST_OPEN: usize = 60;
 
 /// Puts an instance as a `section` of a page that has the tip of its arrows.
-#[tactic(auto, unfolding(crate::specs::Page::answered_part))]
-pub fn put_answered_part(text: &mut Vec<u8>, answered: &Answered<'_>) -> Result<(), AllocError>
-    ensures { OnOk result (text.new.items ≡ text.old.items ++ answered_part (form_of answered.now)) }
+pub fn put_answered_part(
+    text: &mut Vec<u8>,
+    beside: &Beside,
+    answered: &Answered<'_>,
+) -> Result<(), AllocError>
+    ensures { OnOk result (text.new.items ≡ text.old.items ++ answered_part beside.now (form_of answered.now)) }
 {
     text.extend_from_slice(b"<section>\n")?;
     put_title_part(text, answered)?;
-    put_events_part(text, answered)?;
-    put_answer_part(text, answered)?;
+    put_events_part(text, &beside.places, answered)?;
+    put_sighting_parts(text, beside.sightings.as_slice(), answered)?;
+    put_answer_part(text, &beside.places, answered)?;
     text.extend_from_slice(b"</section>\n")
 }
 
@@ -41,109 +46,165 @@ fn put_title_part(text: &mut Vec<u8>, answered: &Answered<'_>) -> Result<(), All
 }
 
 #[tactic(auto, unfolding(crate::specs::Page::events_part))]
-fn put_events_part(text: &mut Vec<u8>, answered: &Answered<'_>) -> Result<(), AllocError>
-    ensures { OnOk result (text.new.items ≡ text.old.items ++ events_part (form_of answered.now)) }
+fn put_events_part(
+    text: &mut Vec<u8>,
+    places: &Places,
+    answered: &Answered<'_>,
+) -> Result<(), AllocError>
+    ensures { OnOk result (text.new.items ≡ text.old.items ++ events_part places.now (form_of answered.now)) }
 {
     let events = answered.entry.events.as_slice();
     text.extend_from_slice(b"<ul>\n")?;
-    put_event_items(text, answered.encoded.window(), events)?;
+    put_event_items(text, answered.encoded.window(), places, events)?;
     text.extend_from_slice(b"</ul>\n")
 }
 
 fn put_event_items(
     text: &mut Vec<u8>,
     window: &Window,
+    places: &Places,
     events: &[EventId],
 ) -> Result<(), AllocError>
-    ensures { OnOk result (text.new.items ≡ text.old.items ++ flat_map (event_item window.now) events.now) }
+    ensures { OnOk result (text.new.items ≡ text.old.items ++ flat_map (event_item places.now window.now) events.now) }
 {
     for id in events {
-        put_event_item(text, window, *id)?;
+        put_event_item(text, window, places, *id)?;
     }
     Ok(())
 }
 
 #[tactic(auto, unfolding(crate::specs::Page::event_item))]
-fn put_event_item(text: &mut Vec<u8>, window: &Window, id: EventId) -> Result<(), AllocError>
-    ensures { OnOk result (text.new.items ≡ text.old.items ++ event_item window.now id) }
+fn put_event_item(
+    text: &mut Vec<u8>,
+    window: &Window,
+    places: &Places,
+    id: EventId,
+) -> Result<(), AllocError>
+    ensures { OnOk result (text.new.items ≡ text.old.items ++ event_item places.now window.now id) }
 {
     let mut words = Vec::new(*text.allocator());
-    put_event_line(&mut words, window, id)?;
+    put_event_line(&mut words, window, places, id)?;
     put_between(text, b"<li>", words.as_slice(), b"</li>\n")
 }
 
+fn put_sighting_parts(
+    text: &mut Vec<u8>,
+    sightings: &[Sighting],
+    answered: &Answered<'_>,
+) -> Result<(), AllocError>
+    ensures { OnOk result (text.new.items ≡ text.old.items ++ sightings_part sightings.now (form_of answered.now)) }
+{
+    for sighting in sightings {
+        if is_of(answered, sighting) {
+            put_sighting_part(text, sighting)?;
+        }
+    }
+    Ok(())
+}
+
+#[tactic(auto, unfolding(crate::specs::Page::sighting_part))]
+fn put_sighting_part(text: &mut Vec<u8>, sighting: &Sighting) -> Result<(), AllocError>
+    ensures { OnOk result (text.new.items ≡ text.old.items ++ sighting_part sighting.now) }
+{
+    let mut words = Vec::new(*text.allocator());
+    put_sighting_line(&mut words, sighting)?;
+    put_between(text, b"<p>", words.as_slice(), b"</p>\n")
+}
+
 /// Puts what shows the answer.
-fn put_answer_part(text: &mut Vec<u8>, answered: &Answered<'_>) -> Result<(), AllocError>
-    ensures { OnOk result (text.new.items ≡ text.old.items ++ answer_part (form_of answered.now) answered.now.entry.now.answer) }
+fn put_answer_part(
+    text: &mut Vec<u8>,
+    places: &Places,
+    answered: &Answered<'_>,
+) -> Result<(), AllocError>
+    ensures { OnOk result (text.new.items ≡ text.old.items ++ answer_part places.now (form_of answered.now) answered.now.entry.now.answer) }
 {
     match &answered.entry.answer {
-        Answer::Found(schedule) => put_found_part(text, answered, schedule.events.as_slice()),
-        Answer::Impossible(certificate) => put_impossible_part(text, answered, certificate),
+        Answer::Found(schedule) => put_found_part(
+            text,
+            places,
+            answered,
+            schedule.events.as_slice(),
+        ),
+        Answer::Impossible(certificate) => put_impossible_part(text, places, answered, certificate),
         Answer::Undecided { from, to, .. } => put_spent_part(text, *from, *to),
     }
 }
 
 fn put_found_part(
     text: &mut Vec<u8>,
+    places: &Places,
     answered: &Answered<'_>,
     schedule: &[EventId],
 ) -> Result<(), AllocError>
-    ensures { OnOk result (text.new.items ≡ text.old.items ++ drawing_part (form_of answered.now).window (drawing_of (form_of answered.now).window (story_in (form_of answered.now) schedule.now))) }
+    ensures { OnOk result (text.new.items ≡ text.old.items ++ drawing_part places.now (form_of answered.now).window (drawing_of (form_of answered.now).window (story_in (form_of answered.now) schedule.now))) }
 {
     let alloc = *text.allocator();
     let window = answered.encoded.window();
     let story = story_in(alloc, answered, schedule)?;
     let drawing = draw(alloc, window, &story)?;
-    put_drawing_part(text, window, &drawing)
+    put_drawing_part(text, window, places, &drawing)
 }
 
 /// Puts a drawing, which is folded where it has many rows.
 fn put_drawing_part(
     text: &mut Vec<u8>,
     window: &Window,
+    places: &Places,
     drawing: &Drawing,
 ) -> Result<(), AllocError>
-    ensures { OnOk result (text.new.items ≡ text.old.items ++ drawing_part window.now drawing.now) }
+    ensures { OnOk result (text.new.items ≡ text.old.items ++ drawing_part places.now window.now drawing.now) }
 {
     let rows = drawing.rows.len();
     if rows <= MOST_OPEN {
-        return put_svg(text, window, drawing);
+        return put_svg(text, window, places, drawing);
     }
     put_fold_head(text, rows as u64, b"rows")?;
-    put_svg(text, window, drawing)?;
+    put_svg(text, window, places, drawing)?;
     text.extend_from_slice(b"</details>\n")
 }
 
 fn put_impossible_part(
     text: &mut Vec<u8>,
+    places: &Places,
     answered: &Answered<'_>,
     certificate: &Certificate,
 ) -> Result<(), AllocError>
-    ensures { OnOk result (text.new.items ≡ text.old.items ++ reason_part (reason_in (form_of answered.now) certificate.now)) }
+    ensures { OnOk result (text.new.items ≡ text.old.items ++ reason_part places.now (form_of answered.now).window.number (reason_in (form_of answered.now) certificate.now)) }
 {
     let reason = reason_in(*text.allocator(), answered, certificate)?;
-    put_reason_part(text, &reason)
+    put_reason_part(text, places, answered.encoded.window().number(), &reason)
 }
 
 /// Puts a reason, which is folded where it has many steps.
-fn put_reason_part(text: &mut Vec<u8>, reason: &Reason) -> Result<(), AllocError>
-    ensures { OnOk result (text.new.items ≡ text.old.items ++ reason_part reason.now) }
+fn put_reason_part(
+    text: &mut Vec<u8>,
+    places: &Places,
+    window: u32,
+    reason: &Reason,
+) -> Result<(), AllocError>
+    ensures { OnOk result (text.new.items ≡ text.old.items ++ reason_part places.now window reason.now) }
 {
     let steps = reason.steps.len();
     if steps <= MOST_OPEN {
-        return put_reason_text(text, reason);
+        return put_reason_text(text, places, window, reason);
     }
     put_fold_head(text, steps as u64, b"steps")?;
-    put_reason_text(text, reason)?;
+    put_reason_text(text, places, window, reason)?;
     text.extend_from_slice(b"</details>\n")
 }
 
 #[tactic(auto, unfolding(crate::specs::Page::reason_text))]
-fn put_reason_text(text: &mut Vec<u8>, reason: &Reason) -> Result<(), AllocError>
-    ensures { OnOk result (text.new.items ≡ text.old.items ++ reason_text reason.now) }
+fn put_reason_text(
+    text: &mut Vec<u8>,
+    places: &Places,
+    window: u32,
+    reason: &Reason,
+) -> Result<(), AllocError>
+    ensures { OnOk result (text.new.items ≡ text.old.items ++ reason_text places.now window reason.now) }
 {
     let mut lines = Vec::new(*text.allocator());
-    put_reason(&mut lines, reason)?;
+    put_reason(&mut lines, places, window, reason)?;
     put_between(text, b"<pre>", lines.as_slice(), b"</pre>\n")
 }
 

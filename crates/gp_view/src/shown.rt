@@ -1,16 +1,26 @@
 ghost use Rattle.std.specs.Prelude.{◌≡◌, IfOk};
 ghost use Rattle.gp_view.specs.Answered.{form_of};
-ghost use Rattle.gp_view.specs.Text.{reason_in, story_in};
+ghost use Rattle.gp_view.specs.Text.{is_of, reason_in, story_in};
 
 use crate::answered::Answered;
 use gp_base::Row;
 use gp_certificate::Certificate;
 use gp_instance::Instance;
+use gp_place::Sighting;
 use gp_reason::{Reason, reason};
 use gp_report::Entry;
 use gp_story::{Story, tell};
 use gp_window::EventId;
 use std::alloc::{AllocError, Global};
+
+/// Whether an instance is the one that was seen.
+pub(crate) fn is_of(answered: &Answered<'_>, sighting: &Sighting) -> bool
+    ensures { result ≡ is_of (form_of answered.now) sighting.now }
+{
+    sighting.window == answered.encoded.window().number()
+        && sighting.instance == answered.number
+        && sighting.property.as_slice() == answered.property.name().as_bytes()
+}
 
 /// The story of a schedule, in which the events of the instance are marked.
 pub(crate) fn story_in(

@@ -1,9 +1,10 @@
 ghost use Rattle.std.specs.Prelude.{◌≡◌, [], ◌∷◌, ◌++◌, OnOk, codes, decimal, option_copied};
 ghost use Rattle.gp_text.specs.Spelling.{after_words, joined};
 ghost use Rattle.gp_view.specs.Answered.{form_of};
-ghost use Rattle.gp_view.specs.Text.{answer_word, event_line, own_words, spent_line, title_words};
+ghost use Rattle.gp_view.specs.Text.{answer_word, event_line, own_words, sighting_line, spent_line, title_words};
 
 use crate::answered::Answered;
+use gp_place::{Places, Sighting, put_behind};
 use gp_property::Property;
 use gp_report::Answer;
 use gp_tell::put_event;
@@ -49,17 +50,19 @@ fn answer_word(answer: &Answer) -> &'static [u8]
     }
 }
 
-/// Puts an event with its id, as a line that is not ended.
-#[tactic(auto, using(crate::proofs::Put::first_put))]
+/// Puts an event with its id and its place, as a line that is not ended.
+#[tactic(auto, using(crate::proofs::Put::first_two_put))]
 pub(crate) fn put_event_line(
     text: &mut Vec<u8>,
     window: &Window,
+    places: &Places,
     id: EventId,
 ) -> Result<(), AllocError>
-    ensures { OnOk result (text.new.items ≡ text.old.items ++ joined (event_line window.now id)) }
+    ensures { OnOk result (text.new.items ≡ text.old.items ++ joined (event_line places.now window.now id)) }
 {
     put_event_id(text, id)?;
-    put_own_words(text, window.event(id))
+    put_own_words(text, window.event(id))?;
+    put_behind(text, places, window.number(), id)
 }
 
 fn put_own_words(text: &mut Vec<u8>, event: Option<&Event>) -> Result<(), AllocError>
@@ -69,6 +72,14 @@ fn put_own_words(text: &mut Vec<u8>, event: Option<&Event>) -> Result<(), AllocE
         Some(event) => put_event(text, event),
         None => Ok(()),
     }
+}
+
+/// Puts what was seen, as a line that is not ended.
+pub(crate) fn put_sighting_line(text: &mut Vec<u8>, sighting: &Sighting) -> Result<(), AllocError>
+    ensures { OnOk result (text.new.items ≡ text.old.items ++ joined (sighting_line sighting.now)) }
+{
+    text.extend_from_slice(b"seen: ")?;
+    text.extend_from_slice(sighting.text.as_slice())
 }
 
 /// Puts that the budget was spent, as a line that is not ended.

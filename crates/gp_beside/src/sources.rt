@@ -240,9 +240,15 @@ fn put_line(text: &mut Vec<u8>, line: Option<&[u8]>) -> Result<(), AllocError>
 fn shown_part(line: &[u8]) -> &[u8]
     ensures { result.now ≡ take 200 (trimmed line.now) }
 {
-    let line = trimmed(line);
-    if line.len() > LONGEST_SHOWN {
-        &line[..LONGEST_SHOWN]
+    front(trimmed(line), LONGEST_SHOWN)
+}
+
+/// At most so many bytes of a line.
+fn front(line: &[u8], most: usize) -> &[u8]
+    ensures { result.now ≡ take most line.now }
+{
+    if line.len() > most {
+        &line[..most]
     } else {
         line
     }

@@ -1,10 +1,9 @@
 -- What stands beside a report, by the files that are told: where in the program its events are, and which instances were seen to happen. A
 -- file that is not there tells nothing. Where one breaks a rule, all places are left out, or all sightings, and that is told.
-use Rattle.std.specs.Prelude.{ℕ, ◌+◌, List, [], ◌∷◌, ◌++◌, Option, Some, None, Result, Ok, Err, length}
+use Rattle.std.specs.Prelude.{ℕ, List, [], ◌∷◌, ◌++◌, Option, Some, None, Result, Ok, Err, length}
 use Rattle.gp_base.specs.Results.{and_then, or_refused, then_rest}
-use Rattle.gp_outside.specs.Folders.{File, file_named}
+use Rattle.gp_outside.specs.Folders.{File}
 use Rattle.gp_place.specs.Places.{nowhere}
-use Rattle.gp_place.specs.declared.beside.Beside.{Beside}
 use Rattle.gp_place.specs.declared.beside.Sighting.{Sighting}
 use Rattle.gp_place.specs.declared.places.Places.{Places}
 use Rattle.gp_text.specs.declared.line.Line.{Line}
@@ -15,7 +14,7 @@ use Rattle.gp_beside.specs.declared.fault.NoteFault.{NoteFault}
 use Rattle.gp_beside.specs.declared.fault.NoteFile.{NoteFile}
 use Rattle.gp_beside.specs.declared.fault.NoteFile.TheVariants as file
 use Rattle.gp_beside.specs.declared.place_list.PlaceList.{PlaceList}
-use Rattle.gp_beside.specs.Files.{path_of, told_at}
+use Rattle.gp_beside.specs.Files.{told_at}
 use Rattle.gp_beside.specs.Numbers.{numbers_told}
 use Rattle.gp_beside.specs.PlaceList.{list_of, list_told}
 use Rattle.gp_beside.specs.Sightings.{sightings_told}
@@ -56,6 +55,7 @@ some_list bytes lines = and_then (list_told bytes lines) (λ told. Ok (Some told
 abbrev pub some_list_of : ℕ → List Line → Result (Option PlaceList) Cause
 some_list_of last lines = and_then (list_of last lines) (λ told. Ok (Some told))
 
+-- the same of the file in a directory
 abbrev pub list_at : List File → List ℕ → Result (Option PlaceList) NoteFault
 list_at files directory = or_refused (fault_of file.Places) (told_at files directory file.Places None some_list)
 

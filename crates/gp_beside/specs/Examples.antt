@@ -1,5 +1,5 @@
 -- Small files, and what they tell.
-use Rattle.std.specs.Prelude.{◌≡◌, ℕ, Bool, true, false, List, [], ◌∷◌, ◌++◌, Option, Some, None, Result, Ok, Err, codes, replicate}
+use Rattle.std.specs.Prelude.{◌≡◌, ℕ, true, false, List, [], ◌∷◌, ◌++◌, Option, Some, None, Result, Ok, Err, codes, replicate}
 use Rattle.gp_outside.specs.Folders.{File}
 use Rattle.gp_place.specs.Beside.{nothing_beside}
 use Rattle.gp_place.specs.declared.beside.Sighting.{Sighting}

@@ -1,5 +1,5 @@
 -- The file `confirmed`: a line for each instance that was seen to happen.
-use Rattle.std.specs.Prelude.{ℕ, ◌&&◌, Bool, List, [], ◌∷◌, ◌++◌, Option, Some, None, Result, Ok, Err, if◌then◌else◌, codes}
+use Rattle.std.specs.Prelude.{ℕ, ◌&&◌, Bool, List, [], ◌∷◌, Option, Some, None, Result, Ok, if◌then◌else◌, codes}
 use Rattle.std.specs.Str.{bytes_eq}
 use Rattle.gp_base.specs.Results.{or_refusal, then_rest}
 use Rattle.gp_place.specs.declared.beside.Sighting.{Sighting}

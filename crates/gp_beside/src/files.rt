@@ -2,7 +2,7 @@ ghost use Rattle.std.specs.Prelude.{◌≡◌, ◌≤◌, ◌++◌, IfOk, List, 
 ghost use Rattle.gp_outside.specs.Faults.{Rose};
 ghost use Rattle.gp_outside.specs.Folders.{File, file_named};
 ghost use Rattle.gp_text.specs.Lines.{lines_of};
-ghost use Rattle.gp_beside.specs.Files.{IsWithin, content_of, file_lines, lines_at, lines_held, name_of, path_of};
+ghost use Rattle.gp_beside.specs.Files.{IsWithin, content_of, file_lines, lines_at, lines_held, name_of};
 
 use crate::fault::{Cause, NoteFile, NoteStop};
 use gp_base::Row;

@@ -50,8 +50,12 @@ module _ (drawings : DrawingsHaveOwnMarkup) (overviews : OverviewsHaveOwnMarkup)
       (markup_append page_head (verdict_part submission.report.windows checked) (head_own drawings) (overviews.verdict submission.report.windows checked))
       (overviews.table submission.listing.properties submission.report.windows)
 
+  one_left_out_own : (fault : NoteFault) → HasOwnMarkup (left_out_part fault)
+  unfolding left_out_part
+  one_left_out_own fault = markup_words (codes "<p>") (joined (fault_words fault)) (codes "</p>\n") refl refl
+
   left_out_own : (faults : List NoteFault) → HasOwnMarkup (left_out_text Page faults)
-  left_out_own faults = markup_flat_map left_out_part faults (λ fault. markup_words (codes "<p>") (joined (fault_words fault)) (codes "</p>\n") refl refl)
+  left_out_own faults = markup_flat_map left_out_part faults one_left_out_own
 
   all_before_own : (submission : Submission) (noted : Noted) (checked : Checked) → HasOwnMarkup (before_text Page submission noted checked)
   all_before_own submission noted checked =

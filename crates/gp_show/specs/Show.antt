@@ -47,13 +47,17 @@ head_text Text submission checked =
 head_text Page submission checked =
     page_head ++ verdict_part submission.report.windows checked ++ table_part submission.listing.properties submission.report.windows
 
--- which files beside the report are left out, behind an empty line
+-- that a file beside the report is left out
+unfoldable pub left_out_line : NoteFault → List (List ℕ)
+left_out_line fault = fault_words fault
+
+-- which of them are, behind an empty line
 abbrev pub left_out_lines : List NoteFault → List (List (List ℕ))
 left_out_lines [] = []
-left_out_lines (fault ∷ faults) = [] ∷ fault_words fault ∷ map fault_words faults
+left_out_lines (fault ∷ faults) = [] ∷ left_out_line fault ∷ map left_out_line faults
 
--- that a file is left out
-abbrev pub left_out_part : NoteFault → List ℕ
+-- the same of one on a page
+unfoldable pub left_out_part : NoteFault → List ℕ
 left_out_part fault = codes "<p>" ++ escaped (joined (fault_words fault)) ++ codes "</p>\n"
 
 -- which files beside the report are left out

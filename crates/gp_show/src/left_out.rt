@@ -1,7 +1,6 @@
 ghost use Rattle.std.specs.Prelude.{◌≡◌, ◌++◌, ◌∷◌, [], OnOk, flat_map, map};
-ghost use Rattle.gp_beside.specs.Refusal.{fault_words};
 ghost use Rattle.gp_text.specs.Spelling.{spelling};
-ghost use Rattle.gp_show.specs.Show.{left_out_lines, left_out_part, left_out_text};
+ghost use Rattle.gp_show.specs.Show.{left_out_line, left_out_lines, left_out_part, left_out_text};
 
 use gp_beside::{NoteFault, put_fault};
 use gp_drawing::put_between;
@@ -34,7 +33,7 @@ fn add_lines(text: &mut Vec<u8>, faults: &[NoteFault]) -> Result<(), AllocError>
 }
 
 fn add_each_line(text: &mut Vec<u8>, faults: &[NoteFault]) -> Result<(), AllocError>
-    ensures { OnOk result (text.new.items ≡ text.old.items ++ spelling (map fault_words faults.now)) }
+    ensures { OnOk result (text.new.items ≡ text.old.items ++ spelling (map left_out_line faults.now)) }
 {
     for fault in faults {
         add_line(text, *fault)?;
@@ -42,8 +41,9 @@ fn add_each_line(text: &mut Vec<u8>, faults: &[NoteFault]) -> Result<(), AllocEr
     Ok(())
 }
 
+#[tactic(auto, unfolding(crate::specs::Show::left_out_line))]
 fn add_line(text: &mut Vec<u8>, fault: NoteFault) -> Result<(), AllocError>
-    ensures { OnOk result (text.new.items ≡ text.old.items ++ spelling (fault_words fault ∷ [])) }
+    ensures { OnOk result (text.new.items ≡ text.old.items ++ spelling (left_out_line fault ∷ [])) }
 {
     put_fault(text, fault)?;
     text.push(b'\n')?;
@@ -59,6 +59,7 @@ fn add_parts(text: &mut Vec<u8>, faults: &[NoteFault]) -> Result<(), AllocError>
     Ok(())
 }
 
+#[tactic(auto, unfolding(crate::specs::Show::left_out_part))]
 fn add_part(text: &mut Vec<u8>, fault: NoteFault) -> Result<(), AllocError>
     ensures { OnOk result (text.new.items ≡ text.old.items ++ left_out_part fault) }
 {

@@ -11,7 +11,7 @@ use Rattle.gp_show.proofs.telling.put_if_shown.Goals as goal
 
 pub returns-then-not-asks-clause-count : goal.returns-then-not-asks-clause-count
 returns-then-not-asks-clause-count g c =
-    let none = unasked_count (request_form c.args.request.now).command (form_of c.args.answered.now) (sym c.asks.ensures ∙ c.if-not-asks.true) in omega (arith, none)
+    let none = unasked_count (request_form c.args.request.now) (form_of c.args.answered.now) (sym c.asks.ensures ∙ c.if-not-asks.true) in omega (arith, none)
 
 pub returns-then-not-asks-clause-ok : goal.returns-then-not-asks-clause-ok
 returns-then-not-asks-clause-ok g c =

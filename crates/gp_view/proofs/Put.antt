@@ -1,5 +1,5 @@
 -- A line that is put word by word, and lines one after another.
-use Rattle.std.proofs.Common.{◌≡◌, ℕ, List, [], ◌∷◌, ◌++◌, ap, ◌∙◌, sym, append_assoc}
+use Rattle.std.proofs.Common.{◌≡◌, ℕ, List, [], ◌∷◌, ◌++◌, Result, Ok, Err, OnOk, is_ok, if◌then◌else◌, ap, ◌∙◌, sym, append_assoc}
 use Rattle.gp_text.specs.Spelling.{after_words, joined, spelling}
 use Rattle.gp_text.specs.SpellingLaws.{after_append, joined_after, spelling_append}
 
@@ -34,3 +34,8 @@ lines_put old xs ys =
 pub section_put : (old start title events sightings answer close : List ℕ)
     → (((((old ++ start) ++ title) ++ events) ++ sightings) ++ answer) ++ close ≡ old ++ (((((start ++ title) ++ events) ++ sightings) ++ answer) ++ close)
 section_put old start title events sightings answer close = simp append_assoc
+
+-- a whole text, of which the last piece was put where there is an answer
+pub put_last : {A E : Type 0} (result : Result A E) (new longer old whole : List ℕ) → longer ≡ whole → new ≡ (if is_ok result then longer else old) → OnOk result (new ≡ whole)
+put_last (Ok x) new longer old whole same is = is ∙ same
+put_last (Err e) new longer old whole same is = tt

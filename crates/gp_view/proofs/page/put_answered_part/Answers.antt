@@ -1,8 +1,8 @@
-use Rattle.std.proofs.Common.{◌≡◌, ◌++◌, codes, List, ℕ, OnOk, subst}
+use Rattle.std.proofs.Common.{◌≡◌, ◌++◌, codes, List, ℕ}
 use Rattle.gp_place.specs.declared.beside.Beside.{Beside}
 use Rattle.gp_view.specs.Answered.{AnsweredForm, form_of}
 use Rattle.gp_view.specs.Page.{answer_part, answered_part, events_part, sightings_part, title_part}
-use Rattle.gp_view.proofs.Put.{section_put}
+use Rattle.gp_view.proofs.Put.{put_last, section_put}
 use Rattle.gp_view.proofs.page.put_answered_part.Goals as goal
 
 pub returns : goal.returns
@@ -17,4 +17,5 @@ returns c =
     let whole : c.put_answer_part.new.text.items ++ codes "</section>\n" ≡ text ++ answered_part beside answered =
     rw (c.in_ok-put_answer_part.ensures, c.in_ok-put_sighting_parts.ensures, c.as_slice.ensures, c.in_ok-put_events_part.ensures, c.in_ok-put_title_part.ensures, c.in_ok-extend_from_slice.ensures.items)
     (section_put text (codes "<section>\n") (title_part answered) events sightings answer (codes "</section>\n")) in
-    subst (λ (part : List ℕ). OnOk c.extend_from_slice-2.result (c.extend_from_slice-2.new.self.items ≡ part)) whole c.extend_from_slice-2.ensures.items
+    put_last c.extend_from_slice-2.result c.extend_from_slice-2.new.self.items (c.put_answer_part.new.text.items ++ codes "</section>\n") c.put_answer_part.new.text.items
+    (text ++ answered_part beside answered) whole c.extend_from_slice-2.ensures.items

@@ -1,7 +1,7 @@
 // A story as a picture: a lane for each thread, and a row for each part. A bar in a lane is a lock that the thread holds, an
 // arrow leads to a row from the event that it looks back at, and the rows of an instance's events are marked. First the
 // drawing in values, with rows by number and no coordinates; then its text, as SVG in whole numbers, with no colours, which
-// come from the style sheet of the page that it stands in. All text of a trace is escaped.
+// come from the style sheet of the page that it stands in. All text of a trace and of places is escaped.
 #![tactic(auto)]
 
 mod arrows;

@@ -1,6 +1,7 @@
 // Stories and reasons as text that people read: a schedule line by line, with what each event looks back at, and why an
-// instance is impossible, fact by fact and step by step, each event with its place in the program where one is told; beside them an event's own words. All is put at the end of a text,
-// so that the text so far stays. Where memory is wanting, no contract says what the text is.
+// instance is impossible, fact by fact and step by step, each event with its place in the program where one is told; beside
+// them an event's own words. All is put at the end of a text, so that the text so far stays. Where memory is wanting, no
+// contract says what the text is.
 #![tactic(auto)]
 
 mod event;

@@ -1,5 +1,5 @@
 -- The counts of the runs, collected and added.
-use Rattle.std.proofs.Common.{◌≡◌, refl, sym, ap, ◌∙◌, subst, ℕ, ◌+◌, ◌*◌, ◌≤◌, Option, None, Some, Bool, false, nat_lt, if◌then◌else◌, List, [], ◌∷◌, length, map, flat_map, sum, sum_by, Result, Ok, Err, IfOk, arith}
+use Rattle.std.proofs.Common.{◌≡◌, ◌≢◌, refl, sym, ap, ◌∙◌, subst, ℕ, ◌+◌, ◌*◌, ◌≤◌, Option, None, Some, Bool, true, false, nat_lt, if◌then◌else◌, List, [], ◌∷◌, length, map, flat_map, sum, sum_by, Result, Ok, Err, IfOk, arith}
 use Rattle.std.specs.declared.alloc.AllocError.{AllocError}
 use Rattle.std.specs.List.{AllZip}
 use Rattle.std.specs.Prelude.{MatchResult}
@@ -17,7 +17,7 @@ use Rattle.std.proofs.lemmas.Bool.{le-ltb, ltb-false}
 use Rattle.std.proofs.Math.Nat.{mul-le-mul_right}
 use Rattle.gp_analysis.specs.declared.runs.Run.{Run}
 use Rattle.gp_analysis.specs.Runs.{numbers_of, PartAll, run_count, run_windows}
-use Rattle.gp_analysis.specs.Tickets.{asked_in, asked_of, asked_total, listed_count, subjects_count, subjects_tickets, tickets_in, tickets_listed, tickets_of, too_much, total_of, window_count}
+use Rattle.gp_analysis.specs.Tickets.{asked_in, asked_of, asked_total, listed_count, subjects_count, subjects_tickets, tickets_in, tickets_listed, tickets_of, too_much, total_of, window_asked, window_count}
 
 module _ (count : Run → ℕ) where
   each_counted : (runs : List Run) (counts : List ℕ) → AllZip {B = Result ℕ AllocError} (λ run result. IfOk result (λ n. n ≡ count run)) runs (map Ok counts) → counts ≡ map count runs
@@ -69,7 +69,14 @@ asked_few : (left : Option LeftOut) (count : ℕ) → asked_of left count ≤ co
 asked_few None count = omega arith
 asked_few (Some why) count = omega arith
 
+none_asked : (left : Option LeftOut) (count : ℕ) → left ≢ None → asked_of left count ≤ 0
+none_asked None count out = absurd (out refl)
+none_asked (Some why) count out = omega arith
+
 module _ {Subject Shown : Type 0} (question : QuestionForm Subject Shown) where
+  abbrev LargeAreLeftOut : Type 0
+  LargeAreLeftOut = (window : WindowForm) → question.is_large window ≡ true → question.left_out window ≢ None
+
   -- what the runs have together is what all windows have
   pub all_counted : (how : Counted) (r : RecordingForm) (runs : List Run) (counts : List ℕ) → PartAll r.manifest.epochs runs → counts ≡ map (run_count question how r) runs → sum counts ≡ total_of question how r
   all_counted how r runs counts parted is =
@@ -93,21 +100,28 @@ module _ {Subject Shown : Type 0} (question : QuestionForm Subject Shown) where
       let rest : subjects_tickets question window (number + 1) subjects ≤ subjects_count question window (number + 1) subjects = few_subjects window (number + 1) subjects in
       omega (arith, one, rest)
 
+  few_window : (window : WindowForm) → window_asked question window ≤ subjects_count question window 0 question.subjects
+  few_window window =
+      let tickets = subjects_tickets question window 0 question.subjects in
+      let one : asked_of (question.left_out window) tickets ≤ tickets = asked_few (question.left_out window) tickets in
+      let all : tickets ≤ subjects_count question window 0 question.subjects = few_subjects window 0 question.subjects in
+      omega (arith, one, all)
+
+  -- of a window that is large none has a ticket
+  asked_where : (window : WindowForm) (large : Bool) → (large ≡ true → question.left_out window ≢ None) → window_asked question window ≤ (if large then 0 else subjects_count question window 0 question.subjects)
+  asked_where window true out = none_asked (question.left_out window) (subjects_tickets question window 0 question.subjects) (out refl)
+  asked_where window false out = few_window window
+
   -- no more asks have a ticket than are listed
-  asked_within : (r : RecordingForm) → asked_total question r ≤ total_of question Listed r
-  asked_within r =
+  asked_within : LargeAreLeftOut → (r : RecordingForm) → asked_total question r ≤ total_of question Listed r
+  asked_within out r =
       sum_few (asked_in question r) (λ (k : ℕ). window_count question Listed (window_of r k)) (numbers_from 1 r.manifest.epochs)
-      (λ k.
-      let window = window_of r k in
-      let one : asked_of (question.left_out window) (subjects_tickets question window 0 question.subjects) ≤ subjects_tickets question window 0 question.subjects =
-      asked_few (question.left_out window) (subjects_tickets question window 0 question.subjects) in
-      let all : subjects_tickets question window 0 question.subjects ≤ subjects_count question window 0 question.subjects = few_subjects window 0 question.subjects in
-      omega (arith, one, all))
+      (λ k. asked_where (window_of r k) (question.is_large (window_of r k)) (out (window_of r k)))
 
   -- so where what is listed is not too much, neither is what has a ticket
-  pub not_too_much : (r : RecordingForm) (budget : ℕ) → nat_lt 1000000 (total_of question Listed r * budget) ≡ false → None ≡ too_much question r budget
-  not_too_much r budget is =
+  pub not_too_much : LargeAreLeftOut → (r : RecordingForm) (budget : ℕ) → nat_lt 1000000 (total_of question Listed r * budget) ≡ false → None ≡ too_much question r budget
+  not_too_much out r budget is =
       let few : total_of question Listed r * budget ≤ 1000000 = ltb-false 1000000 (total_of question Listed r * budget) is in
-      let within : asked_total question r * budget ≤ total_of question Listed r * budget = mul-le-mul_right budget (asked_within r) in
+      let within : asked_total question r * budget ≤ total_of question Listed r * budget = mul-le-mul_right budget (asked_within out r) in
       let not_more : nat_lt 1000000 (asked_total question r * budget) ≡ false = le-ltb 1000000 (asked_total question r * budget) (omega (arith, few, within)) in
       sym (ap (λ (more : Bool). if more then Some (asked_total question r) else None) not_more)

@@ -1,5 +1,5 @@
 -- A question that is asked of each window of a recording.
-use Rattle.std.specs.Prelude.{ℕ, ℤ, Bool, ◌≡◌, ◌≤◌, ◌++◌, List, Option, Some, None, Result, All, length}
+use Rattle.std.specs.Prelude.{ℕ, ℤ, Bool, true, ◌≡◌, ◌≢◌, ◌≤◌, ◌++◌, List, Option, Some, None, Result, All, length}
 use Rattle.std.specs.List.{AllByRecursion}
 use Rattle.gp_certificate.specs.declared.certificate.Certificate.{Certificate}
 use Rattle.gp_certificate.specs.declared.step.Step.{Step}
@@ -20,13 +20,14 @@ use Rattle.gp_window.specs.declared.schedule.EventId.{EventId}
 use Rattle.gp_window.specs.WindowForm.{IsWindow, WindowForm}
 use Rattle.gp_analysis.specs.declared.question.LeftOut.{LeftOut}
 
--- what is asked of a window: the subjects and their names; why the window is left out, or its problem and the steps that its
--- certificates share from the start; the asks of a subject with its number; of the events of an ask its query, the answer that
--- it has already, and what shows it
+-- what is asked of a window: the subjects and their names; why the window is left out, and whether that is known without its
+-- constraints, by its number of events; else its problem and the steps that its certificates share from the start; the asks of
+-- a subject with its number; of the events of an ask its query, the answer that it has already, and what shows it
 pub record QuestionForm (Subject Shown : Type 0) : Type 1 where
   pub subjects : List Subject
   pub name : Subject → List ℕ
   pub left_out : WindowForm → Option LeftOut
+  pub is_large : WindowForm → Bool
   pub problem : WindowForm → Problem
   pub shared : WindowForm → List Step
   pub asks : WindowForm → Subject → ℕ → Result (List Instance) InstancesFault
@@ -74,10 +75,12 @@ pub record IsAnswerable {Subject Shown : Type 0} (question : QuestionForm Subjec
   pub shares : SharedPasses (question.problem window) (question.shared window)
 
 -- what the answers rest on: there are few subjects; what is listed of each are asks, which have one to six events, and valid
--- queries; a query without a valuation means that nothing shows its ask; an answer that is given holds; and the problem of a
--- window that is not left out is valid, its edges can be kept, its clauses are few, and the steps that are shared pass
+-- queries; a query without a valuation means that nothing shows its ask; an answer that is given holds; the problem of a
+-- window that is not left out is valid, its edges can be kept, its clauses are few, and the steps that are shared pass; and a
+-- window that is large is left out
 pub record IsLawful {Subject Shown : Type 0} (question : QuestionForm Subject Shown) (lists : WindowForm → Subject → List EventId → Type 0) : Type 0 where
   pub few : length question.subjects ≤ 64
   pub listed : AllByRecursion (ListsAsks question lists) question.subjects
   pub ask : (window : WindowForm) (subject : Subject) (ids : List EventId) → lists window subject ids → IsAsk question window subject ids
   pub problem : (window : WindowForm) → question.left_out window ≡ None → IsAnswerable question window
+  pub large : (window : WindowForm) → question.is_large window ≡ true → question.left_out window ≢ None

@@ -52,6 +52,10 @@ module _ {Subject Shown : Type 0} (question : QuestionForm Subject Shown) where
   abbrev pub window_asked : WindowForm → ℕ
   window_asked window = asked_of (question.left_out window) (subjects_tickets window 0 question.subjects)
 
+  -- how many asks are counted as listed in a window: of one that is large none, since it is left out
+  abbrev pub window_listed : WindowForm → ℕ
+  window_listed window = if question.is_large window then 0 else subjects_count window 0 question.subjects
+
   -- how many asks have a ticket in window k
   abbrev pub asked_in : RecordingForm → ℕ → ℕ
   asked_in recording k = window_asked (window_of recording k)
@@ -60,9 +64,9 @@ module _ {Subject Shown : Type 0} (question : QuestionForm Subject Shown) where
   abbrev pub asked_total : RecordingForm → ℕ
   asked_total recording = sum_by (asked_in recording) (numbers_from 1 recording.manifest.epochs)
 
-  -- how many asks of a window are counted: all that are listed, or those that have a ticket
+  -- how many asks of a window are counted: all that are listed where it is not large, or those that have a ticket
   abbrev pub window_count : Counted → WindowForm → ℕ
-  window_count Listed window = subjects_count window 0 question.subjects
+  window_count Listed window = window_listed window
   window_count Asked window = window_asked window
 
   -- how many asks of all windows are counted

@@ -2,7 +2,7 @@ ghost use Rattle.std.specs.Prelude.{◌≡◌, ◌+◌, ◌*◌, ◌≤◌, IfOk
 ghost use Rattle.std.specs.List.{AllByRecursion};
 ghost use Rattle.gp_analysis.specs.Question.{ListsAsks};
 ghost use Rattle.gp_analysis.specs.Runs.{IsRun, PartAll, run_count};
-ghost use Rattle.gp_analysis.specs.Tickets.{listed_count, subjects_count, subjects_tickets, tickets_in, tickets_listed, tickets_of, too_much, total_of, window_asked, window_count};
+ghost use Rattle.gp_analysis.specs.Tickets.{listed_count, subjects_count, subjects_tickets, tickets_in, tickets_listed, tickets_of, too_much, total_of, window_asked, window_count, window_listed};
 
 use crate::left::Left;
 use crate::question::{EncodeFault, Question};
@@ -21,8 +21,8 @@ const COUNTED_RUNS: u32 = 16;
 /// The most asks of a recording, times the budget of each.
 const MOST_WORK: u64 = 1_000_000;
 
-// Which asks are counted: all that are listed, or those alone that have a ticket, since their window is not left out and they
-// have no answer already.
+// Which asks are counted: all that are listed in windows that are not large, or those alone that have a ticket, since their
+// window is not left out and they have no answer already.
 #[derive(Clone, Copy)]
 pub(crate) enum Counted {
     Listed,
@@ -31,8 +31,8 @@ pub(crate) enum Counted {
 
 /// How many asks have a ticket in all windows of a recording, where that times the budget of each is over 1,000,000, and `None`
 /// where it is not. Whether a window is left out takes making its constraints, and is looked at only where all asks that are
-/// listed would be too many. Runs of windows are counted side by side, and of each run the lists of one window at a time are in
-/// memory.
+/// listed would be too many; but of a window that is large nothing is listed. Runs of windows are counted side by side, and of
+/// each run the lists of one window at a time are in memory.
 pub fn too_much<R: Threads + Sync, Q: Question + Sync>(
     rt: &R,
     alloc: Global,
@@ -45,6 +45,7 @@ where
     Q::Shown: Send,
     ensures { IfOk result (λ found. found ≡ too_much (Q.form question.now) recording.now budget) }
 {
+    question.laws();
     let listed = total(rt, alloc, recording, question, Counted::Listed)?;
     if !is_too_much(listed, budget) {
         return Ok(None);
@@ -170,12 +171,26 @@ fn window_count<Q: Question>(
 {
     match counted {
         Counted::Listed => {
-            let count = subjects_count(alloc, question, &window);
+            let count = window_listed(alloc, question, &window);
             drop(window);
             count
         }
         Counted::Asked => window_asked(alloc, window, question),
     }
+}
+
+// How many asks are counted as listed in a window: none where it is large, since it is left out in any case.
+fn window_listed<Q: Question>(
+    alloc: Global,
+    question: &Q,
+    window: &Window,
+) -> Result<u64, AllocError>
+    ensures { IfOk result (λ count. count ≡ window_listed (Q.form question.now) window.now) }
+{
+    if question.is_large(window) {
+        return Ok(0);
+    }
+    subjects_count(alloc, question, window)
 }
 
 // How many asks are listed in a window.

@@ -61,6 +61,10 @@ pub trait Question {
     fn name(&self, subject: &Self::Subject) -> Name
         ensures { result ≡ (form self.now).name subject.now };
 
+    /// Whether a window is known to be left out by its number of events, without its constraints.
+    fn is_large(&self, window: &Window) -> bool
+        ensures { result ≡ (form self.now).is_large window.now };
+
     /// A window with its constraints, where it is not left out.
     fn encode(&self, alloc: Global, window: Window) -> Result<Self::Encoded, EncodeFault>
         ensures window { IfOk result (λ encoded. window_in encoded ≡ window) }
@@ -123,7 +127,7 @@ pub trait Question {
         ensures { IfOk result ((form self.now).shows (window_in encoded.now) subject.now ask.now.events) };
 
     /// A law: what is listed are asks, a query without a valuation means that nothing shows its ask, an answer that is given
-    /// holds, problems and queries are valid, and the steps that are shared pass.
+    /// holds, problems and queries are valid, the steps that are shared pass, and a window that is large is left out.
     fn laws(&self)
         ensures { IsLawful (form self.now) (lists self.now) };
 }

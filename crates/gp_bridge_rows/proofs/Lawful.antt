@@ -21,7 +21,7 @@ use Rattle.gp_window.specs.Ids.{contains_event}
 use Rattle.gp_window.specs.WindowForm.{IsWindow, WindowForm}
 use Rattle.gp_witness.specs.Complete.{SchedulesAreComplete}
 use Rattle.gp_analysis.specs.Question.{HasNoValuation, Holds, IsAsk, IsLawful}
-use Rattle.gp_patterns.specs.EncodableLaws.{is_encodable}
+use Rattle.gp_patterns.specs.EncodableLaws.{is_encodable, large_left_out}
 use Rattle.gp_bridge_rows.specs.Ends.{EndsAt, IsEnd, ends_at, given_by, query_of}
 use Rattle.gp_bridge_rows.specs.Question.{ending}
 use Rattle.gp_bridge_rows.proofs.Asked.{assumed_holds, valid_query}
@@ -74,4 +74,5 @@ is_lawful name kept valid means complete = record {
   problem = λ window fits.
       let is = is_encodable window fits in
       record { valid = is_valid valid window is; solvable = valid.solvable window; few_clauses = few_clauses window is; shares = tt };
+  large = large_left_out;
 }

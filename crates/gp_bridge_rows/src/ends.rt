@@ -8,7 +8,7 @@ use gp_certificate::Step;
 use gp_clause::{Problem, Query, Valuation};
 use gp_constraint::{Encoded, problems_are_valid};
 use gp_instance::{Instance, InstancesFault};
-use gp_patterns::encode_window;
+use gp_patterns::{encode_window, is_large};
 use gp_replay::replay_means_feasible;
 use gp_report::Answer;
 use gp_text::Name;
@@ -68,6 +68,10 @@ impl Question for Ends {
 
     fn name(&self, subject: &Name) -> Name {
         *subject
+    }
+
+    fn is_large(&self, window: &Window) -> bool {
+        is_large(window)
     }
 
     /// A window has the constraints that it has for patterns.

@@ -19,7 +19,7 @@ use Rattle.gp_instance.specs.ListedLaws.{ListsEach}
 use Rattle.gp_window.specs.declared.schedule.EventId.{EventId}
 use Rattle.gp_window.specs.WindowForm.{IsWindow, WindowForm}
 use Rattle.gp_analysis.specs.Question.{HasNoValuation, IsAsk, IsLawful}
-use Rattle.gp_patterns.specs.EncodableLaws.{is_encodable}
+use Rattle.gp_patterns.specs.EncodableLaws.{is_encodable, large_left_out}
 use Rattle.gp_stuck.specs.Cycle.{is_cycle}
 use Rattle.gp_stuck.specs.Cycles.{cycles_of, due_cycles}
 use Rattle.gp_stuck.specs.Laws.{CyclesAreListed, StuckQueriesAreValid}
@@ -89,4 +89,5 @@ is_lawful problems listed valid answered = record {
   problem = λ window fits.
       let is = is_encodable window fits in
       record { valid = is_valid problems window is; solvable = problems.solvable window; few_clauses = few_clauses window is; shares = tt };
+  large = large_left_out;
 }

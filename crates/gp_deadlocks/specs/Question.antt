@@ -7,7 +7,7 @@ use Rattle.gp_window.specs.declared.schedule.Schedule.{Schedule}
 use Rattle.gp_window.specs.RecordingForm.{RecordingForm}
 use Rattle.gp_analysis.specs.Answered.{IsAnswered as AnswersQuestion}
 use Rattle.gp_analysis.specs.Question.{QuestionForm}
-use Rattle.gp_patterns.specs.Question.{left_out_in}
+use Rattle.gp_patterns.specs.Question.{is_large, left_out_in}
 use Rattle.gp_stuck.specs.Cycles.{due_cycles}
 use Rattle.gp_stuck.specs.Stuck.{EndsStuck}
 use Rattle.gp_stuck.specs.StuckQuery.{stuck_query_of}
@@ -18,6 +18,7 @@ deadlocks = record {
   subjects = codes "deadlock" ∷ [];
   name = λ (subject : List ℕ). subject;
   left_out = λ window. left_out_in (base_due window);
+  is_large = is_large;
   problem = base_of;
   shared = λ window. [];
   asks = λ window subject number. due_cycles window;

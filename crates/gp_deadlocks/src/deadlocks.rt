@@ -12,7 +12,7 @@ use gp_certificate::Step;
 use gp_clause::{Problem, Query, Valuation};
 use gp_constraint::{Encoded, problems_are_valid};
 use gp_instance::{Instance, InstancesFault};
-use gp_patterns::encode_window;
+use gp_patterns::{encode_window, is_large};
 use gp_report::Answer;
 use gp_stuck::{cycles, cycles_are_listed, stuck_queries_are_valid, stuck_query};
 use gp_text::Name;
@@ -82,6 +82,10 @@ impl Question for Deadlocks {
 
     fn name(&self, subject: &Name) -> Name {
         *subject
+    }
+
+    fn is_large(&self, window: &Window) -> bool {
+        is_large(window)
     }
 
     /// A window has the constraints that it has for patterns.

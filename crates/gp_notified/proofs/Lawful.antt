@@ -77,4 +77,5 @@ is_lawful properties plain valid answered = record {
   problem = λ window fits.
       let is = sized window fits in
       record { valid = valid.problem window is.encodable.points is.clauses; solvable = valid.solvable window; few_clauses = valid.few_clauses window is.clauses; shares = tt };
+  large = λ window is fits. plain.large window is (base_fits window fits);
 }

@@ -5,6 +5,7 @@ use Rattle.gp_instance.specs.Instances.{due_instances}
 use Rattle.gp_notify.specs.Extended.{extended_of, lift}
 use Rattle.gp_property.specs.PropertyForm.{PropertyForm}
 use Rattle.gp_analysis.specs.Question.{QuestionForm}
+use Rattle.gp_patterns.specs.Question.{is_large}
 use Rattle.gp_notified.specs.declared.paired.Paired.{Paired}
 use Rattle.gp_notified.specs.Due.{left_out_by, signals_due}
 use Rattle.gp_notified.specs.Shown.{IsShown}
@@ -16,6 +17,7 @@ notified properties = record {
   subjects = properties;
   name = λ (property : PropertyForm). property.name;
   left_out = λ window. left_out_by (signals_due window);
+  is_large = is_large;
   problem = extended_of;
   shared = λ window. [];
   asks = due_instances;

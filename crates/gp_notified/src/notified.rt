@@ -13,7 +13,7 @@ use gp_clause::{Problem, Query, Valuation};
 use gp_constraint::query;
 use gp_instance::{Instance, InstancesFault, instances};
 use gp_notify::{NotifyProblem, extended_is_valid};
-use gp_patterns::Patterns;
+use gp_patterns::{Patterns, is_large};
 use gp_property::Property;
 use gp_report::AnswerOf;
 use gp_text::Name;
@@ -72,6 +72,10 @@ impl<'a> Question for Notified<'a> {
 
     fn name(&self, subject: &Property) -> Name {
         *subject.name()
+    }
+
+    fn is_large(&self, window: &Window) -> bool {
+        is_large(window)
     }
 
     fn encode(&self, alloc: Global, window: Window) -> Result<NotifyProblem, EncodeFault> {

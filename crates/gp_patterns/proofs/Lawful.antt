@@ -11,7 +11,7 @@ use Rattle.gp_property.specs.Property.{IsProperty}
 use Rattle.gp_property.specs.PropertyForm.{PropertyForm}
 use Rattle.gp_witness.specs.Complete.{SchedulesAreComplete}
 use Rattle.gp_analysis.specs.Question.{IsLawful, ListsAsks}
-use Rattle.gp_patterns.specs.EncodableLaws.{is_encodable}
+use Rattle.gp_patterns.specs.EncodableLaws.{is_encodable, large_left_out}
 use Rattle.gp_patterns.specs.Question.{patterns}
 
 each_listed : AtomsKept → (all properties : List PropertyForm) → AllByRecursion IsProperty properties → AllByRecursion (ListsAsks (patterns all) IsListed) properties
@@ -33,4 +33,5 @@ is_lawful properties few formed valid kept complete = record {
   problem = λ window fits.
       let is = is_encodable window fits in
       record { valid = is_valid valid window is; solvable = valid.solvable window; few_clauses = few_clauses window is; shares = tt };
+  large = large_left_out;
 }

@@ -3,5 +3,6 @@ mod Same
 mod Agreement
 mod Digits
 mod Few
+mod Sizes
 mod Enough
 mod Compact

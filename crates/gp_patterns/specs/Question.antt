@@ -1,9 +1,10 @@
 -- The question which instances of properties are possible.
-use Rattle.std.specs.Prelude.{ℕ, ◌≡◌, ◌↔◌, List, [], Option, None, Some, Result, Ok, Err}
+use Rattle.std.specs.Prelude.{ℕ, ◌≡◌, ◌↔◌, Bool, List, [], Option, None, Some, Result, Ok, Err, length, nat_lt}
 use Rattle.gp_constraint.specs.declared.fault.BaseFault.{BaseFault}
 use Rattle.gp_constraint.specs.declared.fault.BaseFault.TheVariants as no_window
 use Rattle.gp_constraint.specs.Base.{base_of}
 use Rattle.gp_constraint.specs.Encoded.{base_due}
+use Rattle.gp_constraint.specs.Points.{points_of}
 use Rattle.gp_constraint.specs.Query.{query_of}
 use Rattle.gp_instance.specs.Instances.{due_instances}
 use Rattle.gp_property.specs.PropertyForm.{PropertyForm}
@@ -23,6 +24,10 @@ left_out_in (Ok encoded) = None
 left_out_in (Err (no_window.TooLarge events clauses)) = Some (out.TooLarge (record { events = events; clauses = clauses }))
 left_out_in (Err no_window.Memory) = Some (out.TooLarge (record { events = 0; clauses = 0 }))
 
+-- a window has more events than one with constraints may have
+abbrev pub is_large : WindowForm → Bool
+is_large window = nat_lt 2048 (length (points_of window))
+
 -- each property asks for its instances; no steps are shared from the start, an instance has no answer before, and a feasible
 -- schedule that matches it shows it
 abbrev pub patterns : List PropertyForm → QuestionForm PropertyForm Schedule
@@ -30,6 +35,7 @@ patterns properties = record {
   subjects = properties;
   name = λ (property : PropertyForm). property.name;
   left_out = λ window. left_out_in (base_due window);
+  is_large = is_large;
   problem = base_of;
   shared = λ window. [];
   asks = due_instances;

@@ -1,9 +1,9 @@
 ghost use Rattle.std.specs.Prelude.{◌≡◌, Err, IfOk, None, Some};
 ghost use Rattle.gp_constraint.specs.Encoded.{base_due};
-ghost use Rattle.gp_patterns.specs.Question.{left_out_in};
+ghost use Rattle.gp_patterns.specs.Question.{is_large, left_out_in};
 
 use gp_analysis::{EncodeFault, LeftOut, TooLarge};
-use gp_constraint::{BaseFault, Encoded, base};
+use gp_constraint::{BaseFault, Encoded, MOST_POINTS, base};
 use gp_window::Window;
 use std::alloc::Global;
 
@@ -21,4 +21,18 @@ pub fn encode_window(alloc: Global, window: Window) -> Result<Encoded, EncodeFau
         }
         Err(BaseFault::Memory) => Err(EncodeFault::Memory),
     }
+}
+
+/// Whether a window has too many events to be encoded. For any question whose problem of a window has its base.
+pub fn is_large(window: &Window) -> bool
+    ensures { result ≡ is_large window.now }
+{
+    let mut room = MOST_POINTS;
+    for segment in window.segments() {
+        match room.checked_sub(segment.len()) {
+            Some(less) => room = less,
+            None => return true,
+        }
+    }
+    false
 }

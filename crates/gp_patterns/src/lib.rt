@@ -9,6 +9,6 @@ mod laws;
 mod patterns;
 
 pub use analysing::{analyse, analyse_compact, too_much};
-pub use encoding::encode_window;
+pub use encoding::{encode_window, is_large};
 pub use laws::{enough_decides, patterns_answered, reports_agree};
 pub use patterns::Patterns;

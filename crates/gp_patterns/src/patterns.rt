@@ -1,7 +1,7 @@
 ghost use Rattle.std.specs.Prelude.{◌≡◌, ◌≤◌, All, length};
 ghost use Rattle.gp_property.specs.Property.{IsProperty};
 
-use crate::encoding::encode_window;
+use crate::encoding::{encode_window, is_large};
 use gp_analysis::{EncodeFault, Question};
 use gp_base::Row;
 use gp_certificate::Step;
@@ -64,6 +64,10 @@ impl<'a> Question for Patterns<'a> {
 
     fn name(&self, subject: &Property) -> Name {
         *subject.name()
+    }
+
+    fn is_large(&self, window: &Window) -> bool {
+        is_large(window)
     }
 
     fn encode(&self, alloc: Global, window: Window) -> Result<Encoded, EncodeFault> {

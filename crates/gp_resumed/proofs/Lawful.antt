@@ -24,7 +24,7 @@ use Rattle.gp_window.specs.declared.schedule.EventId.{EventId}
 use Rattle.gp_window.specs.WindowForm.{IsWindow, WindowForm}
 use Rattle.gp_witness.specs.Complete.{SchedulesAreComplete}
 use Rattle.gp_analysis.specs.Question.{Holds, IsLawful, ListsAsks}
-use Rattle.gp_patterns.specs.EncodableLaws.{is_encodable}
+use Rattle.gp_patterns.specs.EncodableLaws.{is_encodable, large_left_out}
 use Rattle.gp_resume.specs.Kept.{KeptHolds, kept_answer, kept_shared}
 use Rattle.gp_resumed.specs.Question.{IsAskOf, resumed}
 
@@ -88,4 +88,5 @@ is_lawful properties old few formed valid kept complete means holds = record {
   problem = λ window fits.
       let is = is_encodable window fits in
       record { valid = is_valid valid window is; solvable = valid.solvable window; few_clauses = few_clauses window is; shares = holds.shared old window };
+  large = large_left_out;
 }

@@ -15,7 +15,7 @@ use Rattle.gp_window.specs.WindowForm.{WindowForm}
 use Rattle.gp_analysis.specs.Question.{QuestionForm}
 use Rattle.gp_analysis.specs.Tickets as ticket
 use Rattle.gp_patterns.specs.Answered.{IsShown}
-use Rattle.gp_patterns.specs.Question.{left_out_in}
+use Rattle.gp_patterns.specs.Question.{is_large, left_out_in}
 use Rattle.gp_resume.specs.Kept.{kept_answer, kept_shared}
 use Rattle.gp_resume.specs.KeptForm.{IsListedIn}
 
@@ -26,6 +26,7 @@ resumed properties old = record {
   subjects = enumerate_from 0 properties;
   name = λ (subject : ℕ × PropertyForm). subject.1.name;
   left_out = λ window. left_out_in (base_due window);
+  is_large = is_large;
   problem = base_of;
   shared = kept_shared old;
   asks = λ window subject number. due_instances window subject.1 subject.0;

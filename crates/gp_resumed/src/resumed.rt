@@ -11,7 +11,7 @@ use gp_certificate::{Step, refuted_over_means};
 use gp_clause::{Problem, Query, Valuation};
 use gp_constraint::{Encoded, problems_are_valid, query};
 use gp_instance::{Instance, InstancesFault, instances};
-use gp_patterns::encode_window;
+use gp_patterns::{encode_window, is_large};
 use gp_property::{Property, atoms_kept};
 use gp_report::{Answer, Report};
 use gp_resume::{Kept, keep, kept_holds};
@@ -95,6 +95,10 @@ impl<'a, N: Naming> Question for Resumed<'a, N> {
 
     fn name(&self, subject: &Numbered<'a>) -> Name {
         *subject.property.name()
+    }
+
+    fn is_large(&self, window: &Window) -> bool {
+        is_large(window)
     }
 
     fn encode(&self, alloc: Global, window: Window) -> Result<ResumedWindow<'a, N>, EncodeFault> {

@@ -61,6 +61,7 @@ module _ (properties : List PropertyForm) (count budget : ℕ) where
     answers = record {
       answered = record { format = 1; budget = budget; windows = forms.told };
       plain = refl;
+      typed = plain_told;
       instances = record {
         same_budget = refl;
         windows = windows_there properties count budget (all_windows recording) forms.told (all_answered (patterns properties) count budget recording forms.told forms.recorded);

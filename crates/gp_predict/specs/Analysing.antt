@@ -4,6 +4,7 @@ use Rattle.gp_outside.specs.Folders.{File}
 use Rattle.gp_compact.specs.Compact.{compacted}
 use Rattle.gp_patterns.specs.Answered.{IsAnswered}
 use Rattle.gp_patterns.specs.Tickets.{asked_total, too_much}
+use Rattle.gp_report.specs.Report.{IsReport}
 use Rattle.gp_report.specs.ReportForm.{ReportForm}
 use Rattle.gp_base.specs.Results.{and_then}
 use Rattle.gp_property.specs.PropertyForm.{PropertyForm}
@@ -63,10 +64,12 @@ pub record CanBeAnalysed (listing : Listing) (asked : Asked) : Type 0 where
 abbrev pub HasAnswers : AnalysisForm → ReportForm → Type 0
 HasAnswers analysis report = IsAnswered analysis.recording analysis.properties analysis.workers analysis.budget report
 
--- a report is the compact form of one of format 1 that has all answers to an analysis
+-- a report is the compact form of one of format 1, which a text can tell, so that no steps are shared in it, and which has all
+-- answers to an analysis
 pub record IsCompactOf (analysis : AnalysisForm) (report : ReportForm) : Type 0 where
   pub answered : ReportForm
   pub plain : answered.format ≡ 1
+  pub typed : IsReport answered
   pub instances : HasAnswers analysis answered
   pub made : report ≡ compacted analysis.recording answered
 

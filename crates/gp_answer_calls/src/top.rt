@@ -23,7 +23,7 @@ pub fn run<R: AllocGlobal + Threads + Wait + Sync, F: Folder, S: Sink, G: Gate +
         (due_answer (map string_bytes words.now) (F.files folder.old))
         (IsGiven result (S.written sink.old) (S.written sink.new)) }
     ensures words { result.status ≡ 2 → command_of (map string_bytes words.now) ≡ None }
-    ensures refused { result.status ≡ 3 → IsRefused (F.files folder.old)
+    ensures refused { result.status ≡ 3 → IsRefused result (F.files folder.old)
         (Rose (F.faults folder.old) (F.faults folder.new)) (S.written sink.old) (S.written sink.new) }
     ensures complete { ¬ (Rose (F.faults folder.old) (F.faults folder.new))
         → ¬ (Rose (S.faults sink.old) (S.faults sink.new)) → IsDone result.status ⊎ (result.status ≡ 6) }

@@ -29,9 +29,12 @@ IsBegunBy means outcome old new expected =
 abbrev pub IsNothing : Outcome → Option (List ℕ) → Option (List ℕ) → Type 0
 IsNothing outcome old new = (outcome ≡ ends_with outcome.status Nothing) × (new ≡ old)
 
--- a refusal was written whole; where the files are not told, `refused FILE absent` has its cause
-pub record IsRefused (files : Option (List File)) (Cause : Type 0) (old new : Option (List ℕ)) : Type 0 where
+-- a refusal of this status was written whole, and nothing is kept; where the files are not told, `refused FILE absent` has its
+-- cause
+pub record IsRefused (outcome : Outcome) (files : Option (List File)) (Cause : Type 0) (old new : Option (List ℕ)) : Type 0 where
   pub refusal : Refusal
+  pub status : (reply_of refusal).status ≡ 3
+  pub nothing : outcome ≡ ends_with 3 Nothing
   pub written : Appends old new (text_of (reply_of refusal))
   pub absent : (name : FileName) → text_of (reply_of refusal) ≡ text_of (refused_as name (codes "absent")) → files ≡ None → Cause
 
@@ -42,7 +45,7 @@ pub record IsRunBy {E : Type 0} (means : E → Told → Type 0) (due : Option E)
   pub read_fault : outcome.status ≡ 4 → Rose folder_before folder_after × IsNothing outcome old new
   pub write_fault : outcome.status ≡ 5 → Rose before after × WhereDue due (IsBegunBy means outcome old new)
   pub memory : outcome.status ≡ 6 → IsNothing outcome old new ⊎ WhereDue due (IsBegunBy means outcome old new)
-  pub refused : outcome.status ≡ 3 → IsRefused files (Rose folder_before folder_after) old new
+  pub refused : outcome.status ≡ 3 → IsRefused outcome files (Rose folder_before folder_after) old new
   pub range : outcome.status ≤ 7
 
 -- the same of a task

@@ -47,7 +47,7 @@ module _ (status before after : ℕ) where
 
 module _ {E : Type 0} (means : E → Told → Type 0) (due : Option E) (files : Option (List File)) (outcome : Outcome) (old new : Option (List ℕ)) (before after folder_before folder_after : ℕ) where
   -- what was put is what is due
-  pub ran_put : (told : Told) → WhereDue due (λ expected. means expected told) → (outcome.status ≡ 3 → IsRefused files (Rose folder_before folder_after) old new)
+  pub ran_put : (told : Told) → WhereDue due (λ expected. means expected told) → (outcome.status ≡ 3 → IsRefused outcome files (Rose folder_before folder_after) old new)
       → IsPut told outcome old new before after → IsRunBy means due files outcome old new before after folder_before folder_after
   ran_put told is_due refused put = record {
     given = λ done expected is. let given = put.given done in (told, is_due expected is, given.0, given.1);
@@ -59,7 +59,7 @@ module _ {E : Type 0} (means : E → Told → Type 0) (due : Option E) (files : 
     range = in_range outcome.status before after put.range;
   }
 
-  no_refusal : (told : Told) → told.status ≤ 1 → IsPut told outcome old new before after → outcome.status ≡ 3 → IsRefused files (Rose folder_before folder_after) old new
+  no_refusal : (told : Told) → told.status ≤ 1 → IsPut told outcome old new before after → outcome.status ≡ 3 → IsRefused outcome files (Rose folder_before folder_after) old new
   no_refusal told few put three =
       let given = put.given (inl (omega (arith, three))) in
       let same : outcome.status ≡ told.status = ap (λ (o : Outcome). o.status) given.0 in
@@ -78,7 +78,13 @@ module _ {E : Type 0} (means : E → Told → Type 0) (due : Option E) (files : 
       (λ three.
       let given = finished.given (inl (omega (arith, three))) in
       let own : (reply_of why).status ≡ 3 = sym (ap (λ (o : Outcome). o.status) given.0) ∙ three in
-      record { refusal = why; written = given.1; absent = λ name same. absent (told_absent why name own same) })
+      record {
+        refusal = why;
+        status = own;
+        nothing = given.0 ∙ ap (λ (status : ℕ). ends_with status Nothing) own;
+        written = given.1;
+        absent = λ name same. absent (told_absent why name own same);
+      })
       finished
   ran text is_told tells (Err stop.FolderFailed) came fault absent finished = let four : outcome.status ≡ 4 = ap (λ (o : Outcome). o.status) finished.0 in record {
     given = λ done expected is. absurd (not_done_four outcome.status done four);

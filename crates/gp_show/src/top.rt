@@ -28,8 +28,8 @@ pub fn show<R: AllocGlobal + Threads + Sync, F: Folder, S: Sink>(
         (due_answer (map string_bytes words.now) (F.files folder.old))
         (IsGivenBy Means result (S.written sink.old) (S.written sink.new)) }
     ensures words { result.status ≡ 2 → show_command_of (map string_bytes words.now) ≡ None }
-    // A refusal has its text; where the files are not told, that of an absent file has its cause.
-    ensures refused { result.status ≡ 3 → IsRefused (F.files folder.old)
+    // A refusal has its text, and nothing is kept; where the files are not told, that of an absent file has its cause.
+    ensures refused { result.status ≡ 3 → IsRefused result (F.files folder.old)
         (Rose (F.faults folder.old) (F.faults folder.new)) (S.written sink.old) (S.written sink.new) }
     // Where nothing outside fails, the answer that is due is given, or memory is wanting.
     ensures complete { ¬ (Rose (F.faults folder.old) (F.faults folder.new))

@@ -10,7 +10,7 @@ mod reports;
 mod showing;
 mod top;
 
-pub use answers::{analyse, too_much};
+pub use answers::{analyse, analyse_compact, too_much};
 pub use constraints::{base, executed_of, extended, query, schedule_of};
 pub use reports::{check_report, compact, print_report, read_report};
 pub use showing::show;

@@ -74,7 +74,11 @@ fn put_told<S: Sink>(
     put_each_line(sink, text.as_slice())
 }
 
-fn add_told(text: &mut Vec<u8>, request: &Request<'_>, answered: &Answered<'_>) -> Result<(), AllocError>
+fn add_told(
+    text: &mut Vec<u8>,
+    request: &Request<'_>,
+    answered: &Answered<'_>,
+) -> Result<(), AllocError>
     ensures { OnOk result (text.new.items ≡ text.old.items ++ answered_text request.now.command.style request.now.beside.now (form_of answered.now)) }
 {
     match request.command.style {

@@ -16,11 +16,7 @@ use gp_predict::Submission;
 use std::alloc::Global;
 
 /// Writes what is shown of a report that was checked.
-pub fn put_report<S: Sink>(
-    alloc: Global,
-    sink: &mut S,
-    shown: &Shown<'_>,
-) -> Result<(), PutFault>
+pub fn put_report<S: Sink>(alloc: Global, sink: &mut S, shown: &Shown<'_>) -> Result<(), PutFault>
     ensures later { S.faults sink.old ≤ S.faults sink.new }
     ensures ok { OnOk result (Appends (S.written sink.old) (S.written sink.new) (show_text (show_form shown.now.command) shown.now.submission shown.now.noted shown.now.checked)) }
     ensures err { OnErr result (AppendsFront (S.written sink.old) (S.written sink.new) (show_text (show_form shown.now.command) shown.now.submission shown.now.noted shown.now.checked)) }
@@ -30,11 +26,7 @@ pub fn put_report<S: Sink>(
     put_foot(alloc, sink, shown.command.style)
 }
 
-fn put_before_foot<S: Sink>(
-    alloc: Global,
-    sink: &mut S,
-    shown: &Shown<'_>,
-) -> Result<(), PutFault>
+fn put_before_foot<S: Sink>(alloc: Global, sink: &mut S, shown: &Shown<'_>) -> Result<(), PutFault>
     ensures later { S.faults sink.old ≤ S.faults sink.new }
     ensures ok { OnOk result (Appends (S.written sink.old) (S.written sink.new) (before_text (show_form shown.now.command).style shown.now.submission shown.now.noted shown.now.checked ++ body_text (request_with (show_form shown.now.command) shown.now.noted) shown.now.submission shown.now.checked)) }
     ensures err { OnErr result (AppendsFront (S.written sink.old) (S.written sink.new) (before_text (show_form shown.now.command).style shown.now.submission shown.now.noted shown.now.checked ++ body_text (request_with (show_form shown.now.command) shown.now.noted) shown.now.submission shown.now.checked)) }
@@ -44,11 +36,7 @@ fn put_before_foot<S: Sink>(
     put_body(alloc, sink, shown)
 }
 
-fn put_body<S: Sink>(
-    alloc: Global,
-    sink: &mut S,
-    shown: &Shown<'_>,
-) -> Result<(), PutFault>
+fn put_body<S: Sink>(alloc: Global, sink: &mut S, shown: &Shown<'_>) -> Result<(), PutFault>
     ensures later { S.faults sink.old ≤ S.faults sink.new }
     ensures ok { OnOk result (Appends (S.written sink.old) (S.written sink.new) (body_text (request_with (show_form shown.now.command) shown.now.noted) shown.now.submission shown.now.checked)) }
     ensures err { OnErr result (AppendsFront (S.written sink.old) (S.written sink.new) (body_text (request_with (show_form shown.now.command) shown.now.noted) shown.now.submission shown.now.checked)) }

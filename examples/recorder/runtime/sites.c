@@ -29,8 +29,10 @@ static unsigned part_count;
 
 static bool needs_recorder(const struct dl_phdr_info *module, const ElfW(Dyn) *dynamic) {
     const char *names = NULL;
-    for (const ElfW(Dyn) *at = dynamic; at->d_tag != DT_NULL; at++)
-        if (at->d_tag == DT_STRTAB) names = (const char *)(at->d_un.d_ptr + (at->d_un.d_ptr < module->dlpi_addr ? module->dlpi_addr : 0));
+    for (const ElfW(Dyn) *at = dynamic; at->d_tag != DT_NULL; at++) {
+        bool is_moved = at->d_un.d_ptr >= module->dlpi_addr;
+        if (at->d_tag == DT_STRTAB) names = (const char *)(at->d_un.d_ptr + (is_moved ? 0 : module->dlpi_addr));
+    }
     for (const ElfW(Dyn) *at = dynamic; at->d_tag != DT_NULL && names; at++)
         if (at->d_tag == DT_NEEDED && !strcmp(names + at->d_un.d_val, "libgprecord.so")) return true;
     return false;

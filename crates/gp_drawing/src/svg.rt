@@ -78,7 +78,7 @@ fn put_head_of(
     requires { length rows.now < 2 ^ 32 }
     ensures { OnOk result (text.new.items ≡ text.old.items ++ head lanes (length rows.now) (longest_place places.now window.now rows.now)) }
 {
-    let longest = longest_place(window, places, rows);
+    let longest = longest_place(*text.allocator(), window, places, rows)?;
     if longest > u32::MAX as usize {
         return Err(AllocError);
     }

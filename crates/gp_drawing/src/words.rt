@@ -1,16 +1,16 @@
-ghost use Rattle.std.specs.Prelude.{◌≡◌, [], ◌∷◌, ◌++◌, IfOk, OnOk, codes, decimal, length, option_copied, option_map};
+ghost use Rattle.std.specs.Prelude.{◌≡◌, [], ◌∷◌, ◌++◌, IfOk, OnOk, codes, decimal, length, option_copied};
 ghost use Rattle.std.specs.Fmt.{signed_decimal};
-ghost use Rattle.gp_place.specs.Places.{place_phrases};
+ghost use Rattle.gp_place.specs.Places.{behind};
 ghost use Rattle.gp_text.specs.Spelling.{after_words, joined};
 ghost use Rattle.gp_trace.specs.Printed.{event_words};
 ghost use Rattle.gp_drawing.specs.Words.{longest_place, own_words, place_length, row_words, span_words};
 
 use crate::drawing::{DrawnRow, Span};
 use gp_base::Row;
-use gp_place::{Places, put_behind, text_at};
+use gp_place::{Places, put_behind};
 use gp_text::{Name, print_i64, print_u64};
 use gp_trace::Event;
-use gp_window::{Window, put_event_id};
+use gp_window::{EventId, Window, put_event_id};
 use std::alloc::{AllocError, Global};
 
 /// The words of a row.
@@ -46,32 +46,46 @@ fn put_row_words(
 }
 
 /// The most bytes that one of these rows has for the place of its event.
-pub fn longest_place(window: &Window, places: &Places, rows: &[DrawnRow]) -> usize
-    ensures { result ≡ longest_place places.now window.now rows.now }
+pub fn longest_place(
+    alloc: Global,
+    window: &Window,
+    places: &Places,
+    rows: &[DrawnRow],
+) -> Result<usize, AllocError>
+    ensures { IfOk result (λ longest. longest ≡ longest_place places.now window.now rows.now) }
 {
     let mut longest = 0;
     for row in rows {
-        longest = longest.max(place_length(window, places, row));
+        longest = longest.max(place_length(alloc, window, places, row)?);
     }
-    longest
+    Ok(longest)
 }
 
-fn place_length(window: &Window, places: &Places, row: &DrawnRow) -> usize
-    ensures { result ≡ place_length places.now window.now row.now }
+fn place_length(
+    alloc: Global,
+    window: &Window,
+    places: &Places,
+    row: &DrawnRow,
+) -> Result<usize, AllocError>
+    ensures { IfOk result (λ bytes. bytes ≡ place_length places.now window.now row.now) }
 {
     match row {
-        DrawnRow::One(event, _) => length_behind(text_at(places, window.number(), *event)),
-        DrawnRow::Several(_) => 0,
+        DrawnRow::One(event, _) => length_behind(alloc, places, window.number(), *event),
+        DrawnRow::Several(_) => Ok(0),
     }
 }
 
-fn length_behind(place: Option<&[u8]>) -> usize
-    ensures { result ≡ length (after_words (place_phrases (option_map (λ text. text.now) place.entry))) }
+fn length_behind(
+    alloc: Global,
+    places: &Places,
+    window: u32,
+    event: EventId,
+) -> Result<usize, AllocError>
+    ensures { IfOk result (λ bytes. bytes ≡ length (after_words (behind places.now window event))) }
 {
-    match place {
-        Some(place) => place.len() + 2,
-        None => 0,
-    }
+    let mut words = Vec::new(alloc);
+    put_behind(&mut words, places, window, event)?;
+    Ok(words.len())
 }
 
 fn put_span_words(text: &mut Vec<u8>, span: &Span) -> Result<(), AllocError>

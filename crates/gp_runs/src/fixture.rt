@@ -1,5 +1,5 @@
 // Runs over files in memory, for the tests of whole runs.
-use gp_outside::{FreeGate, Gate, MemoryFolder, MemorySink};
+use gp_outside::{Folder, FreeGate, Gate, MemoryFolder, MemorySink};
 use gp_predict::{Outcome, run};
 use std::alloc::Global;
 use std::process::Abort;
@@ -33,10 +33,10 @@ fn words_of(rt: &impl Abort, alloc: Global, words: &[&str]) -> Vec<String> {
 }
 
 /// What a run with these words on a folder ends with, and its sink.
-pub fn run_in<R: AllocGlobal + Threads + Wait + Sync + Abort, G: Gate + Sync>(
+pub fn run_in<R: AllocGlobal + Threads + Wait + Sync + Abort, F: Folder, G: Gate + Sync>(
     rt: &R,
     words: &[&str],
-    folder: &mut MemoryFolder,
+    folder: &mut F,
     gate: &G,
 ) -> (Outcome, MemorySink) {
     let alloc = rt.alloc();

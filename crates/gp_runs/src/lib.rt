@@ -13,6 +13,8 @@ mod linking;
 #[cfg(test)]
 mod logs;
 #[cfg(test)]
+mod opened;
+#[cfg(test)]
 mod resuming;
 #[cfg(test)]
 mod tasks;

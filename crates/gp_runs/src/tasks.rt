@@ -13,7 +13,7 @@ const COMPACT: &str =
     "gpredict 2\nbudget 200\nwindow 1\nshared 0\nproperty late_auth 1\ninstance 0 2.0 1.1\nfound 3\n1.0 2.0 1.1\nsummary 1 0 0\n";
 
 /// The first thread starts the second, and authorises what the second uses; with all that any task reads.
-const FILES: [(&str, &str); 6] = [
+pub const FILES: [(&str, &str); 6] = [
     ("d/manifest", "gptrace 1\nthreads 2\nepochs 1\nroots 1\n"),
     ("d/t1.trace", "start 2\nop auth r\n"),
     ("d/t2.trace", "op use r\n"),

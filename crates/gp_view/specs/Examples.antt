@@ -87,13 +87,13 @@ pub record ExamplesHold : Type 0 where
   -- the same with a place, and with what was seen of this instance
   pub seen_lines : spelling (answered_lines beside found) ≡
       codes "\nwindow 1 property a<b instance 0 found\n"
-      ++ codes "2.1 op b  work.c:12 in second\n"
+      ++ codes "2.1 op b  work.c:12 in second: work();\n"
       ++ codes "1.1 op a\n"
       ++ codes "seen: confirmed today\n"
       ++ codes "it can happen so:\n"
       ++ codes "1 1.0 start 2\n"
       ++ codes "2 2.0 read c 1 sees the beginning started by 1.0\n"
-      ++ codes "3 2.1 op b <- instance  work.c:12 in second\n"
+      ++ codes "3 2.1 op b <- instance  work.c:12 in second: work();\n"
       ++ codes "4 1.1 op a <- instance\n"
   -- the step of the certificate, in facts
   pub impossible_lines : spelling (answered_lines nothing_beside impossible) ≡
@@ -134,8 +134,8 @@ pub record ExamplesHold : Type 0 where
   -- the same with a place, which makes the drawing wider, and with what was seen of this instance
   pub seen_part : answered_part beside found ≡
       codes "<section>\n<h2>window 1 property a&lt;b instance 0 found</h2>\n"
-      ++ codes "<ul>\n<li>2.1 op b  work.c:12 in second</li>\n<li>1.1 op a</li>\n</ul>\n<p>seen: confirmed today</p>\n"
-      ++ codes "<svg class='drawing' viewBox='0 0 704 128' width='704' height='128'>\n"
+      ++ codes "<ul>\n<li>2.1 op b  work.c:12 in second: work();</li>\n<li>1.1 op a</li>\n</ul>\n<p>seen: confirmed today</p>\n"
+      ++ codes "<svg class='drawing' viewBox='0 0 776 128' width='776' height='128'>\n"
       ++ codes "<line class='lane' x1='40' y1='20' x2='40' y2='118'/>\n<text class='thread' x='40' y='14'>1</text>\n"
       ++ codes "<line class='lane' x1='88' y1='20' x2='88' y2='118'/>\n<text class='thread' x='88' y='14'>2</text>\n"
       ++ codes "<line class='arrow start' x1='40' y1='30' x2='88' y2='52' marker-end='url(#tip)'/>\n"
@@ -143,8 +143,8 @@ pub record ExamplesHold : Type 0 where
       ++ codes "<text class='words' x='136' y='34'>1.0 start 2</text></g>\n"
       ++ codes "<g class='row'><title>2.0 read c 1</title><circle class='event' cx='88' cy='52' r='6'/>"
       ++ codes "<text class='words' x='136' y='56'>2.0 read c 1</text></g>\n"
-      ++ codes "<g class='row'><title>2.1 op b  work.c:12 in second</title><circle class='event marked' cx='88' cy='74' r='6'/>"
-      ++ codes "<text class='words' x='136' y='78'>2.1 op b  work.c:12 in second</text></g>\n"
+      ++ codes "<g class='row'><title>2.1 op b  work.c:12 in second: work();</title><circle class='event marked' cx='88' cy='74' r='6'/>"
+      ++ codes "<text class='words' x='136' y='78'>2.1 op b  work.c:12 in second: work();</text></g>\n"
       ++ codes "<g class='row'><title>1.1 op a</title><circle class='event marked' cx='40' cy='96' r='6'/>"
       ++ codes "<text class='words' x='136' y='100'>1.1 op a</text></g>\n</svg>\n</section>\n"
   -- the reason as it stands in a text

@@ -1,0 +1,7 @@
+mod Agreement
+mod Digits
+mod Few
+mod Enough
+mod Questions
+mod Tasks
+mod Patterns

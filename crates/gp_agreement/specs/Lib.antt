@@ -1,0 +1,6 @@
+pub mod Alike
+pub mod Agreement
+pub mod Enough
+pub mod Questions
+pub mod Tasks
+pub mod Patterns

@@ -1,0 +1,50 @@
+ghost use Rattle.gp_agreement.specs.Agreement.{AnswersAgree};
+ghost use Rattle.gp_agreement.specs.Enough.{EnoughDecides};
+ghost use Rattle.gp_agreement.specs.Patterns.{PatternsFollow};
+ghost use Rattle.gp_agreement.specs.Questions.{QuestionsAreAlike};
+ghost use Rattle.gp_agreement.specs.Tasks.{TasksAgree, TasksDecide};
+
+use gp_analysis::Question;
+use gp_patterns::patterns_answered;
+
+/// A law: records that answer two questions that are alike never contradict each other, whatever their workers and their
+/// budgets.
+pub fn answers_agree<Q: Question, R: Question<Shown = Q::Shown>>(question: &Q, alike: &R)
+    ensures { AnswersAgree (Q.form question.now) (R.form alike.now) }
+{}
+
+/// A law: in records that answer a question no entry is undecided for which the budget is enough.
+pub fn enough_decides<Q: Question>(question: &Q)
+    ensures { EnoughDecides (Q.form question.now) }
+{}
+
+/// A law: each question is alike to itself, and that which goes on from an old report to the one without and to that which goes
+/// on from another.
+pub fn questions_are_alike()
+    ensures { QuestionsAreAlike }
+{}
+
+/// A law: two reports of one recording never contradict each other, whatever their workers and their budgets: two of an
+/// analysis, two that go on from any old reports, one of each, two of deadlocks, and two with signals.
+pub fn tasks_agree()
+    ensures { TasksAgree }
+{
+    questions_are_alike();
+    patterns_answered();
+}
+
+/// A law: in none of these reports an entry is undecided for which the budget is enough.
+pub fn tasks_decide()
+    ensures { TasksDecide }
+{
+    patterns_answered();
+}
+
+/// A law: that two reports of an analysis agree, and that a budget that is enough decides in each, follows from the same of the
+/// question that they answer.
+pub fn patterns_follow()
+    ensures { PatternsFollow }
+{
+    tasks_agree();
+    tasks_decide();
+}

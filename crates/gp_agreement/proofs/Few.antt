@@ -176,7 +176,7 @@ code_at n budget log turn k d entry below fits got =
     get_or-map (code n) (take budget rest) k entry d within
     ∙ ap (code n) (get_or-take budget rest k entry below ∙ (get_or-drop turn.learned log k entry ∙ get_or_from_slice_get log (turn.learned + k) entry entry got))
 
-spent_below : (problem : Problem) (query : Query) (log : List LogEntry) (budget : ℕ) (turn : Turn) (from to n : ℕ) → length (problem.kinds ++ query.locals) ≡ n → turn.begins ≤ turn.learned
+pub spent_below : (problem : Problem) (query : Query) (log : List LogEntry) (budget : ℕ) (turn : Turn) (from to n : ℕ) → length (problem.kinds ++ query.locals) ≡ n → turn.begins ≤ turn.learned
     → IsSpentOn problem query log budget turn from to → budget < 3 ^ n
 spent_below problem query log budget turn from to n size order spent =
     let few : length (codes_of n budget log turn) < 3 ^ n =

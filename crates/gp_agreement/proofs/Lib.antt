@@ -5,3 +5,4 @@ mod Enough
 mod Questions
 mod Tasks
 mod Patterns
+mod Links

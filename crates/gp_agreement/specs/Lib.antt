@@ -4,3 +4,4 @@ pub mod Enough
 pub mod Questions
 pub mod Tasks
 pub mod Patterns
+pub mod Links

@@ -1,5 +1,6 @@
 ghost use Rattle.gp_agreement.specs.Agreement.{AnswersAgree};
 ghost use Rattle.gp_agreement.specs.Enough.{EnoughDecides};
+ghost use Rattle.gp_agreement.specs.Links.{EnoughDecidesLinks, LinkReportsAgree};
 ghost use Rattle.gp_agreement.specs.Patterns.{PatternsFollow};
 ghost use Rattle.gp_agreement.specs.Questions.{QuestionsAreAlike};
 ghost use Rattle.gp_agreement.specs.Tasks.{TasksAgree, TasksDecide};
@@ -48,3 +49,13 @@ pub fn patterns_follow()
     tasks_agree();
     tasks_decide();
 }
+
+/// A law: two reports of the links of one recording never contradict each other, whatever their budgets.
+pub fn links_agree()
+    ensures { LinkReportsAgree }
+{}
+
+/// A law: in a report of links none is undecided for which the budget is enough.
+pub fn links_decide()
+    ensures { EnoughDecidesLinks }
+{}

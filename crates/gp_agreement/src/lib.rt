@@ -5,5 +5,6 @@
 mod laws;
 
 pub use laws::{
-    answers_agree, enough_decides, patterns_follow, questions_are_alike, tasks_agree, tasks_decide,
+    answers_agree, enough_decides, links_agree, links_decide, patterns_follow, questions_are_alike,
+    tasks_agree, tasks_decide,
 };

@@ -6,3 +6,4 @@ mod Questions
 mod Tasks
 mod Patterns
 mod Links
+mod Submitted

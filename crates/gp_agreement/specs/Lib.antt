@@ -5,3 +5,4 @@ pub mod Questions
 pub mod Tasks
 pub mod Patterns
 pub mod Links
+pub mod Submitted

@@ -3,10 +3,15 @@ ghost use Rattle.gp_agreement.specs.Enough.{EnoughDecides};
 ghost use Rattle.gp_agreement.specs.Links.{EnoughDecidesLinks, LinkReportsAgree};
 ghost use Rattle.gp_agreement.specs.Patterns.{PatternsFollow};
 ghost use Rattle.gp_agreement.specs.Questions.{QuestionsAreAlike};
+ghost use Rattle.gp_agreement.specs.Submitted.{ToldIsAccepted};
 ghost use Rattle.gp_agreement.specs.Tasks.{TasksAgree, TasksDecide};
 
+use gp_acceptance::{answered_is_accepted, resumed_is_accepted};
 use gp_analysis::Question;
+use gp_checker::checks_are_exact;
+use gp_compact::compact_keeps_acceptance;
 use gp_patterns::patterns_answered;
+use gp_report::reports_read_again;
 
 /// A law: records that answer two questions that are alike never contradict each other, whatever their workers and their
 /// budgets.
@@ -59,3 +64,15 @@ pub fn links_agree()
 pub fn links_decide()
     ensures { EnoughDecidesLinks }
 {}
+
+/// A law: what an analysis tells, in either format, the compact form of a report that is accepted, and what goes on from an old
+/// report: each is accepted by task check, once its text lies in a file beside its recording and properties.
+pub fn told_is_accepted()
+    ensures { ToldIsAccepted }
+{
+    reports_read_again();
+    checks_are_exact();
+    compact_keeps_acceptance();
+    answered_is_accepted();
+    resumed_is_accepted();
+}

@@ -7,3 +7,4 @@ mod Tasks
 mod Patterns
 mod Links
 mod Submitted
+mod Runs

@@ -1,5 +1,5 @@
 -- Which of the questions are alike.
-use Rattle.std.proofs.Common.{refl, ℕ, ◌+◌, List, [], ◌∷◌}
+use Rattle.std.proofs.Common.{refl, sym, ℕ, ◌+◌, List, [], ◌∷◌}
 use Rattle.std.specs.List.{enumerate_from}
 use Rattle.gp_property.specs.PropertyForm.{PropertyForm}
 use Rattle.gp_report.specs.ReportForm.{ReportForm}
@@ -19,6 +19,27 @@ subjects_same question number (subject ∷ subjects) =
 
 alike_itself : {Subject Shown : Type 0} (question : QuestionForm Subject Shown) → AreAlike question question
 alike_itself question = record { subjects = subjects_same question 0 question.subjects; left_out = λ window. refl }
+
+-- questions are alike both ways
+subjects_back : {Subject Other Shown : Type 0} (one : QuestionForm Subject Shown) (other : QuestionForm Other Shown) (number : ℕ) (subjects : List Subject) (others : List Other)
+    → AllAskTheSame one other number subjects others → AllAskTheSame other one number others subjects
+subjects_back one other number [] [] same = tt
+subjects_back one other number [] (again ∷ others) same = absurd same
+subjects_back one other number (subject ∷ subjects) [] same = absurd same
+subjects_back one other number (subject ∷ subjects) (again ∷ others) same = (
+  record {
+    name = sym same.0.name;
+    asks = λ window. sym (same.0.asks window);
+    shows = λ window ids shown. let is = same.0.shows window ids shown in (is.1, is.0);
+  },
+  subjects_back one other (number + 1) subjects others same.1,
+)
+
+pub alike_back : {Subject Other Shown : Type 0} (one : QuestionForm Subject Shown) (other : QuestionForm Other Shown) → AreAlike one other → AreAlike other one
+alike_back one other same = record {
+  subjects = subjects_back one other 0 one.subjects other.subjects same.subjects;
+  left_out = λ window. sym (same.left_out window);
+}
 
 -- an old report changes nothing of what is asked
 numbered_same : (all : List PropertyForm) (old : ReportForm) (number : ℕ) (properties : List PropertyForm)

@@ -6,3 +6,4 @@ pub mod Tasks
 pub mod Patterns
 pub mod Links
 pub mod Submitted
+pub mod Runs

@@ -3,6 +3,7 @@ ghost use Rattle.gp_agreement.specs.Enough.{EnoughDecides};
 ghost use Rattle.gp_agreement.specs.Links.{EnoughDecidesLinks, LinkReportsAgree};
 ghost use Rattle.gp_agreement.specs.Patterns.{PatternsFollow};
 ghost use Rattle.gp_agreement.specs.Questions.{QuestionsAreAlike};
+ghost use Rattle.gp_agreement.specs.Runs.{RunsAgree};
 ghost use Rattle.gp_agreement.specs.Submitted.{ToldIsAccepted};
 ghost use Rattle.gp_agreement.specs.Tasks.{TasksAgree, TasksDecide};
 
@@ -75,4 +76,15 @@ pub fn told_is_accepted()
     compact_keeps_acceptance();
     answered_is_accepted();
     resumed_is_accepted();
+}
+
+/// A law: what two runs keep never contradicts each other, where both are of one recording and the same properties: whatever the
+/// task, its workers, its budget and the old report from which it goes on.
+pub fn runs_agree()
+    ensures { RunsAgree }
+{
+    questions_are_alike();
+    patterns_answered();
+    tasks_agree();
+    links_agree();
 }

@@ -8,3 +8,4 @@ mod Patterns
 mod Links
 mod Submitted
 mod Runs
+mod Written

@@ -7,3 +7,4 @@ pub mod Patterns
 pub mod Links
 pub mod Submitted
 pub mod Runs
+pub mod Written

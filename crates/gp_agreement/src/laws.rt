@@ -6,6 +6,7 @@ ghost use Rattle.gp_agreement.specs.Questions.{QuestionsAreAlike};
 ghost use Rattle.gp_agreement.specs.Runs.{RunsAgree};
 ghost use Rattle.gp_agreement.specs.Submitted.{ToldIsAccepted};
 ghost use Rattle.gp_agreement.specs.Tasks.{TasksAgree, TasksDecide};
+ghost use Rattle.gp_agreement.specs.Written.{WrittenIsHeld};
 
 use gp_acceptance::{answered_is_accepted, resumed_is_accepted};
 use gp_analysis::Question;
@@ -88,3 +89,8 @@ pub fn runs_agree()
     tasks_agree();
     links_agree();
 }
+
+/// A law: a folder whose report is written keeps its recording and its properties, and holds beside them what is written.
+pub fn written_is_held()
+    ensures { WrittenIsHeld }
+{}

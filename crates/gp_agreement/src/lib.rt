@@ -6,5 +6,5 @@ mod laws;
 
 pub use laws::{
     answers_agree, enough_decides, links_agree, links_decide, patterns_follow, questions_are_alike,
-    runs_agree, tasks_agree, tasks_decide, told_is_accepted,
+    runs_agree, tasks_agree, tasks_decide, told_is_accepted, written_is_held,
 };

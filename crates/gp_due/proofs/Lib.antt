@@ -1,2 +1,12 @@
+mod Contents
 mod Lines
+mod Lists
+mod Manifests
+mod Properties
+mod Recordings
+mod Replays
+mod Reports
 mod Results
+mod Schedules
+mod Starts
+mod Traces

@@ -1,6 +1,41 @@
-ghost use Rattle.gp_due.specs.Readers.{LinesWantNoMemory};
+ghost use Rattle.gp_due.specs.Readers.{ContentsWantNoMemory, LinesWantNoMemory, PropertiesWantNoMemory, RecordingsWantNoMemory, ReplaysWantNoMemory, ReportsWantNoMemory, SchedulesWantNoMemory, TracesWantNoMemory};
 
-/// A law: where a text is no lines, the fault is one of the text, and never want of memory.
+/// A law: where a text is no lines, the fault is never want of memory.
 pub fn lines_want_no_memory()
     ensures { LinesWantNoMemory }
+{}
+
+/// A law: where a text is no trace of its thread, the fault is never want of memory.
+pub fn traces_want_no_memory()
+    ensures { TracesWantNoMemory }
+{}
+
+/// A law: where the bytes of a file are not told, the fault is never want of memory or a fault of the folder.
+pub fn contents_want_no_memory()
+    ensures { ContentsWantNoMemory }
+{}
+
+/// A law: where the files of a folder are no recording, the fault is never want of memory or a fault of the folder.
+pub fn recordings_want_no_memory()
+    ensures { RecordingsWantNoMemory }
+{}
+
+/// A law: where a text is no schedule, the fault is never want of memory.
+pub fn schedules_want_no_memory()
+    ensures { SchedulesWantNoMemory }
+{}
+
+/// A law: where a schedule is not replayed to its end, the fault is never want of memory.
+pub fn replays_want_no_memory()
+    ensures { ReplaysWantNoMemory }
+{}
+
+/// A law: where a text is no file of properties, the fault is never want of memory.
+pub fn properties_want_no_memory()
+    ensures { PropertiesWantNoMemory }
+{}
+
+/// A law: where a text is no report, the fault is never want of memory.
+pub fn reports_want_no_memory()
+    ensures { ReportsWantNoMemory }
 {}

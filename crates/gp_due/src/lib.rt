@@ -1,6 +1,16 @@
-// No definition of what is due ever gives the answer of no text: a law for each reader, and above these one for what is due to a run.
+// The definitions of what is due never give the answer without a text, which stands for want of memory and for a fault of the
+// folder: a law for each reader, whose fault says something of the files.
 #![tactic(auto)]
 
 mod laws;
 
-pub use laws::lines_want_no_memory;
+pub use laws::{
+    contents_want_no_memory,
+    lines_want_no_memory,
+    properties_want_no_memory,
+    recordings_want_no_memory,
+    replays_want_no_memory,
+    reports_want_no_memory,
+    schedules_want_no_memory,
+    traces_want_no_memory,
+};

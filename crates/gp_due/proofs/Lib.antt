@@ -1,12 +1,16 @@
 mod Contents
+mod Folder
 mod Lines
 mod Lists
 mod Manifests
+mod NeverDue
 mod Properties
 mod Recordings
+mod Refusals
 mod Replays
 mod Reports
 mod Results
 mod Schedules
 mod Starts
+mod Tasks
 mod Traces

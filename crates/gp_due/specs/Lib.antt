@@ -1,2 +1,3 @@
+pub mod NeverDue
 pub mod Readers
 pub mod Saying

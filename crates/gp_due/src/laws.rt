@@ -1,3 +1,4 @@
+ghost use Rattle.gp_due.specs.NeverDue.{NeverDue, TextsAreDone};
 ghost use Rattle.gp_due.specs.Readers.{ContentsWantNoMemory, LinesWantNoMemory, PropertiesWantNoMemory, RecordingsWantNoMemory, ReplaysWantNoMemory, ReportsWantNoMemory, SchedulesWantNoMemory, TracesWantNoMemory};
 
 /// A law: where a text is no lines, the fault is never want of memory.
@@ -38,4 +39,14 @@ pub fn properties_want_no_memory()
 /// A law: where a text is no report, the fault is never want of memory.
 pub fn reports_want_no_memory()
     ensures { ReportsWantNoMemory }
+{}
+
+/// A law: whatever the words and whichever files are told, the answer without a text is not due.
+pub fn never_due()
+    ensures { NeverDue }
+{}
+
+/// A law: a text that is due has a status of 0 to 3, or 7.
+pub fn texts_are_done()
+    ensures { TextsAreDone }
 {}

@@ -1,16 +1,11 @@
 // The definitions of what is due never give the answer without a text, which stands for want of memory and for a fault of the
-// folder: a law for each reader, whose fault says something of the files.
+// folder: a law for each reader, whose fault says something of the files, and above these one for what is due to a run.
 #![tactic(auto)]
 
 mod laws;
 
 pub use laws::{
-    contents_want_no_memory,
-    lines_want_no_memory,
-    properties_want_no_memory,
-    recordings_want_no_memory,
-    replays_want_no_memory,
-    reports_want_no_memory,
-    schedules_want_no_memory,
-    traces_want_no_memory,
+    contents_want_no_memory, lines_want_no_memory, never_due, properties_want_no_memory,
+    recordings_want_no_memory, replays_want_no_memory, reports_want_no_memory,
+    schedules_want_no_memory, texts_are_done, traces_want_no_memory,
 };

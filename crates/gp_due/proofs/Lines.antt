@@ -1,8 +1,7 @@
 -- A text is no lines by a fault of the text.
-use Rattle.std.proofs.Common.{ℕ, ◌+◌, List, [], ◌∷◌, Result, Ok, Err, length, nat_lt}
+use Rattle.std.proofs.Common.{ℕ, ◌+◌, List, [], ◌∷◌, length, nat_lt}
 use Rattle.std.specs.List.{list_any}
-use Rattle.gp_text.specs.Lines.{at_end, check_from, check_of, is_strange, kept_lines_of, lines_of, parts_of}
-use Rattle.gp_text.specs.declared.lines.TextFault.TheVariants.{LongLine, NotAscii}
+use Rattle.gp_text.specs.Lines.{at_end, check_from, check_of, is_strange, parts_of}
 use Rattle.gp_due.specs.Readers.{LinesWantNoMemory}
 use Rattle.gp_due.specs.Saying.{OnlySays, TextSays}
 use Rattle.gp_due.proofs.Results as of

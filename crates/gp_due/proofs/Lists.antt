@@ -1,13 +1,11 @@
 -- The lines of a report's lists are refused by a rule.
-use Rattle.std.proofs.Common.{ℕ, zero, suc, ◌+◌, ◌-◌, ◌==◌, Bool, true, false, List, [], ◌∷◌, Option, Some, None, Result, Ok, Err, codes, length, min}
-use Rattle.gp_certificate.specs.declared.step.Step.{Step}
+use Rattle.std.proofs.Common.{ℕ, zero, suc, ◌-◌, Bool, true, false, List, [], ◌∷◌, Option, Ok, Err, codes, min}
 use Rattle.gp_text.specs.declared.line.Line.{Line}
 use Rattle.gp_text.specs.Numbers.{small_number_of}
-use Rattle.gp_clause.specs.declared.lit.Lit.{Lit}
 use Rattle.gp_report.specs.declared.fault.ReportFault.TheVariants.{Rule}
 use Rattle.gp_report.specs.declared.fault.ReportRule.{ReportRule}
 use Rattle.gp_report.specs.declared.fault.ReportRule.TheVariants.{Form}
-use Rattle.gp_report.specs.Reading.{Reads, broken, kept_if, lit_of, next_line, read_list, read_list_line, read_lits, read_step, read_steps, read_words, rises, told, told_by, two_numbers, with_front, with_things, words_after}
+use Rattle.gp_report.specs.Reading.{Reads, kept_if, lit_of, next_line, read_list, read_list_line, read_lits, read_step, read_steps, read_words, told, told_by, two_numbers, with_front, with_things, words_after}
 use Rattle.gp_due.specs.Saying.{OnlySays, ReportSays}
 use Rattle.gp_due.proofs.Results as of
 

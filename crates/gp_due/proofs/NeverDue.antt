@@ -1,8 +1,8 @@
 -- What is due to the words and the told files is never the answer without a text.
-use Rattle.std.proofs.Common.{◌≡◌, inl, inr, refl, subst, arith, ℕ, Bool, true, false, List, Option, Some, None}
+use Rattle.std.proofs.Common.{inl, inr, subst, arith, Bool, true, false, List, Option, Some, None}
 use Rattle.gp_outside.specs.Folders.{File}
 use Rattle.gp_words.specs.Command.{CommandForm, command_of}
-use Rattle.gp_predict.specs.Due.{due_answer, due_by, due_in}
+use Rattle.gp_predict.specs.Due.{due_by, due_in}
 use Rattle.gp_predict.specs.Refusal.{never_due}
 use Rattle.gp_predict.specs.Tasks.{Expected, reads_files}
 use Rattle.gp_predict.specs.Told.{IsDone}

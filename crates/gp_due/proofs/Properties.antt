@@ -1,5 +1,5 @@
 -- A text is no file of properties by a fault of its lines or of the text.
-use Rattle.std.proofs.Common.{ℕ, ◌==◌, List, [], ◌∷◌, Option, Some, None, Result, Ok, Err, codes, length, nat_le}
+use Rattle.std.proofs.Common.{ℕ, List, [], ◌∷◌, Option, Some, None, Result, Ok, Err, codes, length, nat_le}
 use Rattle.std.specs.Str.{bytes_eq}
 use Rattle.gp_text.specs.declared.line.Line.{Line}
 use Rattle.gp_text.specs.declared.lines.TextFault.{TextFault}
@@ -14,7 +14,7 @@ use Rattle.gp_property.specs.Checks.{are_defined, are_well_used, checked_pattern
 use Rattle.gp_property.specs.Draft.{DraftForm}
 use Rattle.gp_property.specs.Pattern.{pattern_of}
 use Rattle.gp_property.specs.PropertyForm.{PropertyForm}
-use Rattle.gp_property.specs.Reading.{all_read, at_end, begun, done_with, is_bare_pattern, is_taken, line_at, line_within, next_line, nothing_read, properties_from, properties_in, property_name_of, reading_after, with_event, with_pattern}
+use Rattle.gp_property.specs.Reading.{all_read, at_end, begun, done_with, is_bare_pattern, is_taken, line_at, line_within, next_line, nothing_read, properties_in, property_name_of, reading_after, with_event, with_pattern}
 use Rattle.gp_property.specs.Shape.{definition_of}
 use Rattle.gp_due.specs.Readers.{PropertiesWantNoMemory}
 use Rattle.gp_due.specs.Saying.{OnlySays, PropertySays, TextSays}

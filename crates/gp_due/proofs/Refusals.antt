@@ -1,5 +1,5 @@
 -- A fault that says something is refused by a text.
-use Rattle.std.proofs.Common.{inl, inr, refl, ◌≤◌, ℕ, Option, Some, None, arith}
+use Rattle.std.proofs.Common.{inl, inr, refl, ℕ, Option, Some, None, arith}
 use Rattle.gp_text.specs.declared.lines.TextFault.{TextFault}
 use Rattle.gp_text.specs.declared.lines.TextFault.TheVariants as text
 use Rattle.gp_trace.specs.declared.fault.TraceFault.{TraceFault}

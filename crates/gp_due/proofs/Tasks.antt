@@ -19,9 +19,8 @@ use Rattle.gp_predict.specs.declared.analysing.Asked.{Asked}
 use Rattle.gp_predict.specs.Asking.{asked_of}
 use Rattle.gp_predict.specs.Deadlocks.{deadlocks_at, deadlocks_of}
 use Rattle.gp_predict.specs.Linking.{link_count, linking_at, linking_of}
-use Rattle.gp_predict.specs.Listing.{list_at}
 use Rattle.gp_predict.specs.Notifying.{notifying_at, notifying_of}
-use Rattle.gp_predict.specs.Replaying.{replay_answer, replay_at, schedule_at, verdict_on}
+use Rattle.gp_predict.specs.Replaying.{replay_answer, verdict_on}
 use Rattle.gp_predict.specs.Resuming.{resuming_at, resumption_of}
 use Rattle.gp_predict.specs.Tasks.{Analysis, Compacted, Deadlocks, Expected, Linking, Notifying, Resumption, Text, Verdict, as_text, either_expected, task_at}
 use Rattle.gp_base.specs.Results.{and_then}

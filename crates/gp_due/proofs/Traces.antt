@@ -1,5 +1,5 @@
 -- A text is no trace by a fault of its lines or of the text.
-use Rattle.std.proofs.Common.{ℕ, ◌+◌, ◌==◌, Bool, true, false, List, [], ◌∷◌, Option, Some, None, Result, Ok, Err, if◌then◌else◌, is_some, length}
+use Rattle.std.proofs.Common.{ℕ, ◌==◌, Bool, true, false, List, [], ◌∷◌, Option, Some, None, Result, Ok, Err, if◌then◌else◌, is_some, length}
 use Rattle.gp_text.specs.declared.line.Line.{Line}
 use Rattle.gp_text.specs.declared.lines.TextFault.{TextFault}
 use Rattle.gp_text.specs.Lines.{end_line_of, lines_of}
@@ -16,7 +16,6 @@ use Rattle.gp_trace.specs.declared.walk.Walk.{Walk}
 use Rattle.gp_trace.specs.Event.{entry_of}
 use Rattle.gp_trace.specs.LockUse.{HeldLocks, lock_use_of, mode_held}
 use Rattle.gp_trace.specs.Rules.{check, in_line, is_held_as, is_innermost, lock_fault}
-use Rattle.gp_trace.specs.Trace.{LocalTraceForm}
 use Rattle.gp_trace.specs.Walk.{after_exit, after_lines, at_end, at_mark, at_start, before_exit, next, trace_in, with_event}
 use Rattle.gp_due.specs.Readers.{TracesWantNoMemory}
 use Rattle.gp_due.specs.Saying.{OnlySays, TextSays, TraceSays}

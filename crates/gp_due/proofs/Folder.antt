@@ -17,7 +17,7 @@ use Rattle.gp_due.proofs.Reports.{reports_say}
 use Rattle.gp_due.proofs.Schedules.{schedules_say}
 use Rattle.gp_due.proofs.Results as of
 
-content_answers : (files : List File) (folder : List ℕ) (file : FileName) → OnlySays IsAnswer (content_at files folder file)
+pub content_answers : (files : List File) (folder : List ℕ) (file : FileName) → OnlySays IsAnswer (content_at files folder file)
 content_answers files folder file = of.refused content_refusal content_refused (contents_say files folder file)
 
 pub recording_answers : (files : List File) (folder : List ℕ) → OnlySays IsAnswer (recording_at files folder)

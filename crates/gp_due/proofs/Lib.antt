@@ -1,9 +1,13 @@
 mod Contents
+mod Cuts
 mod Folder
+mod Instances
 mod Lines
 mod Lists
 mod Manifests
+mod Merges
 mod NeverDue
+mod Parts
 mod Properties
 mod Recordings
 mod Refusals
@@ -11,6 +15,7 @@ mod Replays
 mod Reports
 mod Results
 mod Schedules
+mod Sharded
 mod Starts
 mod Tasks
 mod Traces

@@ -1,13 +1,12 @@
 -- What is due to the words and the told files is never the answer without a text.
-use Rattle.std.proofs.Common.{inl, inr, subst, arith, Bool, true, false, List, Option, Some, None}
+use Rattle.std.proofs.Common.{subst, Bool, true, false, List, Option, Some, None}
 use Rattle.gp_outside.specs.Folders.{File}
 use Rattle.gp_words.specs.Command.{CommandForm, command_of}
 use Rattle.gp_predict.specs.Due.{due_by, due_in}
 use Rattle.gp_predict.specs.Refusal.{never_due}
 use Rattle.gp_predict.specs.Tasks.{Expected, reads_files}
-use Rattle.gp_predict.specs.Told.{IsDone}
 use Rattle.gp_due.specs.NeverDue.{NeverDue, TextsAreDone}
-use Rattle.gp_due.proofs.Refusals.{found, unread}
+use Rattle.gp_due.proofs.Refusals.{found, not_done, unread}
 use Rattle.gp_due.proofs.Tasks.{IsDue, task_is_due}
 
 -- nothing is due, or such a thing
@@ -26,10 +25,6 @@ in_is_due told (Some command) = by_is_due (reads_files command.task) command tol
 
 pub texts_done : TextsAreDone
 texts_done words told reply due = subst MayBeDue due (in_is_due told (command_of words))
-
-not_done : IsDone 6 → ⊥
-not_done (inl least) = omega (arith, least)
-not_done (inr seven) = omega (arith, seven)
 
 pub never_comes : NeverDue
 never_comes words told due = not_done (texts_done words told never_due due)

@@ -35,11 +35,16 @@ stuck = inl (omega arith)
 pub unread : IsDone 2
 unread = inl (omega arith)
 
-refused : IsDone 3
+pub refused : IsDone 3
 refused = inl (omega arith)
 
 pub limited : IsDone 7
 limited = inr refl
+
+-- no run is done with the status of want of memory
+pub not_done : IsDone 6 → ⊥
+not_done (inl least) = omega (arith, least)
+not_done (inr seven) = omega (arith, seven)
 
 text_refused : (name : FileName) (fault : TextFault) → TextSays fault → IsAnswer (text_refusal name fault)
 text_refused name (text.NotAscii line) says = refused

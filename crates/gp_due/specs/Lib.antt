@@ -1,3 +1,4 @@
 pub mod NeverDue
 pub mod Readers
 pub mod Saying
+pub mod ShardsNeverDue

@@ -8,11 +8,14 @@ use Rattle.gp_window.specs.declared.schedule.EventId.{EventId}
 use Rattle.gp_window.specs.Contents.{content_of}
 use Rattle.gp_window.specs.Recording.{recording_of}
 use Rattle.gp_window.specs.WindowForm.{WindowForm}
+use Rattle.gp_instance.specs.Instances.{due_instances}
+use Rattle.gp_property.specs.PropertyForm.{PropertyForm}
 use Rattle.gp_property.specs.Reading.{properties_of}
 use Rattle.gp_replay.specs.Feasible.{end_of}
 use Rattle.gp_replay.specs.Schedule.{schedule_of_text}
 use Rattle.gp_report.specs.Reading.{report_of}
-use Rattle.gp_due.specs.Saying.{ContentSays, OnlySays, PropertySays, RecordingSays, ReplaySays, ReportSays, ScheduleSays, TextSays, TraceSays}
+use Rattle.gp_shard.specs.Reading.{shard_of_text}
+use Rattle.gp_due.specs.Saying.{ContentSays, InstancesSays, OnlySays, PropertySays, RecordingSays, ReplaySays, ReportSays, ScheduleSays, ShardSays, TextSays, TraceSays}
 
 -- where a text is no lines
 abbrev pub LinesWantNoMemory : Type 0
@@ -42,6 +45,14 @@ ReplaysWantNoMemory = (window : WindowForm) (ids : List EventId) → OnlySays Re
 abbrev pub PropertiesWantNoMemory : Type 0
 PropertiesWantNoMemory = (bytes : List ℕ) → OnlySays PropertySays (properties_of bytes)
 
+-- where the instances of a property in a window are not listed
+abbrev pub InstancesWantNoMemory : Type 0
+InstancesWantNoMemory = (window : WindowForm) (property : PropertyForm) (number : ℕ) → OnlySays InstancesSays (due_instances window property number)
+
 -- where a text is no report
 abbrev pub ReportsWantNoMemory : Type 0
 ReportsWantNoMemory = (bytes : List ℕ) → OnlySays ReportSays (report_of bytes)
+
+-- where a text does not say which part a folder has
+abbrev pub PartsWantNoMemory : Type 0
+PartsWantNoMemory = (bytes : List ℕ) → OnlySays ShardSays (shard_of_text bytes)

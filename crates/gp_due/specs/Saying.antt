@@ -10,6 +10,8 @@ use Rattle.gp_window.specs.declared.manifest.ManifestFault.{ManifestFault}
 use Rattle.gp_window.specs.declared.manifest.ManifestFault.TheVariants as manifest
 use Rattle.gp_window.specs.declared.fault.RecordingFault.{RecordingFault}
 use Rattle.gp_window.specs.declared.fault.RecordingFault.TheVariants as recording
+use Rattle.gp_instance.specs.declared.instance.InstancesFault.{InstancesFault}
+use Rattle.gp_instance.specs.declared.instance.InstancesFault.TheVariants as instances
 use Rattle.gp_property.specs.declared.fault.PropertyFault.{PropertyFault}
 use Rattle.gp_property.specs.declared.fault.PropertyFault.TheVariants as property
 use Rattle.gp_replay.specs.declared.schedule.ScheduleFault.{ScheduleFault}
@@ -18,6 +20,8 @@ use Rattle.gp_replay.specs.declared.running.ReplayFault.{ReplayFault}
 use Rattle.gp_replay.specs.declared.running.ReplayFault.TheVariants as replay
 use Rattle.gp_report.specs.declared.fault.ReportFault.{ReportFault}
 use Rattle.gp_report.specs.declared.fault.ReportFault.TheVariants as report
+use Rattle.gp_shard.specs.declared.reading.ShardFault.{ShardFault}
+use Rattle.gp_shard.specs.declared.reading.ShardFault.TheVariants as shard
 
 -- the fault that a result tells, if it tells one, says something
 pub record OnlySays {A E : Type 0} (Says : E → Type 0) (result : Result A E) : Type 0 where
@@ -91,8 +95,19 @@ PropertySays (property.UnknownEvent line) = Unit {0}
 PropertySays (property.RegionUse line) = Unit {0}
 PropertySays property.Memory = ⊥
 
+-- why the instances of a property are not listed
+abbrev pub InstancesSays : InstancesFault → Type 0
+InstancesSays instances.TooMany = Unit {0}
+InstancesSays instances.Memory = ⊥
+
 -- a fault of a report
 abbrev pub ReportSays : ReportFault → Type 0
 ReportSays (report.Text fault) = TextSays fault
 ReportSays (report.Rule line rule) = Unit {0}
 ReportSays report.Memory = ⊥
+
+-- a fault of a text that is to say which part of a recording a folder has
+abbrev pub ShardSays : ShardFault → Type 0
+ShardSays (shard.Text fault) = TextSays fault
+ShardSays (shard.Line line) = Unit {0}
+ShardSays shard.Memory = ⊥

@@ -1,5 +1,6 @@
 ghost use Rattle.gp_due.specs.NeverDue.{NeverDue, TextsAreDone};
-ghost use Rattle.gp_due.specs.Readers.{ContentsWantNoMemory, LinesWantNoMemory, PropertiesWantNoMemory, RecordingsWantNoMemory, ReplaysWantNoMemory, ReportsWantNoMemory, SchedulesWantNoMemory, TracesWantNoMemory};
+ghost use Rattle.gp_due.specs.Readers.{ContentsWantNoMemory, InstancesWantNoMemory, LinesWantNoMemory, PartsWantNoMemory, PropertiesWantNoMemory, RecordingsWantNoMemory, ReplaysWantNoMemory, ReportsWantNoMemory, SchedulesWantNoMemory, TracesWantNoMemory};
+ghost use Rattle.gp_due.specs.ShardsNeverDue.{ShardsAreDone, ShardsNeverDue};
 
 /// A law: where a text is no lines, the fault is never want of memory.
 pub fn lines_want_no_memory()
@@ -36,9 +37,19 @@ pub fn properties_want_no_memory()
     ensures { PropertiesWantNoMemory }
 {}
 
+/// A law: where the instances of a property in a window are not listed, it is never for want of memory.
+pub fn instances_want_no_memory()
+    ensures { InstancesWantNoMemory }
+{}
+
 /// A law: where a text is no report, the fault is never want of memory.
 pub fn reports_want_no_memory()
     ensures { ReportsWantNoMemory }
+{}
+
+/// A law: where a text does not say which part a folder has, the fault is never want of memory.
+pub fn parts_want_no_memory()
+    ensures { PartsWantNoMemory }
 {}
 
 /// A law: whatever the words and whichever files are told, the answer without a text is not due.
@@ -49,4 +60,15 @@ pub fn never_due()
 /// A law: a text that is due has a status of 0 to 3, or 7.
 pub fn texts_are_done()
     ensures { TextsAreDone }
+{}
+
+/// A law: whatever the words and whichever files are told, the answer without a text is not due to the program that cuts recordings
+/// and merges reports.
+pub fn shards_never_due()
+    ensures { ShardsNeverDue }
+{}
+
+/// A law: what is due to that program has a status of 0 to 3, or 7.
+pub fn shards_are_done()
+    ensures { ShardsAreDone }
 {}

@@ -5,7 +5,8 @@
 mod laws;
 
 pub use laws::{
-    contents_want_no_memory, lines_want_no_memory, never_due, properties_want_no_memory,
-    recordings_want_no_memory, replays_want_no_memory, reports_want_no_memory,
-    schedules_want_no_memory, texts_are_done, traces_want_no_memory,
+    contents_want_no_memory, instances_want_no_memory, lines_want_no_memory, never_due,
+    parts_want_no_memory, properties_want_no_memory, recordings_want_no_memory,
+    replays_want_no_memory, reports_want_no_memory, schedules_want_no_memory, shards_are_done,
+    shards_never_due, texts_are_done, traces_want_no_memory,
 };

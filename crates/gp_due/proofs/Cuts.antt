@@ -1,10 +1,8 @@
 -- What is wrong with a part is told by a text, and so is a cut.
 use Rattle.std.proofs.Common.{ℕ, Bool, true, false, List, Option, Some, None, find, option_map, if◌then◌else◌, nat_lt}
 use Rattle.std.specs.Prelude.{IfSome}
-use Rattle.gp_cut.specs.Parts.{part_of, weights_of}
 use Rattle.gp_files.specs.MadeFileForm.{MadeFileForm}
 use Rattle.gp_outside.specs.Folders.{File}
-use Rattle.gp_predict.specs.declared.reply.Reply.{Reply}
 use Rattle.gp_predict.specs.Refusal.{properties_refusal}
 use Rattle.gp_report.specs.declared.fault.ReportFault.{ReportFault}
 use Rattle.gp_report.specs.declared.fault.ReportFault.TheVariants as report
@@ -19,7 +17,7 @@ use Rattle.gp_window.specs.declared.file_name.FileName.{FileName}
 use Rattle.gp_window.specs.declared.file_name.FileName.TheVariants as file
 use Rattle.gp_window.specs.RecordingForm.{RecordingForm}
 use Rattle.gp_words.specs.Sharding.{CutForm}
-use Rattle.gp_shards.specs.Cutting.{cutting_at, cutting_of, cutting_with, is_too_long, length_fault, part_files, properties_text, shard_of, within_limits}
+use Rattle.gp_shards.specs.Cutting.{cutting_at, cutting_with, is_too_long, length_fault, part_files, properties_text, shard_of, within_limits}
 use Rattle.gp_shards.specs.Refusing.{content_refusal, part_refusal, report_refusal, shard_refusal, text_in, unless_wrong}
 use Rattle.gp_shards.specs.declared.refusal.PartFault.{PartFault}
 use Rattle.gp_shards.specs.declared.refusal.PartFault.TheVariants as wrong

@@ -1,8 +1,6 @@
 -- The instances of a property are not listed where they are too many.
-use Rattle.std.proofs.Common.{ℕ, length, nat_lt}
+use Rattle.std.proofs.Common.{length, nat_lt}
 use Rattle.gp_instance.specs.Instances.{due_instances, instances_of}
-use Rattle.gp_property.specs.PropertyForm.{PropertyForm}
-use Rattle.gp_window.specs.WindowForm.{WindowForm}
 use Rattle.gp_due.specs.Readers.{InstancesWantNoMemory}
 use Rattle.gp_due.proofs.Results as of
 

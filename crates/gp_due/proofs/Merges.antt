@@ -1,5 +1,5 @@
 -- The reports of all parts are told, or are refused by a text.
-use Rattle.std.proofs.Common.{ℕ, zero, suc, ◌+◌, ◌++◌, ◌==◌, Bool, List, [], ◌∷◌, find, length}
+use Rattle.std.proofs.Common.{ℕ, zero, suc, ◌+◌, ◌++◌, ◌==◌, List, [], ◌∷◌, find, length}
 use Rattle.std.specs.List.{list_any}
 use Rattle.gp_merge.specs.declared.merging.PartReport.{PartReport}
 use Rattle.gp_outside.specs.Folders.{File}
@@ -10,7 +10,7 @@ use Rattle.gp_window.specs.declared.file_name.FileName.TheVariants as file
 use Rattle.gp_window.specs.RecordingForm.{RecordingForm}
 use Rattle.gp_words.specs.Sharding.{MergeForm}
 use Rattle.gp_shards.specs.Cutting.{shard_of}
-use Rattle.gp_shards.specs.Merging.{all_in_order, are_other_parts, are_same_windows, content_in, folder_at, folder_behind, folder_fault, folders_from, in_order, is_of_part, is_other_budget, is_other_format, part_at, part_behind, parts_at, parts_from, parts_in, parts_of, report_fault, report_in, shard_in}
+use Rattle.gp_shards.specs.Merging.{are_other_parts, are_same_windows, content_in, folder_at, folder_behind, folder_fault, folders_from, in_order, is_of_part, is_other_budget, is_other_format, part_at, part_behind, parts_at, parts_from, parts_in, parts_of, report_fault, report_in, shard_in}
 use Rattle.gp_shards.specs.PartFolders.{PartFolderForm}
 use Rattle.gp_shards.specs.Refusing.{content_refusal, missing, report_refusal, shard_refusal}
 use Rattle.gp_due.specs.Saying.{OnlySays}

@@ -1,5 +1,6 @@
 // The definitions of what is due never give the answer without a text, which stands for want of memory and for a fault of the
-// folder: a law for each reader, whose fault says something of the files, and above these one for what is due to a run.
+// folder: a law for each reader, whose fault says something of the files, and above these the laws of what is due to a run of the
+// program that analyses, and of the one that cuts and merges.
 #![tactic(auto)]
 
 mod laws;

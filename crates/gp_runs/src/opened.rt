@@ -43,11 +43,16 @@ fn note(opened: &mut Vec<u8>, name: &str) -> Result<(), AllocError> {
 type Row<'a> = (&'a str, &'a str);
 
 const RECORDING: &str = "d/manifest d/t1.trace d/t2.trace ";
+
 const ASKED: &str = "d/manifest d/t1.trace d/t2.trace d/props ";
+
 const SUBMITTED: &str = "d/manifest d/t1.trace d/t2.trace d/props d/report ";
 
 const TASKS: [Row; 10] = [
-    ("--task=replay", "d/manifest d/t1.trace d/t2.trace d/schedule "),
+    (
+        "--task=replay",
+        "d/manifest d/t1.trace d/t2.trace d/schedule ",
+    ),
     ("--task=list", ASKED),
     ("--task=analyse", ASKED),
     ("--task=notify", ASKED),
@@ -77,7 +82,11 @@ const REFUSED: [Broken; 8] = [
 fn files_with(rt: &impl Abort, alloc: Global, broken: &str) -> MemoryFolder {
     let mut texts = Vec::new(alloc);
     for (path, text) in FILES.as_slice() {
-        let text = if *path == broken { "none of the forms\n" } else { *text };
+        let text = if *path == broken {
+            "none of the forms\n"
+        } else {
+            *text
+        };
         texts.push((*path, text)).expect(rt, "memory");
     }
     let files = folder_of(rt, alloc, texts.as_slice());

@@ -163,13 +163,14 @@ static void note_confirmed(const struct question *question, const char *verdict,
     fclose(file);
 }
 
-static void print_cycle(const struct plan *plan, const struct follow *follow) {
+static void print_cycle(const struct question *question, const struct plan *plan, const struct follow *follow) {
     for (uint32_t i = 0; i < follow->waiters; i++) {
         size_t move = 0;
         while (plan->moves[move].kind != ATTEMPT || plan->moves[move].thread != follow->waiter[i]) move++;
         const struct telling *telling = &plan->tellings[move];
-        printf("thread %u waits at %u.%u for the lock %s, which thread %u holds\n", follow->waiter[i], telling->pick.thread,
-               telling->pick.index, name_text(telling->event->name), follow->holder[i]);
+        printf("thread %u waits at %u.%u", follow->waiter[i], telling->pick.thread, telling->pick.index);
+        print_spot(question->folder, question->window, telling->pick.thread, telling->pick.index);
+        printf(" for the lock %s, which thread %u holds\n", name_text(telling->event->name), follow->holder[i]);
     }
 }
 
@@ -180,7 +181,7 @@ static int print_confirmed(const struct question *question, const struct plan *p
     char ended[256];
     text_of_ending(ended, sizeof ended, log, ending);
     printf("%s\n", verdict);
-    if (plan->is_cycle) print_cycle(plan, follow);
+    if (plan->is_cycle) print_cycle(question, plan, follow);
     if (plan->moved)
         printf("%u times a sleep came before a notify that the schedule has before it, at once with its release\n", plan->moved);
     if (follow->freed) printf("%u reads of memory that was freed found other values than recorded\n", follow->freed);

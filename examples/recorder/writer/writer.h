@@ -120,6 +120,8 @@ struct spot {
 /* Of the functions that were built into each other at an address of the file, the innermost of the user's own files, or
  * else the innermost; false where nothing is known of it. */
 bool find_spot(const struct debug *debug, uint64_t address, struct spot *spot);
+/* Prints the place of an event in a window of a recording, in parentheses, where its folder tells it. */
+void print_spot(const char *folder, unsigned long window, unsigned thread, unsigned index);
 /* What begins at an address of the file; false where nothing is known of it. */
 bool find_variable(const struct debug *debug, uint64_t address, struct told *told);
 /* The place of a call behind which the program goes on at an address of the file. */

@@ -79,8 +79,8 @@ pub fn told_is_accepted()
     resumed_is_accepted();
 }
 
-/// A law: what two runs keep never contradicts each other, where both are of one recording and the same properties: whatever the
-/// task, its workers, its budget and the old report from which it goes on.
+/// A law: what two runs keep never contradicts each other, where both are of one recording and the same properties and of tasks
+/// that ask the same, as analyse and resume do: whatever their workers, their budgets and the old reports from which they go on.
 pub fn runs_agree()
     ensures { RunsAgree }
 {

@@ -195,7 +195,7 @@ next_blocked window state first [] blocked_all = tt
 next_blocked window state first (last ∷ []) blocked_all = (blocked_all.turn, tt)
 next_blocked window state first (one ∷ other ∷ rest) blocked_all = (blocked_all.0.turn, next_blocked window state first (other ∷ rest) blocked_all.1)
 
-around_next : (window : WindowForm) (state : State) (ids : List EventId) → BlockAround window state ids → AreNext state ids
+pub around_next : (window : WindowForm) (state : State) (ids : List EventId) → BlockAround window state ids → AreNext state ids
 around_next window state [] around = absurd around
 around_next window state (first ∷ rest) around = next_blocked window state first (first ∷ rest) around
 

@@ -2,6 +2,7 @@ pub mod Blocked
 pub mod Chains
 pub mod Complete
 pub mod Events
+pub mod Forever
 pub mod Found
 pub mod Limit
 pub mod Lists

@@ -1,5 +1,5 @@
 -- What is true of cycles and of the answers to their queries.
-use Rattle.std.specs.Prelude.{◌≡◌, ◌↔◌, true, List, [], Contains}
+use Rattle.std.specs.Prelude.{◌≡◌, ◌↔◌, true, List, [], ◌++◌, Contains}
 use Rattle.gp_clause.specs.Problem.{IsValidQuery}
 use Rattle.gp_clause.specs.Valuation.{Meets}
 use Rattle.gp_clause.specs.declared.valuation.Valuation.{Valuation}
@@ -15,7 +15,7 @@ use Rattle.gp_constraint.specs.ByPlace.{IsByPlace}
 use Rattle.gp_constraint.specs.ScheduleModels.{ScheduleModel}
 use Rattle.gp_stuck.specs.Cycle.{is_cycle}
 use Rattle.gp_stuck.specs.Cycles.{cycles_of}
-use Rattle.gp_stuck.specs.Stuck.{AreNext, BlockAround, EndsStuck, IsStuck}
+use Rattle.gp_stuck.specs.Stuck.{AreNext, BlockAround, EndsStuck, IsStuck, WaitForEver}
 use Rattle.gp_stuck.specs.StuckQuery.{stuck_query_of}
 
 -- the list has exactly the cycles, each before those that follow it
@@ -30,6 +30,14 @@ pub record CyclesBlock : Type 0 where
       → Runs window (start_state window) schedule last → AreNext last ids → BlockAround window last ids
   pub stuck : (window : WindowForm) (ids : List EventId) → IsWindow window → is_cycle window ids ≡ true
       → IsStuck window ids ↔ ((schedule : List EventId) × EndsStuck window ids schedule)
+
+-- once the events of a cycle block one another they do so for ever: each feasible schedule that goes on from there ends stuck
+-- too, and none has one of them, or a later event of its thread
+pub record StuckCyclesWaitForEver : Type 0 where
+  pub stay : (window : WindowForm) (ids schedule more : List EventId) → IsWindow window → is_cycle window ids ≡ true
+      → EndsStuck window ids schedule → IsFeasible window (schedule ++ more) → EndsStuck window ids (schedule ++ more)
+  pub wait : (window : WindowForm) (ids schedule : List EventId) → IsWindow window → is_cycle window ids ≡ true
+      → EndsStuck window ids schedule → WaitForEver window ids schedule
 
 -- the executed events of an answer to the query of a cycle end stuck by their places, where they are feasible
 abbrev pub StuckAnswersAreSound : Type 0

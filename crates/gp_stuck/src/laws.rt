@@ -1,5 +1,5 @@
 ghost use Rattle.gp_stuck.specs.Examples.{ExamplesHold};
-ghost use Rattle.gp_stuck.specs.Laws.{CyclesAreListed, CyclesBlock, StuckAnswersAreSound, StuckQueriesAreValid, StuckSchedulesAreComplete};
+ghost use Rattle.gp_stuck.specs.Laws.{CyclesAreListed, CyclesBlock, StuckAnswersAreSound, StuckCyclesWaitForEver, StuckQueriesAreValid, StuckSchedulesAreComplete};
 
 use gp_replay::{events_are_counted, holds_are_traced, threads_are_started};
 
@@ -16,6 +16,15 @@ pub fn cycles_block()
 {
     holds_are_traced();
     threads_are_started();
+}
+
+/// Once a cycle is stuck, no schedule that goes on from there executes one of its events, or a later event of
+/// one of its threads in the window.
+pub fn stuck_cycles_wait_for_ever()
+    ensures { StuckCyclesWaitForEver }
+{
+    cycles_block();
+    events_are_counted();
 }
 
 /// The executed events of an answer to the query of a cycle end with the events of the cycle blocking

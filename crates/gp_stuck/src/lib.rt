@@ -21,7 +21,7 @@ mod waiting;
 pub use cycle_query::stuck_query;
 pub use laws::{
     cycles_are_listed, cycles_block, lists_examples, stuck_answers_are_sound,
-    stuck_queries_are_valid, stuck_schedules_are_complete,
+    stuck_cycles_wait_for_ever, stuck_queries_are_valid, stuck_schedules_are_complete,
 };
 pub use listing::cycles;
 pub use search::MOST_CYCLES;

@@ -148,9 +148,25 @@ fn pattern_lits(
     ensures { IfOk result (λ lits. lits ≡ pattern_lits encoded.now property.now ids.now) }
 {
     let mut lits = Row::new(alloc);
-    push_orders(&mut lits, encoded, property.pattern(), ids)?;
-    push_spans(&mut lits, encoded, property.pattern(), ids)?;
-    Ok(lits)
+    match push_pattern(&mut lits, encoded, property.pattern(), ids) {
+        Ok(()) => Ok(lits),
+        Err(error) => {
+            drop(lits);
+            Err(error)
+        }
+    }
+}
+
+fn push_pattern(
+    lits: &mut Row<SymbolicLit>,
+    encoded: &Encoded,
+    pattern: &[PatternStep],
+    ids: &[EventId],
+) -> Result<(), AllocError>
+    ensures { OnOk result (lits.new ≡ lits.old ++ orders_from encoded.now [] (groups_of pattern.now ids.now) ++ flat_map (spans_in encoded.now) (groups_of pattern.now ids.now)) }
+{
+    push_orders(lits, encoded, pattern, ids)?;
+    push_spans(lits, encoded, pattern, ids)
 }
 
 /// Each event of a step before each event of the next step.

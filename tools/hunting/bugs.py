@@ -37,7 +37,8 @@ class Bug:
 
     def __init__(self, property_, roles, names):
         self.property, self.roles, self.names = property_, roles, names
-        self.findings, self.verdict, self.known, self.story = [], '', False, ''
+        self.findings, self.verdict, self.known, self.story, self.told = [], '', False, '', []
+        self.shown, self.stops = None, []
 
     def add(self, seed, finding, order):
         """A finding in the recording of a seed, whose events in this order are those of the roles."""
@@ -46,6 +47,11 @@ class Bug:
     @property
     def seeds(self):
         return sorted({seed for seed, _, _ in self.findings})
+
+    def stops_as(self, run, locks_of):
+        """Whether a run that came to a stop shows this deadlock: its threads wait for the locks of a finding."""
+        locks = {role for role in run.roles if role.startswith('lock.')}
+        return self.property == DEADLOCK and any(locks_of(seed, finding) == locks for seed, finding, _ in self.findings)
 
     @property
     def is_confirmed(self):

@@ -2,16 +2,17 @@
 import html, os
 
 STYLE = '''
-:root { color-scheme: light dark; --line: #8884; --soft: #8882; }
-body { font: 15px/1.5 system-ui, sans-serif; max-width: 75rem; margin: 2rem auto; padding: 0 1rem; }
-table { border-collapse: collapse; width: 100%; }
-th, td { text-align: left; vertical-align: top; padding: .4rem .6rem; border-bottom: 1px solid var(--line); }
+:root { color-scheme: light dark; --line: #8884; --soft: #8888; --mark: #bc4c0022; }
+body { font: 15px/1.5 system-ui, sans-serif; max-width: 80rem; margin: 1.5rem auto; padding: 0 1rem; }
+h1 { font-size: 1.4rem; }
+h2 { font-size: 1.1rem; margin-top: 2rem; }
+table { border-collapse: collapse; }
+th, td { text-align: left; vertical-align: top; padding: .35rem .8rem .35rem 0; border-bottom: 1px solid var(--line); }
 th { font-weight: 600; }
-td.number { text-align: right; }
 code { font: 13px/1.5 ui-monospace, monospace; }
-code.place { display: block; }
+code.place { display: block; white-space: pre-wrap; padding-left: 1rem; text-indent: -1rem; }
 .known { opacity: .6; }
-tr.of { background: var(--soft); font-weight: 600; }
+.of { background: var(--mark); }
 '''
 
 
@@ -33,19 +34,20 @@ def code(text, kind=''):
 
 
 def bug_row(number, bug, recordings):
-    places = ''.join(code('%s %s' % pair, 'place') for pair in zip(bug.names, bug.told)) or html.escape(' '.join(bug.roles))
+    places = ''.join(code('%s: %s' % pair, 'place') for pair in zip(bug.names, bug.told)) or code(' '.join(bug.roles))
     story = '<a href="%s">story</a>' % html.escape(bug.story, True) if bug.story else ''
-    verdict = html.escape('known' if bug.known else bug.verdict)
+    verdict = html.escape('known' if bug.known else bug.verdict or 'not tried')
     often = '%d in %d of %d' % (len(bug.findings), len(bug.seeds), recordings)
     return 'known' if bug.known else '', [str(number), code(bug.property), places, often, verdict, story]
 
 
-def index(title, bugs, recordings, notes):
+def index(command, summary, bugs, recordings, notes):
     """The page for all: the bugs by number, and behind the table what else there is to know."""
-    heads = ['', 'question', 'places', 'how often, in how many recordings', 'on the program', '']
-    body = table(heads, [bug_row(number, bug, recordings) for number, bug in bugs])
+    heads = ['', 'question', 'places', 'found, in recordings', 'on the program', '']
     told = ''.join('<li>%s</li>\n' % html.escape(note) for note in notes)
-    return page(title, body + ('\n<h2>Beside that</h2>\n<ul>\n%s</ul>' % told if told else ''))
+    body = '<p>%s</p>\n<p>%s</p>\n' % (code(command), html.escape(summary))
+    body += table(heads, [bug_row(number, bug, recordings) for number, bug in bugs]) if bugs else ''
+    return page('hunt', body + ('\n<h2>Beside that</h2>\n<ul>\n%s</ul>' % told if told else ''))
 
 
 def source_line(source, place):
@@ -76,4 +78,4 @@ def story(title, recording, finding, source, end):
         text = told_place(source, place, event) if place else ''
         rows.append(('of' if name in finding.events else '', [str(number), code(name), code(' '.join(event)), code(text)]))
     ends = ''.join('<li>%s</li>\n' % html.escape(line) for line in end)
-    return page(title, table(['', 'event', '', 'where'], rows) + '\n<ul>\n%s</ul>' % ends)
+    return page(title, table(['', 'event', 'what it does', 'where'], rows) + '\n<ul>\n%s</ul>' % ends)

@@ -18,8 +18,10 @@ TakesNone own = taken_entries own.log ≡ []
 -- where the one worker shares nothing, nothing is shared
 pub nothing_shared : {E : Type 0} (own : WorkerRecord) (result : Result WindowWork E) → own.offered ≡ [] → taken_entries own.log ≡ [] → IfOk result (λ work. work.records ≡ own ∷ []) → IfOk result (λ work. work.passes ≡ []) → IfOk result WorksAlone
 nothing_shared own (Ok work) offers_none takes_none records passes = record {
-  offers = subst (All OffersNone) (sym records) (All-cons OffersNone own [] offers_none (All-nil OffersNone));
-  taken = subst (All TakesNone) (sym records) (All-cons TakesNone own [] takes_none (All-nil TakesNone));
+  records = record {
+    offers = subst (All OffersNone) (sym records) (All-cons OffersNone own [] offers_none (All-nil OffersNone));
+    taken = subst (All TakesNone) (sym records) (All-cons TakesNone own [] takes_none (All-nil TakesNone));
+  };
   passes = passes;
 }
 nothing_shared own (Err error) offers_none takes_none records passes = tt

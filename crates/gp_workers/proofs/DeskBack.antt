@@ -18,11 +18,12 @@ use Rattle.gp_inbox.specs.declared.rule.View.{View}
 use Rattle.gp_workers.specs.declared.desk.Desk.{Desk}
 use Rattle.gp_workers.specs.declared.desk.Outgoing.{Outgoing}
 use Rattle.gp_search.specs.Mail.{Offers, taken_entry}
-use Rattle.gp_workers.specs.Desk.{clauses_of, IsDesk, Knows, offers_of, PassesAre, sent_of, taken_by, told_by}
-use Rattle.gp_workers.specs.Sharing.{clause_of, mark_for, pushed_to, where_pushed}
+use Rattle.gp_workers.specs.Desk.{clauses_of, IsDesk, Knows, offers_of, PassesAre, sent_of, taken_by, taken_of, told_by}
+use Rattle.gp_workers.specs.Sharing.{clause_of, mark_for, others, pushed_to, where_pushed}
 use Rattle.gp_workers.specs.Mail.{IsToOffer, OffersLearned, SharesSoFar, taken_entries}
 use Rattle.gp_workers.specs.SharedCrew.{IsShared}
 use Rattle.gp_workers.proofs.DeskPasses.{passes_know}
+use Rattle.gp_workers.proofs.DeskFrom.{takes_from}
 
 -- what stands behind a front
 got_middle : {X : Type 0} (front : List X) (x : X) (rest : List X) → slice_get (front ++ x ∷ rest) (length front) ≡ Some x
@@ -121,6 +122,7 @@ handed_back desk old new passes is shares logs offered same = record {
       (λ taker seen. Knows desk.problem.now (length desk.inboxes.now) desk.place taker (pushed_to new desk.place taker) seen) desk.passes.items is.passes
       (λ taker seen within knows. knows_pushed_to desk.problem.now (length desk.inboxes.now) desk.place taker (sent_of desk.outgoing.items) (pushed_to new desk.place taker) seen (λ apart. sent taker within apart) knows));
   taken = (λ i. map taken_entry (taken_by (slice_get (same i) desk.place))) ∙ shares.gave ∙ ap taken_entries (sym logs);
+  from = takes_from (others (length desk.inboxes.now) desk.place) new.log (taken_of desk) is.from (shares.gave ∙ ap taken_entries (sym logs));
 }
   where
     sent : (taker : ℕ) → taker < length desk.inboxes.now → (taker ≡ desk.place → ⊥) → pushed_to new desk.place taker ≡ sent_of desk.outgoing.items

@@ -15,6 +15,7 @@ mod InboxJoins
 mod InboxRows
 mod InboxColumns
 mod PostRenewed
+mod DeskFrom
 mod DeskBack
 mod CrewAlone
 mod SharedCrew

@@ -73,6 +73,7 @@ prefix_of problem count records place other own one seen out within apart got_ow
 pub takes_prefixes : TakesPrefixes
 takes_prefixes problem count records passes all = record {
   offers = all.offers;
+  from = all.from;
   prefixes = λ place other own one apart got_own got_one.
       let own_within = slice_get_within records place own got_own in
       let one_within = slice_get_within records other one got_one in

@@ -4,7 +4,7 @@ use Rattle.std.specs.List.{slice_get}
 use Rattle.std.specs.Global.{Vec}
 use Rattle.std.proofs.lemmas.List.{length-map}
 use Rattle.std.proofs.lemmas.List.Elements.{All-cons, All-nil}
-use Rattle.std.proofs.lemmas.Option.{slice_get_within}
+use Rattle.std.proofs.lemmas.Option.{same_Some, slice_get_within}
 use Rattle.crossbeam_queue.specs.Passes.{Pass, view}
 use Rattle.gp_clause.specs.declared.problem.Problem.{Problem}
 use Rattle.gp_clause.specs.declared.problem.Query.{Query}
@@ -26,7 +26,7 @@ use Rattle.gp_workers.specs.SharedCrew.{AreHandedBack, IsHandedBack, Drains}
 use Rattle.gp_workers.specs.Inboxes.{AreJoined, AreRows, DrainsAt, IsOfEach}
 use Rattle.gp_workers.specs.Record.{EachOnce, IsWorkerRecord}
 use Rattle.gp_workers.specs.Work.{AnswerEach, IsWork}
-use Rattle.gp_workers.specs.Sharing.{AllShared, IsHandedOut, OffersAll, others, pushed_to}
+use Rattle.gp_workers.specs.Sharing.{AllShared, IsHandedOut, OffersAll, others, pushed_to, TakesFromOthers}
 use Rattle.gp_workers.proofs.SharedViews.{all_numbers, all_sent, all_taken, AreSeen, joined_with, numbers_at, one_takes, others_at, pushed_at, seen_at, seen_by, SeenBy, taken_at, takes_at, with_all}
 
 -- a place within a list has an element
@@ -60,6 +60,15 @@ module _ (tickets : Tickets) (problem : Problem) (queries : List Query) (budget 
   all_offer place [] back = All-nil (OffersAll problem (length inboxes))
   all_offer place (shared ∷ crew) back =
       All-cons (OffersAll problem (length inboxes)) shared.worked.record (map (λ (worked : Worked). worked.record) (map (λ (one : Shared). one.worked) crew)) back.0.shares.offers (all_offer (place + 1) crew back.1)
+
+  -- each took only from the others
+  pub all_from : (place k at : ℕ) (crew : List Shared) (own : WorkerRecord) → AreHandedBack tickets problem queries budget inboxes place crew → at ≡ place + k → slice_get (map (λ (shared : Shared). shared.worked.record) crew) k ≡ Some own
+      → TakesFromOthers (length inboxes) at own.log
+  all_from place k at [] own back is got = absurd (cc)
+  all_from place zero at (shared ∷ crew) own back is got =
+      let here : place ≡ at = omega (arith, is) in
+      subst (λ (p : ℕ × WorkerRecord). TakesFromOthers (length inboxes) p.0 p.1.log) (λ i. (here i, same_Some shared.worked.record own got i)) back.0.shares.from
+  all_from place (suc k) at (shared ∷ crew) own back is got = all_from (place + 1) k at crew own back.1 (omega (arith, is)) got
 
   -- what the passes of the inbox at a place know
   seen_of : (place own : ℕ) (shared : Shared) → IsHandedBack tickets problem queries budget inboxes own shared → place < length inboxes → SeenBy problem (length inboxes) place own shared
@@ -171,6 +180,8 @@ module _ (tickets : Tickets) (problem : Problem) (queries : List Query) (budget 
     all_shared records records_are = record {
       workers = ap (λ (rs : List WorkerRecord). length rs) (records_are ∙ records_of crew) ∙ length-map crew (λ (shared : Shared). shared.worked.record) ∙ counted;
       offers = subst (All (OffersAll problem (length inboxes))) (sym records_are) (all_offer tickets problem queries budget inboxes 0 crew back);
+      from = λ place own got.
+          all_from tickets problem queries budget inboxes 0 place place crew own back (omega arith) (subst (λ (rs : List WorkerRecord). slice_get rs place ≡ Some own) (records_are ∙ records_of crew) got);
       inboxes = own.len;
       each = λ place pass got.
           let drains : DrainsAt joined place pass = each place pass got in

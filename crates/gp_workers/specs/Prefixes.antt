@@ -9,7 +9,7 @@ use Rattle.gp_derivation.specs.declared.log.Origin.TheVariants.{Learned, Taken}
 use Rattle.gp_derivation.specs.declared.exchange.SharedClause.{SharedClause}
 use Rattle.gp_derivation.specs.declared.record.WorkerRecord.{WorkerRecord}
 use Rattle.gp_inbox.specs.declared.rule.View.{View}
-use Rattle.gp_workers.specs.Sharing.{AllShared, OffersAll, pushed_to}
+use Rattle.gp_workers.specs.Sharing.{AllShared, OffersAll, pushed_to, TakesFromOthers}
 
 -- whether an origin is that of an entry that was taken from the worker of a number
 abbrev pub was_taken_from : ℕ → Origin → Bool
@@ -24,10 +24,11 @@ taken_from number log = map (λ (entry : LogEntry). entry.step.clause) (filter (
 abbrev pub BeginsWith : List (List Lit) → List (List Lit) → Type 0
 BeginsWith clauses front = (more : List (List Lit)) × (front ++ more ≡ clauses)
 
--- the records of so many workers tell what passed between them: each offers all that is fit to share, and what one of them
--- took from another is a prefix of what the other's record marks as pushed to it
+-- the records of so many workers tell what passed between them: each offers all that is fit to share and took only from the
+-- others, and what one of them took from another is a prefix of what the other's record marks as pushed to it
 pub record AreSharing (problem : Problem) (count : ℕ) (records : List WorkerRecord) : Type 0 where
   pub offers : All (OffersAll problem count) records
+  pub from : (place : ℕ) (own : WorkerRecord) → slice_get records place ≡ Some own → TakesFromOthers count place own.log
   pub prefixes : (place other : ℕ) (own one : WorkerRecord) → (other ≡ place → ⊥) → slice_get records place ≡ Some own → slice_get records other ≡ Some one
       → BeginsWith (pushed_to one other place) (taken_from (other + 1) own.log)
 

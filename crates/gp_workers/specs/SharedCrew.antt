@@ -15,7 +15,7 @@ use Rattle.gp_workers.specs.declared.crew.SharingJob.{SharingJob}
 use Rattle.gp_tickets.specs.declared.tickets.Tickets.{Tickets}
 use Rattle.gp_workers.specs.Crew.{IsJob, IsDone}
 use Rattle.gp_workers.specs.Desk.{Knows, PassesAre, taken_by}
-use Rattle.gp_workers.specs.Sharing.{OffersAll, pushed_to}
+use Rattle.gp_workers.specs.Sharing.{OffersAll, pushed_to, TakesFromOthers}
 use Rattle.gp_workers.specs.Mail.{taken_entries}
 use Rattle.gp_clause.specs.declared.problem.Query.{Query}
 use Rattle.gp_workers.specs.declared.crew.Shared.{Shared}
@@ -44,11 +44,12 @@ pub record AreHired (problem : Problem) (count workers : ℕ) (hired : Hired) : 
   pub own_jobs : length hired.jobs.items ≡ workers
   pub each : AreSharingJobs hired.tickets problem hired.inboxes.items hired.jobs.items
 
--- what the worker at a place hands back: its passes know what its record marks as pushed, and what its log took
+-- what the worker at a place hands back: its passes know what its record marks as pushed, and what its log took from the others
 pub record IsShared (problem : Problem) (inboxes : List Inbox) (place : ℕ) (record_of : WorkerRecord) (passes : List (Pass SharedClause View)) : Type 0 where
   pub offers : OffersAll problem (length inboxes) record_of
   pub each : PassesAre inboxes (λ taker seen. Knows problem (length inboxes) place taker (pushed_to record_of place taker) seen) passes
   pub taken : map taken_entry (taken_by (slice_get passes place)) ≡ taken_entries record_of.log
+  pub from : TakesFromOthers (length inboxes) place record_of.log
 
 -- the same work, but for what was offered
 pub record SameButOffers (old new : Worked) : Type 0 where

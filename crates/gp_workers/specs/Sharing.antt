@@ -1,11 +1,13 @@
 -- What passes between the workers of a window, as their records and the passes of their inboxes tell it.
-use Rattle.std.specs.Prelude.{ℕ, ◌≡◌, ◌+◌, ◌-◌, ◌<◌, ◌≤◌, nat_lt, if◌then◌else◌, Option, None, Some, List, [], ◌∷◌, ◌++◌, length, map, flat_map, slice_get, replicate, All}
+use Rattle.std.specs.Prelude.{ℕ, ◌≡◌, ◌+◌, ◌-◌, ◌<◌, ◌≤◌, nat_lt, if◌then◌else◌, Option, None, Some, List, [], ◌∷◌, ◌++◌, length, map, flat_map, slice_get, replicate, All, Contains}
 use Rattle.std.specs.List.{range_with_len}
 use Rattle.crossbeam_queue.specs.Passes.{Pass, view}
 use Rattle.gp_clause.specs.declared.lit.Lit.{Lit}
 use Rattle.gp_clause.specs.declared.problem.Problem.{Problem}
 use Rattle.gp_derivation.specs.declared.exchange.SharedClause.{SharedClause}
 use Rattle.gp_derivation.specs.declared.log.LogEntry.{LogEntry}
+use Rattle.gp_derivation.specs.declared.log.Origin.{Origin}
+use Rattle.gp_derivation.specs.declared.log.Origin.TheVariants.{Learned, Taken}
 use Rattle.gp_derivation.specs.declared.record.Offered.{Offered}
 use Rattle.gp_derivation.specs.declared.record.Sent.{Sent}
 use Rattle.gp_derivation.specs.declared.record.Sent.TheVariants.{Pushed, Full}
@@ -51,6 +53,15 @@ pub record OffersAll (problem : Problem) (count : ℕ) (own : WorkerRecord) : Ty
   pub entries : map (λ (one : Offered). one.entry) own.offered ≡ map (λ (one : ℕ × List Lit). one.0) offered
   pub marked : AreMarked count own.offered
 
+-- where an origin is that of a taken entry, it names one of the workers of these numbers
+abbrev pub IsFromOneOf : List ℕ → Origin → Type 0
+IsFromOneOf numbers Learned = Unit {0}
+IsFromOneOf numbers (Taken sender certificate) = Contains numbers sender
+
+-- the worker at a place took each taken entry of its log from one of the others of so many workers
+abbrev pub TakesFromOthers : ℕ → ℕ → List LogEntry → Type 0
+TakesFromOthers count place log = All (λ (entry : LogEntry). IsFromOneOf (others count place) entry.origin) log
+
 -- what the pass that is handed out for the inbox of the worker at a place knows, beside the records of all workers: of each
 -- other worker what its record marks as pushed, all of which was taken; and first that which the worker's own log took
 pub record IsHandedOut (problem : Problem) (count : ℕ) (records : List WorkerRecord) (place : ℕ) (seen : View) : Type 0 where
@@ -62,15 +73,21 @@ pub record IsHandedOut (problem : Problem) (count : ℕ) (records : List WorkerR
   pub first : (own : WorkerRecord) → slice_get records place ≡ Some own
       → (front : List SharedClause) × (more : List SharedClause) × (seen.taken ≡ front ++ more) × (map taken_entry front ≡ taken_entries own.log)
 
--- so many workers, two or more, offered all that is fit to share by their records, and the pass of each inbox is handed out
+-- so many workers, two or more, offered all that is fit to share by their records, each took only from the others, and the pass
+-- of each inbox is handed out
 pub record AllShared (problem : Problem) (count : ℕ) (records : List WorkerRecord) (passes : List (Pass SharedClause View)) : Type 0 where
   pub workers : length records ≡ count
   pub offers : All (OffersAll problem count) records
+  pub from : (place : ℕ) (own : WorkerRecord) → slice_get records place ≡ Some own → TakesFromOthers count place own.log
   pub inboxes : length passes ≡ count
   pub each : (place : ℕ) (pass : Pass SharedClause View) → slice_get passes place ≡ Some pass → IsHandedOut problem count records place (view pass)
 
--- nothing was offered, and nothing was taken
+-- by these records nothing was offered, and nothing was taken
+pub record ShareNothing (records : List WorkerRecord) : Type 0 where
+  pub offers : All (λ (own : WorkerRecord). own.offered ≡ []) records
+  pub taken : All (λ (own : WorkerRecord). taken_entries own.log ≡ []) records
+
+-- nothing was offered, nothing was taken, and there is no inbox
 pub record WorksAlone (work : WindowWork) : Type 0 where
-  pub offers : All (λ (own : WorkerRecord). own.offered ≡ []) work.records
-  pub taken : All (λ (own : WorkerRecord). taken_entries own.log ≡ []) work.records
+  pub records : ShareNothing work.records
   pub passes : work.passes ≡ []

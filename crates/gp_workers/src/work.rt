@@ -48,8 +48,8 @@ pub fn certificate_by(
     cone(alloc, base_clauses, own.log.as_slice(), last)
 }
 
-/// A law: the records of workers that shared all offer all that is fit to share, and what one of them took from another is a
-/// prefix of what the other's record marks as pushed to it.
+/// A law: the records of workers that shared all offer all that is fit to share, each took only from the others, and what one of
+/// them took from another is a prefix of what the other's record marks as pushed to it.
 pub fn takes_prefixes()
     ensures { TakesPrefixes }
 {}

@@ -31,6 +31,7 @@ use Rattle.gp_window.specs.WindowForm.{WindowForm}
 use Rattle.gp_workers.specs.declared.work.WindowWork.{WindowWork}
 use Rattle.gp_workers.specs.Record.{EachOnce}
 use Rattle.gp_workers.specs.Prefixes.{AreSharing}
+use Rattle.gp_workers.specs.Sharing.{ShareNothing}
 use Rattle.gp_workers.specs.Work.{IsWork}
 use Rattle.gp_clause.specs.declared.problem.Problem.{Problem}
 use Rattle.gp_analysis.specs.declared.question.LeftOut.{LeftOut}
@@ -137,10 +138,10 @@ module _ {Subject Shown : Type 0} (question : QuestionForm Subject Shown) (lists
 -- what is recorded of a window that is not left out, once all its subjects are answered
 pub is_recorded : {Subject Shown : Type 0} (question : QuestionForm Subject Shown) (lists : WindowForm → Subject → List EventId → Type 0) (window : WindowForm) → CanAnswer question lists window
     → (count budget number : ℕ) → count ≤ 16 → (problem : Problem) (queries : List Query) (work : WindowWork) (shared : List Step) (records : List (PropertyRecordOf Shown))
-    → number ≡ window.number → problem ≡ question.problem window → queries ≡ queries_from question window 0 question.subjects → IsWork problem queries count budget work → (2 ≤ count → AreSharing problem count work.records) → shared ≡ question.shared window
+    → number ≡ window.number → problem ≡ question.problem window → queries ≡ queries_from question window 0 question.subjects → IsWork problem queries count budget work → (count ≡ 1 → ShareNothing work.records) → (2 ≤ count → AreSharing problem count work.records) → shared ≡ question.shared window
     → AnswersSubjects question window (known_of question window budget work.records) 0 0 question.subjects records
     → RecordsWindow question count budget window (record { number = number; shared = shared; body = recorded.Answers records; records = work.records })
-is_recorded {Subject} {Shown} question lists window can count budget number most problem queries work shared records at same are is sharing told answers =
+is_recorded {Subject} {Shown} question lists window can count budget number most problem queries work shared records at same are is alone sharing told answers =
     subst (λ (steps : List Step). RecordsWindow question count budget window (record { number = number; shared = steps; body = recorded.Answers records; records = work.records })) (sym told) done
   where
     asked : IsWork (question.problem window) (queries_from question window 0 question.subjects) count budget work
@@ -151,6 +152,7 @@ is_recorded {Subject} {Shown} question lists window can count budget number most
       counted = asked.workers;
       each = asked.records;
       once = subst (λ n. EachOnce n work.records) (queries_count question window 0 question.subjects) asked.once;
+      alone = alone;
       shared = λ two. subst (λ (p : Problem). AreSharing p count work.records) same (sharing two);
     }
 

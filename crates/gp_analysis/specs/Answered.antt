@@ -23,6 +23,7 @@ use Rattle.gp_window.specs.WindowForm.{WindowForm}
 use Rattle.gp_window.specs.Windows.{all_windows}
 use Rattle.gp_workers.specs.Prefixes.{AreSharing}
 use Rattle.gp_workers.specs.Record.{EachOnce, IsWorkerRecord}
+use Rattle.gp_workers.specs.Sharing.{ShareNothing}
 use Rattle.gp_workers.specs.Work.{IsSpentBy}
 use Rattle.gp_analysis.specs.declared.question.LeftOut.{LeftOut}
 use Rattle.gp_analysis.specs.declared.question.LeftOut.TheVariants as out
@@ -40,11 +41,12 @@ abbrev pub known_of : {Subject Shown : Type 0} → QuestionForm Subject Shown �
 known_of question window budget workers = record { budget = budget; shared = question.shared window; workers = workers }
 
 -- what so many workers did in a window: what each took follows from the constraints, its turns cover its log, each
--- ticket stands in exactly one turn of exactly one of them, and two or more share what they learn
+-- ticket stands in exactly one turn of exactly one of them, one alone shares nothing, and two or more share what they learn
 pub record AreWorkers (problem : Problem) (count tickets : ℕ) (workers : List WorkerRecord) : Type 0 where
   pub counted : length workers ≡ count
   pub each : All (IsWorkerRecord problem) workers
   pub once : EachOnce tickets workers
+  pub alone : count ≡ 1 → ShareNothing workers
   pub shared : 2 ≤ count → AreSharing problem count workers
 
 -- what is recorded of a window that is left out: where it is too large its two numbers, and where it is not asked no subject

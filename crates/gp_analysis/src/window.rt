@@ -2,6 +2,7 @@ ghost use Rattle.std.specs.Prelude.{◌≡◌, ◌*◌, ◌≤◌, All, IfOk, No
 ghost use Rattle.gp_clause.specs.Edge.{IsSolvable};
 ghost use Rattle.gp_clause.specs.Problem.{IsValidProblem, IsValidQuery};
 ghost use Rattle.gp_workers.specs.Prefixes.{AreSharing};
+ghost use Rattle.gp_workers.specs.Sharing.{ShareNothing};
 ghost use Rattle.gp_workers.specs.Work.{CanBeAsked, IsWork};
 ghost use Rattle.gp_analysis.specs.Answered.{RecordsLeftOut};
 ghost use Rattle.gp_analysis.specs.Recorded.{CanBeAnswered};
@@ -143,6 +144,7 @@ fn work<R: Threads + Wait + Sync, G: Gate + Sync, Q>(
     requires asked { CanBeAsked problem.now queries.now task.now.budget }
     requires order { IsOrder task.now.workers order }
     ensures work { IfOk result (λ made. IsWork problem.now queries.now task.now.workers task.now.budget made.0) }
+    ensures alone { IfOk result (λ made. task.now.workers ≡ 1 → ShareNothing made.0.records) }
     ensures shared { IfOk result (λ made. 2 ≤ task.now.workers → AreSharing problem.now task.now.workers made.0.records) }
     ensures order { IfOk result (λ made. IsOrder task.now.workers made.1) }
 {

@@ -46,5 +46,5 @@ returns-in-Ok-told_subjects-clause-records g c =
     subst (λ (workers : List WorkerRecord). TellsAll question task.telling window (known_of question window task.budget workers) c.in-Ok-told_subjects.told.shared c.in-Ok-told_subjects.told.body) c.as_slice-2.ensures c.in-Ok-told_subjects.ensures in
     recorded_as question window task.workers task.budget c.number-number.result done.records task.telling c.in-Ok-told_subjects.told.shared c.in-Ok-told_subjects.told.body c.requires.fits
     (λ told answers. is_recorded question lists window can task.workers task.budget c.number-number.result c.requires.workers.1 c.problem-problem.result.now c.as_slice.result.now done (question.shared window) told
-    (c.number-number.ensures.value ∙ ap (λ (w : WindowForm). w.number) c.window_of.ensures) c.problem-problem.ensures (c.as_slice.ensures.value ∙ c.in-Ok.ensures.queries) c.in-Ok-worked.ensures.work c.in-Ok-worked.ensures.shared refl answers)
+    (c.number-number.ensures.value ∙ ap (λ (w : WindowForm). w.number) c.window_of.ensures) c.problem-problem.ensures (c.as_slice.ensures.value ∙ c.in-Ok.ensures.queries) c.in-Ok-worked.ensures.work c.in-Ok-worked.ensures.alone c.in-Ok-worked.ensures.shared refl answers)
     tells

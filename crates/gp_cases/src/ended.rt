@@ -1,5 +1,6 @@
 use crate::case::{Case, words_behind};
 use crate::style::{Style, tell_text};
+use gp_linked::LinkReport;
 use gp_notified::NotifyReport;
 use gp_outside::{FreeGate, MemoryFolder, MemorySink};
 use gp_predict::{Outcome, run};
@@ -35,6 +36,11 @@ impl Ended {
     /// The report of deadlocks that is kept.
     pub fn deadlocks(&self) -> Option<&Report> {
         self.outcome.stuck.as_ref()
+    }
+
+    /// The report of links that is kept.
+    pub fn links(&self) -> Option<&LinkReport> {
+        self.outcome.links.as_ref()
     }
 
     /// The report with signals that is kept.

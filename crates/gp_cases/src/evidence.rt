@@ -1,6 +1,7 @@
 // The certificate of a kept report, checked again over constraints that are made anew.
 mod cycle;
 mod instance;
+mod link;
 mod signals;
 
 use crate::book::Book;
@@ -81,6 +82,9 @@ fn small_properties(alloc: Global, text: &[u8]) -> Option<Row<Property>> {
 fn is_refuted<R: AllocGlobal + Threads + Sync>(rt: &R, book: &Book) -> Option<bool> {
     let case = book.case();
     let ended = book.ended()?;
+    if let Some(report) = ended.links() {
+        return link::refutes_first(rt, case, report.links.as_slice());
+    }
     match (ended.notified(), ended.deadlocks()) {
         (Some(report), _) => {
             signals::refutes_last(rt, case, only_certificate(report.windows.as_slice())?)

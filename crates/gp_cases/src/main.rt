@@ -31,7 +31,8 @@
 //     kept                 prints the report that the last run kept
 //     replay               replays each schedule of that report
 //     signals              says of each of them whether its pairs serve its wakes
-//     refute               checks the one certificate of that report over constraints made anew
+//     refute               checks the one certificate of that report over constraints made anew; of links that of the first window that
+//                          is unlinkable
 //     read PATH            reads a file as a report, and prints it
 //
 // The verbs of the layers below a run stand in `layers.rt`, those of what a window gives the solver in `encodings.rt`.

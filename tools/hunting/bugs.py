@@ -28,8 +28,9 @@ def turns_of(property_, count):
 
 
 def least_turn(words, turns):
-    """The order in which the words come first."""
-    return min(turns, key=lambda order: [words[at] for at in order])
+    """The order in which the words come first, numbers by what they are worth."""
+    parts = [[int(part) if part.isdigit() else part for part in re.split(r'(\d+)', word)] for word in words]
+    return min(turns, key=lambda order: [parts[at] for at in order])
 
 
 class Bug:

@@ -52,7 +52,7 @@ is_asked problem budget work asked is alone answers records =
       worked = All-head (IsWorkerRecord problem) asked.own [] (subst (All (IsWorkerRecord problem)) records is.records);
       once = subst (EachOnce 1) records is.once;
       alone = All-head (λ (own : WorkerRecord). taken_entries own.log ≡ []) asked.own []
-          (subst (All (λ (own : WorkerRecord). taken_entries own.log ≡ [])) records alone.taken);
+          (subst (All (λ (own : WorkerRecord). taken_entries own.log ≡ [])) records alone.records.taken);
     }
 
 alone_in : {X : Type 0} (x : X) (ys : List X) → length ys ≡ 1 → All (λ y. y ≡ x) ys → ys ≡ x ∷ []

@@ -1,5 +1,5 @@
 -- What the calls of an engine change, and what they find.
-use Rattle.std.specs.Prelude.{◌≡◌, ℕ, ◌+◌, ◌-◌, ◌<◌, ◌≤◌, ◌⊎◌, Bool, true, false, if◌then◌else◌, nat_lt, Option, Some, None, List, [], ◌∷◌, ◌++◌, length, map, replicate, Contains, slice_index_or}
+use Rattle.std.specs.Prelude.{◌≡◌, ℕ, ◌+◌, ◌-◌, ◌%◌, ◌<◌, ◌≤◌, ◌⊎◌, Bool, true, false, if◌then◌else◌, nat_lt, Option, Some, None, List, [], ◌∷◌, ◌++◌, length, map, replicate, Contains, slice_index_or}
 use Rattle.std.specs.Arc.{arc_value}
 use Rattle.gp_clause.specs.declared.lit.Lit.{Lit}
 use Rattle.gp_clause.specs.declared.problem.Problem.{Problem}
@@ -120,6 +120,10 @@ pub record IsLearnedStep (problem : Problem) (query : Query) (engine : Engine) (
 pub record IsBackAt (old new : Engine) (level : ℕ) : Type 0 where
   pub keeps : KeepsLog old new
   pub solver : Backjumps old.solver new.solver level
+
+-- a turn begins its decisions anew after every twelfth clause that it learned
+abbrev pub IsRestartDue : ℕ → Type 0
+IsRestartDue learned = learned % 12 ≡ 0
 
 -- the order of decisions after the variables of literals were moved to its front
 abbrev pub raised : List Lit → List ℕ → List ℕ

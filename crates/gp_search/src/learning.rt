@@ -1,10 +1,10 @@
-ghost use Rattle.std.specs.Prelude.{◌≡◌, ◌+◌, ◌<◌, ◌^◌, ◌⊎◌, length, All, OnOk, OnErr, IsTrue, ◌↔◌, true, vec_capacity, vec_len};
+ghost use Rattle.std.specs.Prelude.{◌≡◌, ◌+◌, ◌-◌, ◌<◌, ◌^◌, ◌⊎◌, length, All, OnOk, OnErr, IsTrue, ◌↔◌, true, vec_capacity, vec_len};
 ghost use Rattle.gp_clause.specs.Clause.{NamesBelow};
 ghost use Rattle.gp_sat.specs.Changes.{MayAttach};
 ghost use Rattle.gp_sat.specs.Sound.{IsSound};
 ghost use Rattle.gp_sat.specs.State.{with_clause};
 ghost use Rattle.gp_search.specs.Inside.{IsTurning, IsConflict, most_steps};
-ghost use Rattle.gp_search.specs.Moves.{IsLesson, IsBackAt, KeepsLog, LearnsAndOffers, LearnsOne, raised, RestsOnMarked, is_marked};
+ghost use Rattle.gp_search.specs.Moves.{IsLesson, IsBackAt, KeepsLog, LearnsAndOffers, LearnsOne, raised, RestsOnMarked, is_marked, IsRestartDue};
 
 use crate::asked::Asked;
 use crate::engine::{Conflict, Engine};
@@ -15,6 +15,9 @@ use gp_clause::{Clause, Lit, Problem};
 use gp_derivation::{LogEntry, Origin, log_grows};
 use gp_sat::Solver;
 use std::alloc::AllocError;
+
+// How many clauses a turn learns from one restart to the next.
+const RESTART_INTERVAL: usize = 12;
 
 impl Engine {
     // Learns from a conflict above the assumptions, and offers what is learned where it is fit to share.
@@ -53,7 +56,23 @@ impl Engine {
         let LearnedStep { step, level } = self.learned_step(asked, conflict)?;
         self.back_to(asked, level);
         self.keep(asked, step)?;
+        self.restart(asked);
         Ok(())
+    }
+
+    // Restarts where that is due: takes back what was decided above the assumptions. What was learned stays, and the order.
+    fn restart(&mut self, asked: &Asked<'_>)
+        requires { IsTurning asked.now.problem.now asked.now.query.now self.old }
+        ensures turning { IsTurning asked.now.problem.now asked.now.query.now self.new }
+        ensures same { KeepsLog self.old self.new }
+        ensures order { self.new.solver.order ≡ self.old.solver.order }
+        ensures due { IsRestartDue (length self.old.log.items - self.old.learned) → self.new.solver.level ≡ self.old.assumed }
+        ensures undue { (IsRestartDue (length self.old.log.items - self.old.learned) → ⊥) → self.new ≡ self.old }
+    {
+        let learned = self.log.len().saturating_sub(self.learned);
+        if is_restart_due(learned) && self.assumed < self.solver.level() {
+            self.back_to(asked, self.assumed);
+        }
     }
 
     // Takes back the levels above one, and their bounds.
@@ -138,6 +157,13 @@ fn attach_next(
     pure.reserve(1)?;
     solver.attach(clause)?;
     Ok(())
+}
+
+// Whether a turn restarts once it has learned so many clauses.
+fn is_restart_due(learned: usize) -> bool
+    ensures { IsTrue result ↔ IsRestartDue learned }
+{
+    learned % RESTART_INTERVAL == 0
 }
 
 // Moves the variables of literals to the front of the order of decisions, one after the other.

@@ -1,4 +1,4 @@
-use Rattle.std.proofs.Common.{sym, subst, ◌<◌}
+use Rattle.std.proofs.Common.{◌∙◌, sym, subst, ◌<◌}
 use Rattle.gp_search.specs.declared.engine.Engine.{Engine}
 use Rattle.gp_search.specs.Inside.{IsTurning}
 use Rattle.gp_search.specs.Moves.{IsLearnedStep, IsLesson}
@@ -35,4 +35,12 @@ returns-in_err-keep-clause-err c =
     (keeps_on c.args.self.now c.learned_step.new.self c.back_to.new.self (keeps_same c.args.self.now c.learned_step.new.self c.learned_step.ensures.same) c.back_to.ensures.back.keeps) c.in_err-keep.ensures.err)
 
 pub returns-clause-ok : goal.returns-clause-ok
-returns-clause-ok c = learns_on c.args.self.now c.learned_step.new.self c.back_to.new.self c.keep.new.self _ c.learned_step.ensures.same c.back_to.ensures.back c.in_ok-keep.ensures.ok
+returns-clause-ok c =
+    let learns = learns_on c.args.self.now c.learned_step.new.self c.back_to.new.self c.keep.new.self _ c.learned_step.ensures.same c.back_to.ensures.back c.in_ok-keep.ensures.ok in
+    record {
+      entry = learns.entry;
+      log = c.restart.ensures.same.log ∙ learns.log;
+      begins = c.restart.ensures.same.begins ∙ learns.begins;
+      learned = c.restart.ensures.same.learned ∙ learns.learned;
+      order = c.restart.ensures.order ∙ learns.order;
+    }

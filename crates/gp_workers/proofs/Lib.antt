@@ -10,6 +10,7 @@ mod WorkerLogs
 mod SharedViews
 mod SharedWork
 mod SharedPrefixes
+mod SharedFrom
 mod InboxPlaces
 mod InboxJoins
 mod InboxRows

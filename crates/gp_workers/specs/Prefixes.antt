@@ -1,5 +1,5 @@
 -- What the records of workers tell of what one pushed and another took.
-use Rattle.std.specs.Prelude.{ℕ, ◌≡◌, ◌+◌, ◌==◌, Bool, false, Some, List, ◌++◌, map, filter, slice_get, All}
+use Rattle.std.specs.Prelude.{ℕ, ◌≡◌, ◌≢◌, ◌+◌, ◌<◌, ◌≤◌, ◌==◌, Bool, false, Some, List, ◌++◌, map, filter, slice_get, All}
 use Rattle.crossbeam_queue.specs.Passes.{Pass}
 use Rattle.gp_clause.specs.declared.lit.Lit.{Lit}
 use Rattle.gp_clause.specs.declared.problem.Problem.{Problem}
@@ -35,3 +35,12 @@ pub record AreSharing (problem : Problem) (count : ℕ) (records : List WorkerRe
 -- the records of workers that shared all tell so
 abbrev pub TakesPrefixes : Type 0
 TakesPrefixes = (problem : Problem) (count : ℕ) (records : List WorkerRecord) (passes : List (Pass SharedClause View)) → AllShared problem count records passes → AreSharing problem count records
+
+-- where an origin is that of a taken entry, it names one of so many workers, by its number from 1, and not the one of this number
+abbrev pub IsFromAnother : ℕ → ℕ → Origin → Type 0
+IsFromAnother count own Learned = Unit {0}
+IsFromAnother count own (Taken sender certificate) = (1 ≤ sender) × (sender ≤ count) × (sender ≢ own)
+
+-- so it is in each log that took only from the others
+abbrev pub TakesFromAnother : Type 0
+TakesFromAnother = (count place : ℕ) (log : List LogEntry) → place < count → TakesFromOthers count place log → All (λ (entry : LogEntry). IsFromAnother count (place + 1) entry.origin) log

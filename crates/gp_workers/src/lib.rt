@@ -19,4 +19,4 @@ mod worker;
 
 pub use post::Post;
 pub use window::{work_all, work_in_turn, work_one};
-pub use work::{WindowWork, WorkAnswer, certificate_by, takes_prefixes};
+pub use work::{WindowWork, WorkAnswer, certificate_by, takes_from_another, takes_prefixes};

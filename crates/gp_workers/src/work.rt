@@ -1,5 +1,5 @@
 ghost use Rattle.std.specs.Prelude.{◌≡◌, IfOk};
-ghost use Rattle.gp_workers.specs.Prefixes.{TakesPrefixes};
+ghost use Rattle.gp_workers.specs.Prefixes.{TakesFromAnother, TakesPrefixes};
 ghost use Rattle.gp_workers.specs.Work.{CanBeCertified, certificate_by};
 
 use gp_base::Row;
@@ -52,4 +52,9 @@ pub fn certificate_by(
 /// them took from another is a prefix of what the other's record marks as pushed to it.
 pub fn takes_prefixes()
     ensures { TakesPrefixes }
+{}
+
+/// A law: a taken entry of a log that took only from the others names a worker of the window, and not its own.
+pub fn takes_from_another()
+    ensures { TakesFromAnother }
 {}

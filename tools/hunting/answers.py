@@ -4,12 +4,17 @@ from typing import NamedTuple
 
 
 class Finding(NamedTuple):
-    """An instance that is found, with the events of its pattern and its schedule, each as T.X."""
+    """An instance that is found, with the events of its pattern, each as T.X, and the lines of its schedule."""
     window: int
     property: str
     number: int
     events: tuple
-    schedule: tuple
+    lines: tuple
+
+    @property
+    def schedule(self):
+        """The events of the schedule, in order."""
+        return [name for line in self.lines for name in line.split(' ')]
 
 
 class Report:
@@ -35,12 +40,8 @@ class Report:
             elif kind in ('found', 'impossible', 'undecided'):
                 self.counts[name][kind] += 1
                 if kind == 'found':
-                    self.found.append(Finding(window, name, number, events, read_list(lines, int(words[0]))))
-
-
-def read_list(lines, count):
-    """The next so many words, which stand in lines of 100."""
-    return tuple(word for _ in range((count + 99) // 100) for word in next(lines).split(' '))
+                    rows = (int(words[0]) + 99) // 100  # a list has 100 words a line
+                    self.found.append(Finding(window, name, number, events, tuple(next(lines) for _ in range(rows))))
 
 
 def with_schedule(text, finding):
@@ -58,8 +59,7 @@ def with_schedule(text, finding):
         wanted = (str(finding.window), finding.property, str(finding.number))
         if kind == 'instance' and (place['window'], place['property'], words[0]) == wanted:
             at_instance = True
-            rows = range(0, len(finding.schedule), 100)
-            made += ['found %d' % len(finding.schedule), *(' '.join(finding.schedule[row:row + 100]) for row in rows)]
+            made += ['found %d' % len(finding.schedule), *finding.lines]
     counts = dict(zip(('found', 'impossible', 'undecided'), map(int, made.pop().split(' ')[1:])))
     counts[was] -= 1
     counts['found'] += 1

@@ -5,11 +5,11 @@
 A property, and for each event of its pattern the file, the line and the function where it is; of an event whose place is not known the
 words of its event without a value, as read.ready. Lines that begin with # are for people. In a baseline a line number may be *.
 """
-import re
+import collections, re
 
 from questions import Fault
 
-DEADLOCK, RUN = 'deadlock', 'run'
+DEADLOCK, RUN, KEPT = 'deadlock', 'run', 4
 
 
 def role_of(recording, window, name):
@@ -38,16 +38,18 @@ class Bug:
 
     def __init__(self, property_, roles, names):
         self.property, self.roles, self.names = property_, roles, names
-        self.findings, self.verdict, self.known, self.story, self.told = [], '', False, '', []
-        self.shown, self.stops = None, []
+        self.counts, self.findings = collections.Counter(), []
+        self.verdict, self.known, self.story, self.told, self.shown, self.stops = '', False, '', [], None, []
 
     def add(self, seed, finding, order):
-        """A finding in the recording of a seed, whose events in this order are those of the roles."""
-        self.findings.append((seed, finding, order))
+        """A finding in the recording of a seed, whose events in this order are those of the roles; some of a seed are kept."""
+        self.counts[seed] += 1
+        if self.counts[seed] <= KEPT:
+            self.findings.append((seed, finding, order))
 
     @property
     def seeds(self):
-        return sorted({seed for seed, _, _ in self.findings})
+        return sorted(self.counts)
 
     def stops_as(self, run, locks_of):
         """Whether a run that came to a stop shows this deadlock: its threads wait for the locks of a finding."""

@@ -37,7 +37,7 @@ def bug_row(number, bug, recordings):
     places = ''.join(code('%s: %s' % pair, 'place') for pair in zip(bug.names, bug.told)) or code(' '.join(bug.roles))
     story = '<a href="%s">story</a>' % html.escape(bug.story, True) if bug.story else ''
     verdict = html.escape('known' if bug.known else bug.verdict or 'not tried')
-    often = '%d in %d of %d' % (len(bug.findings), len(bug.seeds), recordings)
+    often = '%d in %d of %d' % (bug.counts.total(), len(bug.seeds), recordings)
     return 'known' if bug.known else '', [str(number), code(bug.property), places, often, verdict, story]
 
 

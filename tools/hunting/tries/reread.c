@@ -1,19 +1,9 @@
-/* A thread looks at a number twice before it writes it, each time in a section of its own: what it writes rests on the second look. */
+/* A thread looks at a number, waits for the one that sets it, and adds to what it reads then: so the write rests on the second look. */
 #include <pthread.h>
 #include <stdio.h>
 
 static pthread_mutex_t lock = PTHREAD_MUTEX_INITIALIZER;
-static int number, looks;
-
-static void *look_and_add(void *none) {
-    pthread_mutex_lock(&lock);
-    looks += number > 0;
-    pthread_mutex_unlock(&lock);
-    pthread_mutex_lock(&lock);
-    number = number + 1;
-    pthread_mutex_unlock(&lock);
-    return none;
-}
+static int number;
 
 static void *set(void *none) {
     pthread_mutex_lock(&lock);
@@ -23,10 +13,15 @@ static void *set(void *none) {
 }
 
 int main(void) {
-    pthread_t threads[2];
-    pthread_create(&threads[0], NULL, look_and_add, NULL);
-    pthread_create(&threads[1], NULL, set, NULL);
-    for (int i = 0; i < 2; i++) pthread_join(threads[i], NULL);
-    printf("%d, %d looks\n", number, looks);
+    pthread_t thread;
+    pthread_create(&thread, NULL, set, NULL);
+    pthread_mutex_lock(&lock);
+    int before = number;
+    pthread_mutex_unlock(&lock);
+    pthread_join(thread, NULL);
+    pthread_mutex_lock(&lock);
+    number = number + 1;
+    pthread_mutex_unlock(&lock);
+    printf("%d, then %d\n", before, number);
     return 0;
 }

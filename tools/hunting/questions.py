@@ -8,7 +8,8 @@ Such a line stands behind the `property` line that it is for. A condition is one
     equal A B           the events A and B of the pattern have the same value
     between A B SHAPE   the thread of A and B does an event of this shape between the two; a parameter is the name that it is in the finding
 
-A finding is harmless by a line where each of its conditions holds, and one that begins with `not` does not; several lines are as many reasons.
+A finding is harmless by a line where each of its conditions holds, and one that begins with `not` does not; several lines are as many
+reasons.
 """
 import itertools, re
 from typing import NamedTuple

@@ -160,15 +160,25 @@ fn add_property(
 {
     match instances(alloc, window, property, number) {
         Ok(found) => {
-            add_listed(alloc, lines, property.name(), found.as_slice())?;
-            Ok(found.len() as u64)
+            let count = found.len() as u64;
+            let added = add_listed(alloc, lines, property.name(), found.as_slice());
+            drop(found);
+            added?;
+            Ok(count)
         }
         Err(InstancesFault::TooMany) => {
-            lines.push(property_line(alloc, property.name(), "toomany")?)?;
+            add_too_many(alloc, lines, property.name())?;
             Ok(0)
         }
         Err(InstancesFault::Memory) => Err(AllocError),
     }
+}
+
+fn add_too_many(alloc: Global, lines: &mut Row<Row<u8>>, name: &Name) -> Result<(), AllocError>
+    ensures { OnOk result (lines.new ≡ lines.old ++ property_lines name.now (Err InstancesFault.TooMany)) }
+{
+    let line = property_line(alloc, name, "toomany")?;
+    lines.push(line)
 }
 
 fn add_listed(

@@ -18,7 +18,7 @@ use Rattle.gp_beside.specs.Files.{told_at}
 use Rattle.gp_beside.specs.Numbers.{numbers_told}
 use Rattle.gp_beside.specs.PlaceList.{list_of, list_told}
 use Rattle.gp_beside.specs.Sightings.{sightings_told}
-use Rattle.gp_beside.specs.Sources.{lines_of, texts_of}
+use Rattle.gp_beside.specs.Sources.{places_of}
 
 -- a fault of this file
 abbrev pub fault_of : NoteFile → Cause → NoteFault
@@ -39,7 +39,7 @@ all_numbers files directory places (trace ∷ traces) =
 -- places with these numbers, where the sources may lie in a directory
 abbrev pub placed : List File → Option (List ℕ) → PlaceList → List (List (List ℕ)) → Result Places NoteFault
 placed files source told numbers =
-    Ok (record { texts = texts_of told; lines = lines_of files source told; numbers = numbers })
+    Ok (record { places = places_of files source told; numbers = numbers })
 
 -- the places of the events of these traces, by the file `places` and those of the threads; without it no other is looked at
 abbrev pub places_by : List File → List ℕ → Option (List ℕ) → List LocalTraceForm → Option PlaceList → Result Places NoteFault

@@ -11,14 +11,14 @@ use Rattle.gp_beside.specs.declared.fault.Cause.{Cause}
 use Rattle.gp_beside.specs.declared.fault.Cause.TheVariants.{BadLine, EventCount, Text, TooLong, TooMany, UnknownFile, UnknownPlace}
 use Rattle.gp_beside.specs.declared.fault.NoteFile.{NoteFile}
 use Rattle.gp_beside.specs.declared.fault.NoteFile.TheVariants.{Confirmed, Places, ThreadPlaces}
-use Rattle.gp_beside.specs.declared.place_list.Place.{Place}
+use Rattle.gp_beside.specs.declared.place_list.PlaceLine.{PlaceLine}
 use Rattle.gp_beside.specs.declared.place_list.PlaceList.{PlaceList}
 use Rattle.gp_beside.specs.Beside.{fault_of, noted_at, some_list}
 use Rattle.gp_beside.specs.Files.{told_in}
 use Rattle.gp_beside.specs.Numbers.{numbers_told}
 use Rattle.gp_beside.specs.Refusal.{fault_words}
 use Rattle.gp_beside.specs.Sightings.{sightings_told}
-use Rattle.gp_beside.specs.Sources.{is_inside, line_of, shown_line, texts_of}
+use Rattle.gp_beside.specs.Sources.{is_inside, line_of, place_of, shown_line}
 
 -- the text of these lines
 abbrev pub text : List (List ℕ) → List ℕ
@@ -55,7 +55,7 @@ confirmed lines = told_in [] sightings_told (Some (text lines))
 abbrev pub source : List (List ℕ)
 source = codes "int x;" ∷ (9 ∷ codes "x = 1;") ∷ []
 
-abbrev pub place_at : ℕ → Place
+abbrev pub place_at : ℕ → PlaceLine
 place_at line = record { file = 1; line = line; function = codes "main" }
 
 -- the line that tells this fault
@@ -85,11 +85,12 @@ pub record ExamplesHold : Type 0 where
   pub mark_too_few : numbered (codes "1" ∷ codes "0" ∷ []) ≡ Err (EventCount 3)
   pub no_place : numbered (codes "3" ∷ []) ≡ Err (UnknownPlace 1)
   pub no_number : numbered (codes "one" ∷ []) ≡ Err (BadLine 1)
-  -- the texts of places, and lines of a source
+  -- places, and lines of a source
   pub tab : shown_line (9 ∷ codes "x" ++ 9 ∷ codes "= 1;") ≡ codes "x = 1;"
   pub long : shown_line (replicate 201 97) ≡ replicate 200 97
-  pub places : texts_of two_places ≡ codes "a.c:3 in main" ∷ codes "b.c:0 in run" ∷ []
-  pub second_line : line_of (source ∷ []) (place_at 2) ≡ codes ": x = 1;"
+  pub placed : place_of two_places.files (source ∷ []) (place_at 2) ≡ record { file = codes "a.c"; line = 2; function = codes "main"; source = codes "x = 1;" }
+  pub unknown_source : place_of two_places.files [] (place_at 2) ≡ record { file = codes "a.c"; line = 2; function = codes "main"; source = [] }
+  pub second_line : line_of (source ∷ []) (place_at 2) ≡ codes "x = 1;"
   pub no_line : line_of (source ∷ []) (place_at 0) ≡ []
   pub behind_last : line_of (source ∷ []) (place_at 3) ≡ []
   -- names

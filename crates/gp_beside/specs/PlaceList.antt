@@ -7,7 +7,7 @@ use Rattle.gp_text.specs.Numbers.{small_number_of}
 use Rattle.gp_text.specs.declared.line.Line.{Line}
 use Rattle.gp_beside.specs.declared.fault.Cause.{Cause}
 use Rattle.gp_beside.specs.declared.fault.Cause.TheVariants.{BadLine, TooMany, UnknownFile}
-use Rattle.gp_beside.specs.declared.place_list.Place.{Place}
+use Rattle.gp_beside.specs.declared.place_list.PlaceLine.{PlaceLine}
 use Rattle.gp_beside.specs.declared.place_list.PlaceList.{PlaceList}
 
 -- `gpplaces 1`
@@ -23,20 +23,20 @@ with_file told number name =
     Ok (record { files = told.files ++ name ∷ []; places = told.places }))
 
 -- with a place: of a file that was named, and at most 65,536 of them
-abbrev pub with_place : PlaceList → ℕ → Place → Result PlaceList Cause
+abbrev pub with_place : PlaceList → ℕ → PlaceLine → Result PlaceList Cause
 with_place told number place =
     if place.file == 0 || not (nat_le place.file (length told.files)) then Err (UnknownFile number) else
     (if nat_le 65536 (length told.places) then Err (TooMany number) else
     Ok (record { files = told.files; places = told.places ++ place ∷ [] }))
 
 -- a place of these numbers, where they are numbers
-abbrev pub place_with : Option ℕ → Option ℕ → List ℕ → Option Place
+abbrev pub place_with : Option ℕ → Option ℕ → List ℕ → Option PlaceLine
 place_with (Some file) (Some line) function = Some (record { file = file; line = line; function = function })
 place_with (Some file) None function = None
 place_with None line function = None
 
 -- with a place, where the line has one
-abbrev pub with_place_of : PlaceList → ℕ → Option Place → Result PlaceList Cause
+abbrev pub with_place_of : PlaceList → ℕ → Option PlaceLine → Result PlaceList Cause
 with_place_of told number None = Err (BadLine number)
 with_place_of told number (Some place) = with_place told number place
 

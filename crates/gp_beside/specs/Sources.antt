@@ -1,11 +1,12 @@
--- Lines of the program's source, and the text of a place.
-use Rattle.std.specs.Prelude.{ℕ, zero, suc, ◌-◌, Bool, false, not, ◌==◌, ◌||◌, ◌&&◌, nat_le, nat_lt, List, [], ◌∷◌, ◌++◌, Option, Some, None, codes, decimal, if◌then◌else◌, length, map, slice_get, take, unwrap_or}
+-- Lines of the program's source, and the places with theirs.
+use Rattle.std.specs.Prelude.{ℕ, zero, suc, ◌-◌, Bool, false, not, ◌==◌, ◌||◌, ◌&&◌, nat_le, nat_lt, List, [], ◌∷◌, ◌++◌, Option, Some, None, codes, if◌then◌else◌, length, map, slice_get, take, unwrap_or}
 use Rattle.std.specs.List.{list_any, slice_split}
 use Rattle.std.specs.Str.{bytes_eq, is_utf8}
 use Rattle.gp_outside.specs.Folders.{File, file_named}
+use Rattle.gp_place.specs.declared.places.Place.{Place}
 use Rattle.gp_beside.specs.declared.files.Content.{Content}
 use Rattle.gp_beside.specs.declared.files.Content.TheVariants as content
-use Rattle.gp_beside.specs.declared.place_list.Place.{Place}
+use Rattle.gp_beside.specs.declared.place_list.PlaceLine.{PlaceLine}
 use Rattle.gp_beside.specs.declared.place_list.PlaceList.{PlaceList}
 
 -- whether a name begins at the root; 47 is the slash
@@ -54,36 +55,29 @@ trimmed (b ∷ bytes) = if nat_le b 32 then trimmed bytes else b ∷ bytes
 abbrev pub shown_line : List ℕ → List ℕ
 shown_line line = map shown_byte (take 200 (trimmed line))
 
--- the line of this number, from 1, behind a colon, where it is there and not empty
-abbrev pub behind_colon : List ℕ → List ℕ
-behind_colon [] = []
-behind_colon (b ∷ bytes) = codes ": " ++ b ∷ bytes
-
-abbrev pub line_text : Option (List ℕ) → List ℕ
-line_text None = []
-line_text (Some line) = behind_colon (shown_line line)
+-- what is shown of a line, where it is there
+abbrev pub shown_of : Option (List ℕ) → List ℕ
+shown_of None = []
+shown_of (Some line) = shown_line line
 
 -- the line of this number, from 1
 abbrev pub line_at : List (List ℕ) → ℕ → Option (List ℕ)
 line_at lines zero = None
 line_at lines (suc before) = slice_get lines before
 
--- the text of a place in a file of this name
-abbrev pub place_text : List ℕ → Place → List ℕ
-place_text name place = name ++ codes ":" ++ decimal place.line ++ codes " in " ++ place.function
+-- what is shown of the line of a place among files that have these lines
+abbrev pub line_of : List (List (List ℕ)) → PlaceLine → List ℕ
+line_of sources place = shown_of (line_at (unwrap_or (slice_get sources (place.file - 1)) []) place.line)
 
--- the text of a place among files of these names
-abbrev pub text_of : List (List ℕ) → Place → List ℕ
-text_of names place = place_text (unwrap_or (slice_get names (place.file - 1)) []) place
+-- a place among files of these names that have these lines
+abbrev pub place_of : List (List ℕ) → List (List (List ℕ)) → PlaceLine → Place
+place_of names sources place = record {
+  file = unwrap_or (slice_get names (place.file - 1)) [];
+  line = place.line;
+  function = place.function;
+  source = line_of sources place;
+}
 
--- the texts of places
-abbrev pub texts_of : PlaceList → List (List ℕ)
-texts_of told = map (text_of told.files) told.places
-
--- the line of a place among files that have these lines
-abbrev pub line_of : List (List (List ℕ)) → Place → List ℕ
-line_of sources place = line_text (line_at (unwrap_or (slice_get sources (place.file - 1)) []) place.line)
-
--- the lines of places, by what the files tell of the sources
-abbrev pub lines_of : List File → Option (List ℕ) → PlaceList → List (List ℕ)
-lines_of files source told = map (line_of (map (source_at files source) told.files)) told.places
+-- the places, by what the files tell of the sources
+abbrev pub places_of : List File → Option (List ℕ) → PlaceList → List Place
+places_of files source told = map (place_of told.files (map (source_at files source) told.files)) told.places

@@ -13,7 +13,7 @@ use crate::files::{FileLines, lines_at};
 use crate::numbers::numbers_of;
 use crate::place_list::{PlaceList, list_of};
 use crate::sightings::sightings_of;
-use crate::sources::{lines_of, texts_of};
+use crate::sources::places_of;
 use gp_base::Row;
 use gp_outside::Folder;
 use gp_place::{Beside, Places, Sighting};
@@ -70,8 +70,7 @@ fn nowhere(alloc: Global) -> Places
     ensures { result ≡ nowhere }
 {
     Places {
-        texts: Row::new(alloc),
-        lines: Row::new(alloc),
+        places: Row::new(alloc),
         numbers: Row::new(alloc),
     }
 }
@@ -148,13 +147,8 @@ fn placed<F: Folder>(
         → IfOk result (λ places. places ≡ placed files (option_map (λ at. at.now) source.entry) told.now numbers) }
     ensures fault { result ≡ Err NoteStop.FolderFailed → Rose (F.faults folder.old) (F.faults folder.new) }
 {
-    let lines = lines_of(alloc, folder, source, told)?;
-    let texts = texts_of(alloc, told)?;
-    Ok(Ok(Places {
-        texts,
-        lines,
-        numbers,
-    }))
+    let places = places_of(alloc, folder, source, told)?;
+    Ok(Ok(Places { places, numbers }))
 }
 
 fn list_at<F: Folder>(

@@ -12,9 +12,9 @@ const MOST_FILES: usize = 1024;
 /// The most places.
 const MOST_PLACES: usize = 65536;
 
-/// A place in the program.
+/// A place in the program, as a line of the file tells it.
 #[derive(Drop)]
-pub struct Place {
+pub struct PlaceLine {
     /// The number of its file, from 1.
     pub file: u32,
     /// The number of its line, from 1; 0 where none is known.
@@ -28,7 +28,7 @@ pub struct Place {
 pub struct PlaceList {
     /// The names of the source files.
     pub files: Row<Row<u8>>,
-    pub places: Row<Place>,
+    pub places: Row<PlaceLine>,
 }
 
 /// What the lines of the file `places` tell, whose text ends at line `last`.
@@ -162,14 +162,14 @@ fn place_with(
     file: Option<u32>,
     line: Option<u32>,
     function: &[u8],
-) -> Result<Option<Place>, AllocError>
+) -> Result<Option<PlaceLine>, AllocError>
     ensures { IfOk result (λ place. place ≡ place_with file line function.now) }
 {
     let (Some(file), Some(line)) = (file, line) else {
         return Ok(None);
     };
     let function = Row::from_vec(Vec::from_slice(alloc, function)?);
-    Ok(Some(Place {
+    Ok(Some(PlaceLine {
         file,
         line,
         function,
@@ -179,7 +179,7 @@ fn place_with(
 fn with_place_of(
     told: PlaceList,
     number: u32,
-    place: Option<Place>,
+    place: Option<PlaceLine>,
 ) -> Result<Result<PlaceList, Cause>, AllocError>
     ensures { IfOk result (λ more. more ≡ with_place_of told number place) }
 {
@@ -192,7 +192,7 @@ fn with_place_of(
 fn with_place(
     told: PlaceList,
     number: u32,
-    place: Place,
+    place: PlaceLine,
 ) -> Result<Result<PlaceList, Cause>, AllocError>
     ensures { IfOk result (λ more. more ≡ with_place told number place) }
 {

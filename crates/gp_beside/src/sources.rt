@@ -3,42 +3,37 @@ ghost use Rattle.std.specs.List.{list_any, slice_split};
 ghost use Rattle.std.specs.Str.{bytes_eq, is_utf8};
 ghost use Rattle.gp_outside.specs.Faults.{Rose};
 ghost use Rattle.gp_outside.specs.Folders.{File};
-ghost use Rattle.gp_beside.specs.Sources.{begins_at_root, behind_colon, inside, line_at, line_of, line_text, lines_of, place_text, shown_byte, source_at, source_lines, text_of, texts_of, trimmed};
+ghost use Rattle.gp_beside.specs.Sources.{begins_at_root, inside, line_at, line_of, place_of, places_of, shown_byte, shown_of, source_at, source_lines, trimmed};
 
 use crate::fault::NoteStop;
 use crate::files::{Content, content_at, path_to};
-use crate::place_list::{Place, PlaceList};
+use crate::place_list::{PlaceLine, PlaceList};
 use gp_base::Row;
 use gp_outside::Folder;
-use gp_text::{cut, print_u64};
+use gp_place::Place;
+use gp_text::cut;
 use std::alloc::{AllocError, Global};
 
 /// The most bytes of a line that are shown.
 const LONGEST_SHOWN: usize = 200;
 
-/// The texts of places.
-pub(crate) fn texts_of(alloc: Global, told: &PlaceList) -> Result<Row<Row<u8>>, AllocError>
-    ensures { IfOk result (λ texts. texts ≡ texts_of told.now) }
-{
-    texts_among(alloc, told.files.as_slice(), told.places.as_slice())
-}
-
-/// The lines of places, where the sources may lie in a directory. Each source that is named is read once, in order.
-pub(crate) fn lines_of<F: Folder>(
+/// The places, where the sources may lie in a directory. Each source that is named is read once, in order.
+pub(crate) fn places_of<F: Folder>(
     alloc: Global,
     folder: &mut F,
     directory: Option<&str>,
     told: &PlaceList,
-) -> Result<Row<Row<u8>>, NoteStop>
+) -> Result<Row<Place>, NoteStop>
     ensures later { F.faults folder.old ≤ F.faults folder.new }
     ensures kept { F.files folder.new ≡ F.files folder.old }
     ensures told { (files : List File) → F.files folder.old ≡ Some files
-        → IfOk result (λ lines. lines ≡ lines_of files (option_map (λ at. at.now) directory.entry) told.now) }
+        → IfOk result (λ places. places ≡ places_of files (option_map (λ at. at.now) directory.entry) told.now) }
     ensures fault { result ≡ Err NoteStop.FolderFailed → Rose (F.faults folder.old) (F.faults folder.new) }
 {
-    let sources = sources_at(alloc, folder, directory, told.files.as_slice())?;
-    let lines = lines_among(alloc, sources.as_slice(), told.places.as_slice())?;
-    Ok(lines)
+    let names = told.files.as_slice();
+    let sources = sources_at(alloc, folder, directory, names)?;
+    let places = places_among(alloc, names, sources.as_slice(), told.places.as_slice())?;
+    Ok(places)
 }
 
 fn sources_at<F: Folder>(
@@ -152,45 +147,46 @@ fn lines_in(alloc: Global, bytes: &[u8]) -> Result<Row<Row<u8>>, AllocError>
     Ok(lines)
 }
 
-fn texts_among(
+fn places_among(
     alloc: Global,
     names: &[Row<u8>],
-    places: &[Place],
-) -> Result<Row<Row<u8>>, AllocError>
-    ensures { IfOk result (λ texts. texts ≡ map (text_of names.now) places.now) }
+    sources: &[Row<Row<u8>>],
+    lines: &[PlaceLine],
+) -> Result<Row<Place>, AllocError>
+    ensures { IfOk result (λ places. places ≡ map (place_of names.now sources.now) lines.now) }
 {
-    let mut texts = Row::new(alloc);
-    for place in places {
-        texts.push(text_of(alloc, names, place)?)?;
+    let mut places = Row::new(alloc);
+    for line in lines {
+        places.push(place_of(alloc, names, sources, line)?)?;
     }
-    Ok(texts)
+    Ok(places)
 }
 
-fn text_of(alloc: Global, names: &[Row<u8>], place: &Place) -> Result<Row<u8>, AllocError>
-    ensures { IfOk result (λ text. text ≡ text_of names.now place.now) }
+fn place_of(
+    alloc: Global,
+    names: &[Row<u8>],
+    sources: &[Row<Row<u8>>],
+    line: &PlaceLine,
+) -> Result<Place, AllocError>
+    ensures { IfOk result (λ place. place ≡ place_of names.now sources.now line.now) }
 {
-    place_text(
-        alloc,
-        row_at(names, place.file.saturating_sub(1) as usize),
-        place,
-    )
+    let name = row_at(names, line.file.saturating_sub(1) as usize);
+    let file = Row::from_vec(Vec::from_slice(alloc, name)?);
+    let function = Row::from_vec(Vec::from_slice(alloc, line.function.as_slice())?);
+    let source = line_of(alloc, sources, line)?;
+    Ok(Place {
+        file,
+        line: line.line,
+        function,
+        source,
+    })
 }
 
-fn lines_among(
+fn line_of(
     alloc: Global,
     sources: &[Row<Row<u8>>],
-    places: &[Place],
-) -> Result<Row<Row<u8>>, AllocError>
-    ensures { IfOk result (λ lines. lines ≡ map (line_of sources.now) places.now) }
-{
-    let mut lines = Row::new(alloc);
-    for place in places {
-        lines.push(line_of(alloc, sources, place)?)?;
-    }
-    Ok(lines)
-}
-
-fn line_of(alloc: Global, sources: &[Row<Row<u8>>], place: &Place) -> Result<Row<u8>, AllocError>
+    place: &PlaceLine,
+) -> Result<Row<u8>, AllocError>
     ensures { IfOk result (λ line. line ≡ line_of sources.now place.now) }
 {
     let source = row_at(sources, place.file.saturating_sub(1) as usize);
@@ -209,17 +205,6 @@ fn row_at<T>(rows: &[Row<T>], place: usize) -> &[T]
     }
 }
 
-fn place_text(alloc: Global, name: &[u8], place: &Place) -> Result<Row<u8>, AllocError>
-    ensures { IfOk result (λ text. text ≡ place_text name.now place.now) }
-{
-    let mut text = Vec::from_slice(alloc, name)?;
-    text.push(b':')?;
-    print_u64(&mut text, u64::from(place.line))?;
-    text.extend_from_slice(b" in ")?;
-    text.extend_from_slice(place.function.as_slice())?;
-    Ok(Row::from_vec(text))
-}
-
 fn line_at(lines: &[Row<u8>], number: u32) -> Option<&[u8]>
     ensures { option_map (λ line. line.now) result ≡ line_at lines.now number }
 {
@@ -228,10 +213,10 @@ fn line_at(lines: &[Row<u8>], number: u32) -> Option<&[u8]>
 }
 
 fn put_line(text: &mut Vec<u8>, line: Option<&[u8]>) -> Result<(), AllocError>
-    ensures { OnOk result (text.new.items ≡ text.old.items ++ line_text (option_map (λ line. line.now) line.entry)) }
+    ensures { OnOk result (text.new.items ≡ text.old.items ++ shown_of (option_map (λ line. line.now) line.entry)) }
 {
     match line {
-        Some(line) => put_behind_colon(text, shown_part(line)),
+        Some(line) => put_shown(text, shown_part(line)),
         None => Ok(()),
     }
 }
@@ -265,16 +250,6 @@ fn trimmed(line: &[u8]) -> &[u8]
         rest = more;
     }
     rest
-}
-
-fn put_behind_colon(text: &mut Vec<u8>, part: &[u8]) -> Result<(), AllocError>
-    ensures { OnOk result (text.new.items ≡ text.old.items ++ behind_colon (map shown_byte part.now)) }
-{
-    if part.is_empty() {
-        return Ok(());
-    }
-    text.extend_from_slice(b": ")?;
-    put_shown(text, part)
 }
 
 fn put_shown(text: &mut Vec<u8>, part: &[u8]) -> Result<(), AllocError>

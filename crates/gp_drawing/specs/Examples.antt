@@ -38,7 +38,10 @@ arrow from to kind = record { from = from; to = to; kind = kind }
 
 -- of the events of this window, the one of thread 3 has a place
 abbrev pub in_main : Places
-in_main = record { texts = codes "a.c:7 in f<g" ∷ []; lines = []; numbers = [] ∷ [] ∷ ((1 ∷ []) ∷ []) ∷ [] }
+in_main = record {
+  places = record { file = codes "a.c"; line = 7; function = codes "f<g"; source = [] } ∷ [];
+  numbers = [] ∷ [] ∷ ((1 ∷ []) ∷ []) ∷ [];
+}
 
 pub record ExamplesHold : Type 0 where
   -- a read comes from the write and from the start of its thread

@@ -1,38 +1,39 @@
 ghost use Rattle.std.specs.Prelude.{◌≡◌, ◌++◌, OnOk, option_map};
 ghost use Rattle.gp_text.specs.Spelling.{after_words};
-ghost use Rattle.gp_place.specs.Places.{behind, entry_of, in_parentheses, line_at, named, number_at, numbers_in, text_at};
+ghost use Rattle.gp_place.specs.Places.{behind, behind_colon, entry_of, named, number_at, numbers_in, place_at, place_text};
 
 use gp_base::Row;
+use gp_text::print_u64;
 use gp_window::{EventId, put_event_id};
 use std::alloc::AllocError;
+
+/// A place in the program.
+#[derive(Drop)]
+pub struct Place {
+    /// The name of its source file.
+    pub file: Row<u8>,
+    /// The number of its line, from 1; 0 where none is known.
+    pub line: u32,
+    /// The name of its function.
+    pub function: Row<u8>,
+    /// What is shown of that line of the file; nothing where that lacks.
+    pub source: Row<u8>,
+}
 
 /// Where in the program the events of a recording are. A place has a number, from 1.
 #[derive(Drop)]
 pub struct Places {
-    /// The text of each place, in order of number.
-    pub texts: Row<Row<u8>>,
-    /// What is told of the source at each place, in the same order, behind its text; nothing of those that lack.
-    pub lines: Row<Row<u8>>,
+    /// The places, in order of number.
+    pub places: Row<Place>,
     /// The number of the place of each event, by thread, window and index; 0 where none is told.
     pub numbers: Row<Row<Row<u32>>>,
 }
 
-/// The text of an event's place, where it is told.
-pub fn text_at(places: &Places, window: u32, event: EventId) -> Option<&[u8]>
-    ensures { option_map (λ text. text.now) result ≡ text_at places.now window event }
+/// The place of an event, where it is told.
+pub fn place_at(places: &Places, window: u32, event: EventId) -> Option<&Place>
+    ensures { option_map (λ place. place.now) result ≡ place_at places.now window event }
 {
-    let text = entry_of(places.texts.as_slice(), number_at(places, window, event))?;
-    Some(text.as_slice())
-}
-
-/// What is told of the source at an event's place.
-fn line_at(places: &Places, window: u32, event: EventId) -> &[u8]
-    ensures { result.now ≡ line_at places.now window event }
-{
-    match entry_of(places.lines.as_slice(), number_at(places, window, event)) {
-        Some(line) => line.as_slice(),
-        None => &[],
-    }
+    entry_of(places.places.as_slice(), number_at(places, window, event))
 }
 
 /// The number of an event's place; 0 where none is told.
@@ -72,12 +73,33 @@ pub fn put_behind(
 ) -> Result<(), AllocError>
     ensures { OnOk result (text.new.items ≡ text.old.items ++ after_words (behind places.now window event)) }
 {
-    let Some(place) = text_at(places, window, event) else {
+    let Some(place) = place_at(places, window, event) else {
         return Ok(());
     };
     text.extend_from_slice(b"  ")?;
-    text.extend_from_slice(place)?;
-    text.extend_from_slice(line_at(places, window, event))
+    put_place(text, place)?;
+    put_behind_colon(text, place.source.as_slice())
+}
+
+/// Puts the text of a place.
+fn put_place(text: &mut Vec<u8>, place: &Place) -> Result<(), AllocError>
+    ensures { OnOk result (text.new.items ≡ text.old.items ++ place_text place.now) }
+{
+    text.extend_from_slice(place.file.as_slice())?;
+    text.push(b':')?;
+    print_u64(text, u64::from(place.line))?;
+    text.extend_from_slice(b" in ")?;
+    text.extend_from_slice(place.function.as_slice())
+}
+
+fn put_behind_colon(text: &mut Vec<u8>, source: &[u8]) -> Result<(), AllocError>
+    ensures { OnOk result (text.new.items ≡ text.old.items ++ behind_colon source.now) }
+{
+    if source.is_empty() {
+        return Ok(());
+    }
+    text.extend_from_slice(b": ")?;
+    text.extend_from_slice(source)
 }
 
 /// Puts the id of an event, with its place in parentheses where that is told.
@@ -90,10 +112,10 @@ pub fn put_named(
     ensures { OnOk result (text.new.items ≡ text.old.items ++ named places.now window event) }
 {
     put_event_id(text, event)?;
-    let Some(place) = text_at(places, window, event) else {
+    let Some(place) = place_at(places, window, event) else {
         return Ok(());
     };
     text.extend_from_slice(b" (")?;
-    text.extend_from_slice(place)?;
+    put_place(text, place)?;
     text.extend_from_slice(b")")
 }

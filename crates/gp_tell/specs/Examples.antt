@@ -25,7 +25,10 @@ story_told window schedule marked = spelling (story_lines (λ id. []) window (st
 
 -- of the events of the first window, the second one of thread 2 has a place
 abbrev pub in_second : Places
-in_second = record { texts = codes "work.c:12 in second" ∷ []; lines = codes ": work();" ∷ []; numbers = [] ∷ ((0 ∷ 1 ∷ []) ∷ []) ∷ [] }
+in_second = record {
+  places = record { file = codes "work.c"; line = 12; function = codes "second"; source = codes "work();" } ∷ [];
+  numbers = [] ∷ ((0 ∷ 1 ∷ []) ∷ []) ∷ [];
+}
 
 -- thread 1 waits for the end of thread 2, which works
 abbrev pub awaited : WindowForm

@@ -1,0 +1,9 @@
+// JSON values as text. A value is what its definition says; here its text is put, part by part, at the end of a text, so that
+// the text so far stays. All of it is ASCII: a byte of a string that does not print is written by its number.
+#![tactic(auto)]
+
+mod put;
+mod string;
+
+pub use put::{put_comma, put_flag, put_name, put_named_number, put_named_string};
+pub use string::put_string;

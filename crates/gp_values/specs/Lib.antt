@@ -1,0 +1,5 @@
+pub mod Events
+pub mod Instances
+pub mod Overview
+pub mod Reasons
+pub mod Stories

@@ -1,0 +1,71 @@
+-- The verdict on a report and how often each property is found, impossible and undecided, as members of an object.
+use Rattle.std.specs.Prelude.{ℕ, List, [], ◌∷◌, codes, length, map, true, false}
+use Rattle.gp_checker.specs.declared.failure.Checked.{Checked}
+use Rattle.gp_checker.specs.declared.failure.Checked.TheVariants.{Accepted, Rejected}
+use Rattle.gp_checker.specs.declared.failure.Failure.{Failure}
+use Rattle.gp_checker.specs.declared.failure.Reason.{Reason}
+use Rattle.gp_checker.specs.declared.failure.Reason.TheVariants.{WindowCount, WrongSize, WrongProperty, WrongEvents, Stuck, Unmatched, BadStep, Unrefuted, WrongBudget, BadSharedStep}
+use Rattle.gp_json.specs.Json.{Json, Named, array, named, object}
+use Rattle.gp_json.specs.Json.Json.{Flag, Null, Number, Text}
+use Rattle.gp_overview.specs.Counts.{counts_of, total_of}
+use Rattle.gp_overview.specs.Verdict.{reason_words}
+use Rattle.gp_overview.specs.declared.counts.Counts.{Counts}
+use Rattle.gp_property.specs.PropertyForm.{PropertyForm}
+use Rattle.gp_report.specs.Entries.{entries_of}
+use Rattle.gp_report.specs.Records.{WindowRecord}
+use Rattle.gp_text.specs.Spelling.{joined}
+
+-- at which property of its window a report fails that fails by this reason: some fail at a window as a whole
+abbrev pub failed_property : Reason → Failure → Json
+failed_property WindowCount failure = Null
+failed_property WrongSize failure = Null
+failed_property BadSharedStep failure = Null
+failed_property reason failure = Number failure.property
+
+-- at which instance of that property: others fail at a property as a whole
+abbrev pub failed_instance : Reason → Failure → Json
+failed_instance WindowCount failure = Null
+failed_instance WrongSize failure = Null
+failed_instance BadSharedStep failure = Null
+failed_instance WrongProperty failure = Null
+failed_instance reason failure = Number failure.instance
+
+-- at what a report fails, and why
+unfoldable pub failure_value : Failure → Json
+failure_value failure = object (
+    named (codes "window") (Number failure.window)
+    ∷ named (codes "property") (failed_property failure.reason failure)
+    ∷ named (codes "instance") (failed_instance failure.reason failure)
+    ∷ named (codes "reason") (Text (joined (reason_words failure.reason failure.place))) ∷ [])
+
+-- whether a report of these windows is accepted, with how many answers, and at what it fails
+abbrev pub verdict_members : List WindowRecord → Checked → List Named
+verdict_members windows Accepted =
+    named (codes "accepted") (Flag true)
+    ∷ named (codes "answers") (Number (length (entries_of windows)))
+    ∷ named (codes "failure") Null ∷ []
+verdict_members windows (Rejected failure) =
+    named (codes "accepted") (Flag false)
+    ∷ named (codes "answers") Null
+    ∷ named (codes "failure") (failure_value failure) ∷ []
+
+-- how often a report has which answer
+unfoldable pub counts_value : Counts → Json
+counts_value counts = object (
+    named (codes "found") (Number counts.found)
+    ∷ named (codes "impossible") (Number counts.impossible)
+    ∷ named (codes "undecided") (Number counts.undecided)
+    ∷ named (codes "too_many") (Number counts.too_many)
+    ∷ named (codes "too_large") (Number counts.too_large) ∷ [])
+
+-- a property of a report of these windows
+unfoldable pub property_value : List WindowRecord → PropertyForm → Json
+property_value windows property = object (
+    named (codes "name") (Text property.name)
+    ∷ named (codes "counts") (counts_value (counts_of windows property.name)) ∷ [])
+
+-- how often a report of these windows has which answer: of each of these properties, and of all
+abbrev pub count_members : List PropertyForm → List WindowRecord → List Named
+count_members properties windows =
+    named (codes "properties") (array (map (property_value windows) properties))
+    ∷ named (codes "all") (counts_value (total_of windows)) ∷ []

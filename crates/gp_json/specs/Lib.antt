@@ -1,3 +1,4 @@
 pub mod Json
 pub mod JsonLaws
+pub mod Reading
 pub mod Strings

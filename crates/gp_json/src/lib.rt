@@ -2,8 +2,10 @@
 // the text so far stays. All of it is ASCII: a byte of a string that does not print is written by its number.
 #![tactic(auto)]
 
+mod laws;
 mod put;
 mod string;
 
+pub use laws::strings_read_back;
 pub use put::{put_comma, put_flag, put_name, put_named_number, put_named_string};
 pub use string::put_string;

@@ -9,7 +9,7 @@ use gp_text::Name;
 use std::alloc::AllocError;
 
 /// Counts what is told of the property of this name. A count past 2^64 - 1 would not fit into memory.
-pub(crate) fn counts_of(windows: &[WindowRecord], name: &Name) -> Result<Counts, AllocError>
+pub fn counts_of(windows: &[WindowRecord], name: &Name) -> Result<Counts, AllocError>
     ensures { IfOk result (λ counts. counts ≡ counts_of windows.now name.now) }
 {
     let mut counts = Counts::none();
@@ -59,7 +59,7 @@ fn with_record_named(
 }
 
 /// Counts all that is told.
-pub(crate) fn total_of(windows: &[WindowRecord]) -> Result<Counts, AllocError>
+pub fn total_of(windows: &[WindowRecord]) -> Result<Counts, AllocError>
     ensures { IfOk result (λ counts. counts ≡ total_of windows.now) }
 {
     let mut counts = Counts::none();
@@ -147,7 +147,7 @@ fn more(count: u64) -> Result<u64, AllocError>
 }
 
 /// How many answers there are.
-pub(crate) fn answer_count(windows: &[WindowRecord]) -> Result<u64, AllocError>
+pub fn answer_count(windows: &[WindowRecord]) -> Result<u64, AllocError>
     ensures { IfOk result (λ count. count ≡ length (entries_of windows.now)) }
 {
     let mut count = 0;

@@ -10,8 +10,9 @@ mod page;
 mod table;
 mod verdict;
 
+pub use counting::{answer_count, counts_of, total_of};
 pub use counts::Counts;
 pub use laws::{overviews_have_own_markup, shows_examples, tables_add_up};
 pub use page::{put_table_part, put_verdict_part};
 pub use table::put_table;
-pub use verdict::put_verdict;
+pub use verdict::{put_reason, put_verdict};

@@ -113,7 +113,8 @@ fn put_cause(text: &mut Vec<u8>, reason: Reason, place: u64) -> Result<(), Alloc
     put_reason(text, reason, place)
 }
 
-fn put_reason(text: &mut Vec<u8>, reason: Reason, place: u64) -> Result<(), AllocError>
+/// Puts why a report fails, as phrases behind what stands in the line.
+pub fn put_reason(text: &mut Vec<u8>, reason: Reason, place: u64) -> Result<(), AllocError>
     ensures { OnOk result (text.new.items ≡ text.old.items ++ after_words (reason_words reason place)) }
 {
     match reason {

@@ -10,7 +10,7 @@ use gp_window::EventId;
 use std::alloc::AllocError;
 
 /// Puts that one of these facts holds.
-pub(crate) fn put_any(
+pub fn put_any(
     text: &mut Vec<u8>,
     naming: &Naming<'_>,
     facts: &[Fact],
@@ -35,7 +35,7 @@ fn put_others(text: &mut Vec<u8>, naming: &Naming<'_>, facts: &[Fact]) -> Result
 }
 
 /// Puts a fact.
-pub(crate) fn put_fact(
+pub fn put_fact(
     text: &mut Vec<u8>,
     naming: &Naming<'_>,
     fact: &Fact,

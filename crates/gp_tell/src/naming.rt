@@ -7,7 +7,7 @@ use std::alloc::AllocError;
 
 /// How the events of a window are named: with these places.
 #[derive(Clone, Copy)]
-pub(crate) struct Naming<'a> {
+pub struct Naming<'a> {
     pub places: &'a Places,
     pub window: u32,
 }

@@ -112,7 +112,8 @@ fn put_cycle_line(
     end_line(text)
 }
 
-fn put_cycle_words(
+/// Puts the events of a cycle, as phrases behind what stands in the line.
+pub fn put_cycle_words(
     text: &mut Vec<u8>,
     naming: &Naming<'_>,
     first: EventId,
@@ -190,7 +191,8 @@ fn put_ground(text: &mut Vec<u8>, naming: &Naming<'_>, basis: &Ground) -> Result
     end_line(text)
 }
 
-fn put_ground_words(
+/// Puts what a step rests on, as phrases behind what stands in the line.
+pub fn put_ground_words(
     text: &mut Vec<u8>,
     naming: &Naming<'_>,
     basis: &Ground,

@@ -1,6 +1,6 @@
 -- An instance of a report as a value: what it is, its events, what was seen of it, and what shows its answer.
-use Rattle.std.specs.Prelude.{ℕ, ◌-◌, List, [], ◌∷◌, codes, filter, map}
-use Rattle.gp_json.specs.Json.{Json, array, named, object}
+use Rattle.std.specs.Prelude.{ℕ, ◌-◌, List, [], ◌∷◌, ◌++◌, codes, filter, map}
+use Rattle.gp_json.specs.Json.{Json, Named, array, named, object}
 use Rattle.gp_json.specs.Json.Json.{Null, Number, Text}
 use Rattle.gp_place.specs.Places as places
 use Rattle.gp_place.specs.declared.beside.Beside.{Beside}
@@ -44,14 +44,18 @@ learned_value (Found schedule) = Null
 learned_value (Impossible certificate) = Null
 learned_value (Undecided worker from to) = Number (to - from)
 
--- an instance
-unfoldable pub answered_value : Beside → AnsweredForm → Json
-answered_value beside answered = object (
+-- what an instance is
+abbrev pub title_members : AnsweredForm → List Named
+title_members answered =
     named (codes "window") (Number answered.window.number)
     ∷ named (codes "property") (Text answered.property.name)
     ∷ named (codes "instance") (Number answered.number)
-    ∷ named (codes "answer") (Text (answer_word answered.entry.answer))
-    ∷ named (codes "events") (events_value beside.places answered)
+    ∷ named (codes "answer") (Text (answer_word answered.entry.answer)) ∷ []
+
+-- an instance
+unfoldable pub answered_value : Beside → AnsweredForm → Json
+answered_value beside answered = object (title_members answered ++
+    named (codes "events") (events_value beside.places answered)
     ∷ named (codes "seen") (sightings_value beside.sightings answered)
     ∷ named (codes "schedule") (schedule_value beside.places answered answered.entry.answer)
     ∷ named (codes "reason") (why_value beside.places answered answered.entry.answer)

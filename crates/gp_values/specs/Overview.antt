@@ -30,24 +30,32 @@ failed_instance BadSharedStep failure = Null
 failed_instance WrongProperty failure = Null
 failed_instance reason failure = Number failure.instance
 
+-- why it fails there
+abbrev pub why_value : Reason → ℕ → Json
+why_value reason place = Text (joined (reason_words reason place))
+
 -- at what a report fails, and why
 unfoldable pub failure_value : Failure → Json
 failure_value failure = object (
     named (codes "window") (Number failure.window)
     ∷ named (codes "property") (failed_property failure.reason failure)
     ∷ named (codes "instance") (failed_instance failure.reason failure)
-    ∷ named (codes "reason") (Text (joined (reason_words failure.reason failure.place))) ∷ [])
+    ∷ named (codes "reason") (why_value failure.reason failure.place) ∷ [])
 
--- whether a report of these windows is accepted, with how many answers, and at what it fails
+-- a report with so many answers is accepted
+abbrev pub accepted_members : ℕ → List Named
+accepted_members answers =
+    named (codes "accepted") (Flag true) ∷ named (codes "answers") (Number answers) ∷ named (codes "failure") Null ∷ []
+
+-- a report is rejected by this failure
+abbrev pub rejected_members : Failure → List Named
+rejected_members failure =
+    named (codes "accepted") (Flag false) ∷ named (codes "answers") Null ∷ named (codes "failure") (failure_value failure) ∷ []
+
+-- the verdict on a report of these windows
 abbrev pub verdict_members : List WindowRecord → Checked → List Named
-verdict_members windows Accepted =
-    named (codes "accepted") (Flag true)
-    ∷ named (codes "answers") (Number (length (entries_of windows)))
-    ∷ named (codes "failure") Null ∷ []
-verdict_members windows (Rejected failure) =
-    named (codes "accepted") (Flag false)
-    ∷ named (codes "answers") Null
-    ∷ named (codes "failure") (failure_value failure) ∷ []
+verdict_members windows Accepted = accepted_members (length (entries_of windows))
+verdict_members windows (Rejected failure) = rejected_members failure
 
 -- how often a report has which answer
 unfoldable pub counts_value : Counts → Json

@@ -18,15 +18,23 @@ fact_value name fact = Text (fact_text name fact)
 abbrev pub ground_value : (EventId → List ℕ) → Ground → Json
 ground_value name basis = Text (joined (ground_words name basis))
 
--- the events of a cycle, where there are any
+-- the events of a cycle
+abbrev pub cycle_value : (EventId → List ℕ) → EventId → List EventId → Json
+cycle_value name first others = Text (joined (cycle_words name first others))
+
+-- the same, where there are any
 abbrev pub cycle_values : (EventId → List ℕ) → List EventId → List Json
 cycle_values name [] = []
-cycle_values name (first ∷ others) = Text (joined (cycle_words name first others)) ∷ []
+cycle_values name (first ∷ others) = cycle_value name first others ∷ []
+
+-- what a step says
+abbrev pub says_value : (EventId → List ℕ) → List Fact → Json
+says_value name facts = Text (any_text name facts)
 
 -- a step: what it says, and since what
 unfoldable pub step_value : (EventId → List ℕ) → ReasonStep → Json
 step_value name step = object (
-    named (codes "says") (Text (any_text name step.says))
+    named (codes "says") (says_value name step.says)
     ∷ named (codes "since") (array (map (ground_value name) step.grounds ++ cycle_values name step.cycle)) ∷ [])
 
 -- a reason

@@ -14,4 +14,6 @@ mod words;
 pub use answered::Answered;
 pub use laws::{answers_have_own_markup, shows_examples};
 pub use page::put_answered_part;
+pub use shown::{is_of, reason_in, story_in};
 pub use text::put_answered;
+pub use words::answer_word;

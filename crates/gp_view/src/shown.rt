@@ -14,7 +14,7 @@ use gp_window::EventId;
 use std::alloc::{AllocError, Global};
 
 /// Whether an instance is the one that was seen.
-pub(crate) fn is_of(answered: &Answered<'_>, sighting: &Sighting) -> bool
+pub fn is_of(answered: &Answered<'_>, sighting: &Sighting) -> bool
     ensures { result ≡ is_of (form_of answered.now) sighting.now }
 {
     sighting.window == answered.encoded.window().number()
@@ -23,7 +23,7 @@ pub(crate) fn is_of(answered: &Answered<'_>, sighting: &Sighting) -> bool
 }
 
 /// The story of a schedule, in which the events of the instance are marked.
-pub(crate) fn story_in(
+pub fn story_in(
     alloc: Global,
     answered: &Answered<'_>,
     schedule: &[EventId],
@@ -35,7 +35,7 @@ pub(crate) fn story_in(
 }
 
 /// Why the instance is impossible, by a certificate.
-pub(crate) fn reason_in(
+pub fn reason_in(
     alloc: Global,
     answered: &Answered<'_>,
     certificate: &Certificate,

@@ -40,7 +40,8 @@ fn put_instance(text: &mut Vec<u8>, number: u32, answer: &Answer) -> Result<(), 
     put_word(text, answer_word(answer))
 }
 
-fn answer_word(answer: &Answer) -> &'static [u8]
+/// What an answer is.
+pub fn answer_word(answer: &Answer) -> &'static [u8]
     ensures { result.now ≡ answer_word answer.now }
 {
     match answer {

@@ -1,0 +1,8 @@
+use Rattle.std.proofs.Common.{◌≡◌, ◌++◌, drop, map}
+use Rattle.gp_json.specs.Json.{elements_of, elements_text}
+use Rattle.gp_tell.specs.Naming.{name_by}
+use Rattle.gp_values.specs.Reasons.{ground_value}
+use Rattle.gp_values.proofs.reason.put_grounds.Given as goal
+
+abbrev pub invariant-loop-before : goal.invariant-loop-before
+invariant-loop-before l = l.text.items ++ elements_text l.before (elements_of (map (ground_value (name_by l.naming)) (drop l.before l.grounds))) ≡ l.initial.text.items ++ elements_text 0 (elements_of (map (ground_value (name_by l.naming)) l.grounds))

@@ -1,0 +1,7 @@
+use Rattle.std.proofs.Common.{◌≡◌, ◌++◌, drop, map}
+use Rattle.gp_json.specs.Json.{elements_of, elements_text}
+use Rattle.gp_values.specs.Stories.{part_value}
+use Rattle.gp_values.proofs.story.put_parts.Given as goal
+
+abbrev pub invariant-loop-before : goal.invariant-loop-before
+invariant-loop-before l = l.text.items ++ elements_text l.before (elements_of (map (part_value l.places l.window) (drop l.before l.parts))) ≡ l.initial.text.items ++ elements_text 0 (elements_of (map (part_value l.places l.window) l.parts))

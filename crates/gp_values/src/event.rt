@@ -1,0 +1,98 @@
+ghost use Rattle.std.specs.Prelude.{◌≡◌, ◌++◌, OnOk, Some, option_copied, option_map};
+ghost use Rattle.gp_json.specs.Json.{json_text};
+ghost use Rattle.gp_values.specs.Events.{event_value, id_or_null, id_value, place_or_null, place_value, source_value, words_or_null};
+
+use crate::sentence::put_sentence;
+use gp_json::{put_name, put_named_number, put_named_string, put_string};
+use gp_place::{Place, Places, place_at};
+use gp_trace::Event;
+use gp_window::{EventId, Window, put_event_id};
+use std::alloc::AllocError;
+
+/// Puts an event, with its place where that is told.
+#[tactic(auto, unfolding(crate::specs::Events::event_value))]
+pub fn put_event(
+    text: &mut Vec<u8>,
+    window: &Window,
+    places: &Places,
+    id: EventId,
+) -> Result<(), AllocError>
+    ensures { OnOk result (text.new.items ≡ text.old.items ++ json_text (event_value places.now window.now id)) }
+{
+    text.extend_from_slice(b"{")?;
+    put_named_number(text, 0, b"thread", u64::from(id.thread))?;
+    put_named_number(text, 1, b"index", u64::from(id.index))?;
+    put_name(text, 2, b"text")?;
+    put_words(text, window.event(id))?;
+    put_name(text, 3, b"place")?;
+    put_place(text, place_at(places, window.number(), id))?;
+    text.extend_from_slice(b"}")
+}
+
+fn put_words(text: &mut Vec<u8>, event: Option<&Event>) -> Result<(), AllocError>
+    ensures { OnOk result (text.new.items ≡ text.old.items ++ json_text (words_or_null (option_copied event.entry))) }
+{
+    match event {
+        Some(event) => put_own_words(text, event),
+        None => text.extend_from_slice(b"null"),
+    }
+}
+
+#[tactic(auto, using(crate::proofs::Sentences::event_words_first))]
+fn put_own_words(text: &mut Vec<u8>, event: &Event) -> Result<(), AllocError>
+    ensures { OnOk result (text.new.items ≡ text.old.items ++ json_text (words_or_null (Some event.now))) }
+{
+    let mut words = Vec::new(*text.allocator());
+    gp_tell::put_event(&mut words, event)?;
+    put_sentence(text, words.as_slice())
+}
+
+fn put_place(text: &mut Vec<u8>, place: Option<&Place>) -> Result<(), AllocError>
+    ensures { OnOk result (text.new.items ≡ text.old.items ++ json_text (place_or_null (option_map (λ place. place.now) place.entry))) }
+{
+    match place {
+        Some(place) => put_known_place(text, place),
+        None => text.extend_from_slice(b"null"),
+    }
+}
+
+#[tactic(auto, unfolding(crate::specs::Events::place_value))]
+fn put_known_place(text: &mut Vec<u8>, place: &Place) -> Result<(), AllocError>
+    ensures { OnOk result (text.new.items ≡ text.old.items ++ json_text (place_value place.now)) }
+{
+    text.extend_from_slice(b"{")?;
+    put_named_string(text, 0, b"file", place.file.as_slice())?;
+    put_named_number(text, 1, b"line", u64::from(place.line))?;
+    put_named_string(text, 2, b"function", place.function.as_slice())?;
+    put_name(text, 3, b"source")?;
+    put_source(text, place.source.as_slice())?;
+    text.extend_from_slice(b"}")
+}
+
+fn put_source(text: &mut Vec<u8>, source: &[u8]) -> Result<(), AllocError>
+    ensures { OnOk result (text.new.items ≡ text.old.items ++ json_text (source_value source.now)) }
+{
+    match source {
+        [] => text.extend_from_slice(b"null"),
+        _ => put_string(text, source),
+    }
+}
+
+/// Puts the id of an event, where there is one.
+pub(crate) fn put_id_or_null(text: &mut Vec<u8>, id: Option<EventId>) -> Result<(), AllocError>
+    ensures { OnOk result (text.new.items ≡ text.old.items ++ json_text (id_or_null id)) }
+{
+    match id {
+        Some(id) => put_id(text, id),
+        None => text.extend_from_slice(b"null"),
+    }
+}
+
+/// Puts the id of an event.
+pub(crate) fn put_id(text: &mut Vec<u8>, id: EventId) -> Result<(), AllocError>
+    ensures { OnOk result (text.new.items ≡ text.old.items ++ json_text (id_value id)) }
+{
+    let mut word = Vec::new(*text.allocator());
+    put_event_id(&mut word, id)?;
+    put_string(text, word.as_slice())
+}

@@ -1,7 +1,6 @@
 -- What is shown of instances one after another: how many are asked for, and the text of those that are shown.
 use Rattle.std.proofs.Common.{◌≡◌, refl, sym, ap, ◌∙◌, ℕ, zero, suc, ◌+◌, ◌-◌, ◌<◌, ◌≤◌, min, Bool, true, false, cond, List, [], ◌∷◌, ◌++◌, length, take, append-nil, length-append, subst, arith}
-use Rattle.std.specs.Prelude.{Option, flat_map}
-use Rattle.std.proofs.lemmas.Grind.{flat_map-append}
+use Rattle.std.specs.Prelude.{Option}
 use Rattle.std.proofs.lemmas.List.{length-take}
 use Rattle.std.proofs.lemmas.List.Elements.{filter-append}
 use Rattle.gp_outside.specs.Sinks.{Appends, AppendsFront}
@@ -9,7 +8,9 @@ use Rattle.gp_predict.specs.WrittenLaws.{IsWritten, appends_both, front_first, f
 use Rattle.gp_view.specs.Answered.{AnsweredForm}
 use Rattle.gp_show.specs.Choice.{asked_count, asked_of, asks, shown_of}
 use Rattle.gp_show.specs.Request.{RequestForm}
-use Rattle.gp_show.specs.Show.{answered_text, answers_text, shown_text, text_after}
+use Rattle.gp_place.specs.declared.beside.Beside.{Beside}
+use Rattle.gp_words.specs.declared.showing.Style.{Style}
+use Rattle.gp_show.specs.Show.{answered_text, answers_text, separator, shown_text, text_after, told_from}
 
 -- nothing is taken of nothing
 take_none : {A : Type 0} (n : ℕ) → ◌≡◌ {A = List A} (take n []) []
@@ -24,6 +25,29 @@ take_append (suc n) (x ∷ xs) ys =
     let fewer : n - length xs ≡ suc n - suc (length xs) = omega arith in
     ap (λ rest. x ∷ rest) (take_append n xs ys ∙ ap (λ k. take n xs ++ take k ys) fewer)
 
+-- instances one after another, of two lists
+told_append : (style : Style) (beside : Beside) (before : ℕ) (xs ys : List AnsweredForm)
+    → told_from style beside before (xs ++ ys) ≡ told_from style beside before xs ++ told_from style beside (before + length xs) ys
+told_append style beside before [] ys = let none : before ≡ before + 0 = omega arith in ap (λ n. told_from style beside n ys) none
+told_append style beside before (x ∷ xs) ys =
+    let next : before + 1 + length xs ≡ before + length (x ∷ xs) = omega arith in
+    ap (λ rest. separator style before ++ answered_text style beside x ++ rest) (told_append style beside (before + 1) xs ys)
+    ∙ ap (λ n. separator style before ++ answered_text style beside x ++ (told_from style beside (before + 1) xs ++ told_from style beside n ys)) next
+    ∙ simp append_assoc
+
+-- where fewer are taken than there are, none is left to take, so that it does not matter how many were before
+told_left : (style : Style) (beside : Beside) (before most : ℕ) (xs ys : List AnsweredForm)
+    → told_from style beside (before + length (take most xs)) (take (most - length xs) ys) ≡ told_from style beside (before + length xs) (take (most - length xs) ys)
+told_left style beside before most xs ys = at (most - length xs) refl
+  where
+    at : (left : ℕ) → most - length xs ≡ left
+        → told_from style beside (before + length (take most xs)) (take left ys) ≡ told_from style beside (before + length xs) (take left ys)
+    at zero is = refl
+    at (suc left) is =
+        let taken : length (take most xs) ≡ min most (length xs) = length-take most xs in
+        let all : before + length (take most xs) ≡ before + length xs = omega (arith, taken, is) in
+        ap (λ n. told_from style beside n (take (suc left) ys)) all
+
 module _ (request : RequestForm) where
   -- of no instance none is asked for
   pub count_none : asked_count request.command [] ≡ 0
@@ -33,7 +57,7 @@ module _ (request : RequestForm) where
   -- and none is shown
   pub text_none : (before : ℕ) → text_after request before [] ≡ []
   unfolding text_after
-  text_none before = ap (flat_map (answered_text request.command.style request.beside)) (take_none (request.command.most - before))
+  text_none before = ap (told_from request.command.style request.beside before) (take_none (request.command.most - before))
 
   -- those asked for of two lists
   pub count_append : (xs ys : List AnsweredForm) → asked_count request.command (xs ++ ys) ≡ asked_count request.command xs + asked_count request.command ys
@@ -45,11 +69,16 @@ module _ (request : RequestForm) where
       → text_after request before (xs ++ ys) ≡ text_after request before xs ++ text_after request (before + asked_count request.command xs) ys
   unfolding asked_count text_after
   text_append before xs ys =
-      let left : request.command.most - before - length (asked_of request.command xs) ≡ request.command.most - (before + length (asked_of request.command xs)) = omega arith in
-      ap (λ (zs : List AnsweredForm). flat_map (answered_text request.command.style request.beside) (take (request.command.most - before) zs)) (filter-append (asks request.command) xs ys)
-      ∙ ap (flat_map (answered_text request.command.style request.beside)) (take_append (request.command.most - before) (asked_of request.command xs) (asked_of request.command ys))
-      ∙ flat_map-append (answered_text request.command.style request.beside) (take (request.command.most - before) (asked_of request.command xs)) (take (request.command.most - before - length (asked_of request.command xs)) (asked_of request.command ys))
-      ∙ ap (λ k. flat_map (answered_text request.command.style request.beside) (take (request.command.most - before) (asked_of request.command xs)) ++ flat_map (answered_text request.command.style request.beside) (take k (asked_of request.command ys))) left
+      let style = request.command.style in
+      let most : ℕ = request.command.most - before in
+      let first : List AnsweredForm = asked_of request.command xs in
+      let second : List AnsweredForm = asked_of request.command ys in
+      let left : most - length first ≡ request.command.most - (before + length first) = omega arith in
+      ap (λ (zs : List AnsweredForm). told_from style request.beside before (take most zs)) (filter-append (asks request.command) xs ys)
+      ∙ ap (told_from style request.beside before) (take_append most first second)
+      ∙ told_append style request.beside before (take most first) (take (most - length first) second)
+      ∙ ap (λ rest. told_from style request.beside before (take most first) ++ rest) (told_left style request.beside before most first second)
+      ∙ ap (λ k. told_from style request.beside before (take most first) ++ told_from style request.beside (before + length first) (take k second)) left
 
   passes : (answered : AnsweredForm) → asks request.command answered ≡ true → asked_of request.command (answered ∷ []) ≡ answered ∷ []
   passes answered is = subst (λ (b : Bool). cond b (answered ∷ []) [] ≡ answered ∷ []) (sym is) refl
@@ -66,8 +95,8 @@ module _ (request : RequestForm) where
   pub unasked_text : (before : ℕ) (answered : AnsweredForm) → asks request.command answered ≡ false → text_after request before (answered ∷ []) ≡ []
   unfolding text_after
   unasked_text before answered is =
-      ap (λ (xs : List AnsweredForm). flat_map (answered_text request.command.style request.beside) (take (request.command.most - before) xs)) (drops answered is)
-      ∙ ap (flat_map (answered_text request.command.style request.beside)) (take_none (request.command.most - before))
+      ap (λ (xs : List AnsweredForm). told_from request.command.style request.beside before (take (request.command.most - before) xs)) (drops answered is)
+      ∙ ap (told_from request.command.style request.beside before) (take_none (request.command.most - before))
 
   -- one that is asked for counts once
   pub asked_once : (answered : AnsweredForm) → asks request.command answered ≡ true → asked_count request.command (answered ∷ []) ≡ 1
@@ -75,20 +104,20 @@ module _ (request : RequestForm) where
   asked_once answered is = ap (λ (xs : List AnsweredForm). length xs) (passes answered is)
 
   one_of : (before left : ℕ) (answered : AnsweredForm) → request.command.most - before ≡ left → asks request.command answered ≡ true
-      → text_after request before (answered ∷ []) ≡ flat_map (answered_text request.command.style request.beside) (take left (answered ∷ []))
+      → text_after request before (answered ∷ []) ≡ told_from request.command.style request.beside before (take left (answered ∷ []))
   unfolding text_after
   one_of before left answered is asked =
-      ap (λ k. flat_map (answered_text request.command.style request.beside) (take k (asked_of request.command (answered ∷ [])))) is
-      ∙ ap (λ (xs : List AnsweredForm). flat_map (answered_text request.command.style request.beside) (take left xs)) (passes answered asked)
+      ap (λ k. told_from request.command.style request.beside before (take k (asked_of request.command (answered ∷ [])))) is
+      ∙ ap (λ (xs : List AnsweredForm). told_from request.command.style request.beside before (take left xs)) (passes answered asked)
 
   -- it is shown where not too many were before it
   pub asked_text : (before : ℕ) (answered : AnsweredForm) → asks request.command answered ≡ true → before < request.command.most
-      → text_after request before (answered ∷ []) ≡ answered_text request.command.style request.beside answered
+      → text_after request before (answered ∷ []) ≡ separator request.command.style before ++ answered_text request.command.style request.beside answered
   asked_text before answered asked below =
       let left : request.command.most - before ≡ suc (request.command.most - before - 1) = omega (arith, below) in
       one_of before (suc (request.command.most - before - 1)) answered left asked
-      ∙ ap (λ (rest : List AnsweredForm). flat_map (answered_text request.command.style request.beside) (answered ∷ rest)) (take_none (request.command.most - before - 1))
-      ∙ append-nil (answered_text request.command.style request.beside answered)
+      ∙ ap (λ (rest : List AnsweredForm). told_from request.command.style request.beside before (answered ∷ rest)) (take_none (request.command.most - before - 1))
+      ∙ append-nil (separator request.command.style before ++ answered_text request.command.style request.beside answered)
 
   -- and else not
   pub past_text : (before : ℕ) (answered : AnsweredForm) → asks request.command answered ≡ true → request.command.most ≤ before → text_after request before (answered ∷ []) ≡ []
@@ -100,8 +129,8 @@ module _ (request : RequestForm) where
   unfolding asked_count text_after
   told_whole answers =
       let all : request.command.most ≡ request.command.most - 0 = omega arith in
-      ap (λ k. flat_map (answered_text request.command.style request.beside) (take k (asked_of request.command answers)) ++ shown_text request.command.style (length (shown_of request.command request.command.most answers)) (length (asked_of request.command answers))) all
-      ∙ ap (λ k. flat_map (answered_text request.command.style request.beside) (take (request.command.most - 0) (asked_of request.command answers)) ++ shown_text request.command.style k (length (asked_of request.command answers))) (length-take request.command.most (asked_of request.command answers))
+      ap (λ k. told_from request.command.style request.beside 0 (take k (asked_of request.command answers)) ++ shown_text request.command.style (length (shown_of request.command request.command.most answers)) (length (asked_of request.command answers))) all
+      ∙ ap (λ k. told_from request.command.style request.beside 0 (take (request.command.most - 0) (asked_of request.command answers)) ++ shown_text request.command.style k (length (asked_of request.command answers))) (length-take request.command.most (asked_of request.command answers))
 
   -- the instances, and then how many of how many
   pub told_both : (old middle new : Option (List ℕ)) (answers : List AnsweredForm) (asked : ℕ) → asked ≡ 0 + asked_count request.command answers → Appends old middle (text_after request 0 answers)

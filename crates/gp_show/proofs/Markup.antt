@@ -1,6 +1,6 @@
 -- Nothing of what a page shows is read as markup.
-use Rattle.std.proofs.Common.{◌≡◌, refl, sym, ℕ, List, ◌++◌, length, subst}
-use Rattle.std.specs.Prelude.{codes, flat_map}
+use Rattle.std.proofs.Common.{◌≡◌, refl, sym, ℕ, ◌+◌, List, [], ◌∷◌, ◌++◌, length, subst}
+use Rattle.std.specs.Prelude.{codes}
 use Rattle.gp_beside.specs.Refusal.{fault_words}
 use Rattle.gp_beside.specs.declared.beside.Noted.{Noted}
 use Rattle.gp_beside.specs.declared.fault.NoteFault.{NoteFault}
@@ -11,6 +11,7 @@ use Rattle.gp_drawing.specs.MarkupLaws.{markup_append, markup_before, markup_bet
 use Rattle.gp_drawing.specs.Svg.{tip}
 use Rattle.gp_overview.specs.Laws.{OverviewsHaveOwnMarkup}
 use Rattle.gp_overview.specs.Page.{table_part, verdict_part}
+use Rattle.gp_place.specs.declared.beside.Beside.{Beside}
 use Rattle.gp_predict.specs.declared.submission.Submission.{Submission}
 use Rattle.gp_text.specs.Spelling.{joined}
 use Rattle.gp_view.specs.Answered.{AnsweredForm}
@@ -21,7 +22,7 @@ use Rattle.gp_words.specs.declared.showing.Style.TheVariants.{Page}
 use Rattle.gp_show.specs.Choice.{asked_of, shown_of}
 use Rattle.gp_show.specs.Laws.{PagesHaveOwnMarkup}
 use Rattle.gp_show.specs.Request.{RequestForm}
-use Rattle.gp_show.specs.Show.{answered_text, before_text, body_text, foot_text, head_text, left_out_part, left_out_text, page_foot, page_head, request_with, shown_text, shown_words, style_sheet, submitted_answers}
+use Rattle.gp_show.specs.Show.{before_text, body_text, foot_text, head_text, left_out_part, left_out_text, page_foot, page_head, request_with, shown_text, shown_words, style_sheet, submitted_answers, told_from, unshown_text}
 
 style_own : HasOwnMarkup style_sheet
 unfolding style_sheet
@@ -61,16 +62,21 @@ module _ (drawings : DrawingsHaveOwnMarkup) (overviews : OverviewsHaveOwnMarkup)
   all_before_own submission noted checked =
       markup_append (head_text Page submission checked) (left_out_text Page noted.left_out) (before_own submission checked) (left_out_own noted.left_out)
 
+  told_own : (beside : Beside) (before : ℕ) (answers : List AnsweredForm) → HasOwnMarkup (told_from Page beside before answers)
+  told_own beside before [] = markup_nil
+  told_own beside before (answered ∷ answers) =
+      markup_append (answered_part beside answered) (told_from Page beside (before + 1) answers) (answers_own beside answered) (told_own beside (before + 1) answers)
+
   -- the style is a page
   body_own : (request : RequestForm) (submission : Submission) (checked : Checked) → request.command.style ≡ Page → HasOwnMarkup (body_text request submission checked)
   body_own request submission Accepted is =
       let answers : List AnsweredForm = submitted_answers submission in
       let shown : List AnsweredForm = shown_of request.command request.command.most answers in
       let asked : List AnsweredForm = asked_of request.command answers in
-      subst (λ (style : Style). HasOwnMarkup (flat_map (answered_text style request.beside) shown ++ shown_text style (length shown) (length asked))) (sym is)
-      (markup_append (flat_map (answered_part request.beside) shown) (shown_text Page (length shown) (length asked))
-      (markup_flat_map (answered_part request.beside) shown (answers_own request.beside)) (count_own (length shown) (length asked)))
-  body_own request submission (Rejected failure) is = markup_nil
+      subst (λ (style : Style). HasOwnMarkup (told_from style request.beside 0 shown ++ shown_text style (length shown) (length asked))) (sym is)
+      (markup_append (told_from Page request.beside 0 shown) (shown_text Page (length shown) (length asked))
+      (told_own request.beside 0 shown) (count_own (length shown) (length asked)))
+  body_own request submission (Rejected failure) is = subst (λ (style : Style). HasOwnMarkup (unshown_text style)) (sym is) markup_nil
 
   pub pages_own : PagesHaveOwnMarkup
   pages_own command submission noted checked is =

@@ -1,5 +1,5 @@
 -- What is true of what is shown.
-use Rattle.std.specs.Prelude.{◌≡◌, List, map}
+use Rattle.std.specs.Prelude.{◌≡◌, List, ◌++◌, codes, map}
 use Rattle.gp_beside.specs.declared.beside.Noted.{Noted}
 use Rattle.gp_checker.specs.declared.failure.Checked.{Checked}
 use Rattle.gp_checker.specs.Accepted.{IsAccepted}
@@ -8,13 +8,15 @@ use Rattle.gp_predict.specs.declared.submission.Submission.{Submission}
 use Rattle.gp_property.specs.PropertyForm.{PropertyForm}
 use Rattle.gp_report.specs.Entries.{entries_of}
 use Rattle.gp_report.specs.ReportForm.{ReportForm}
+use Rattle.gp_json.specs.Json.{json_text}
 use Rattle.gp_view.specs.Answered.{AnsweredForm}
 use Rattle.gp_window.specs.RecordingForm.{RecordingForm}
 use Rattle.gp_window.specs.Windows.{all_windows}
 use Rattle.gp_words.specs.Showing.{ShowForm}
-use Rattle.gp_words.specs.declared.showing.Style.TheVariants.{Page}
+use Rattle.gp_words.specs.declared.showing.Style.TheVariants.{Json, Page}
 use Rattle.gp_show.specs.Answers.{answers_of}
 use Rattle.gp_show.specs.Show.{show_text}
+use Rattle.gp_show.specs.Shown.{shown_value}
 
 -- nothing of a report that is accepted is lost: its entries are those of the instances that may be shown, in their order
 abbrev pub AnswersAreEntries : Type 0
@@ -25,3 +27,8 @@ AnswersAreEntries = (recording : RecordingForm) (properties : List PropertyForm)
 abbrev pub PagesHaveOwnMarkup : Type 0
 PagesHaveOwnMarkup = (command : ShowForm) (submission : Submission) (noted : Noted) (checked : Checked) → command.style ≡ Page
     → HasOwnMarkup (show_text command submission noted checked)
+
+-- what is told as JSON is the text of one value, and a newline
+abbrev pub JsonIsOneValue : Type 0
+JsonIsOneValue = (command : ShowForm) (submission : Submission) (noted : Noted) (checked : Checked) → command.style ≡ Json
+    → show_text command submission noted checked ≡ json_text (shown_value command submission noted checked) ++ codes "\n"

@@ -4,4 +4,5 @@ pub mod Due
 pub mod Laws
 pub mod Request
 pub mod Show
+pub mod Shown
 pub mod Telling

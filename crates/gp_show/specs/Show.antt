@@ -1,6 +1,6 @@
 -- What is shown of a report: the verdict, the table, which files beside it are left out, and where the report is accepted the instances
 -- that are asked for, with what stands beside it.
-use Rattle.std.specs.Prelude.{ℕ, ◌-◌, List, [], ◌∷◌, ◌++◌, codes, decimal, flat_map, length, map}
+use Rattle.std.specs.Prelude.{ℕ, ◌+◌, ◌-◌, List, [], ◌∷◌, ◌++◌, codes, decimal, flat_map, length, map}
 use Rattle.gp_beside.specs.Refusal.{fault_words}
 use Rattle.gp_beside.specs.declared.beside.Noted.{Noted}
 use Rattle.gp_beside.specs.declared.fault.NoteFault.{NoteFault}
@@ -18,10 +18,13 @@ use Rattle.gp_text.specs.Spelling.{joined, spelling}
 use Rattle.gp_view.specs.Answered.{AnsweredForm}
 use Rattle.gp_view.specs.Page.{answered_part}
 use Rattle.gp_view.specs.Text.{answered_lines}
+use Rattle.gp_json.specs.Json.{comma, json_text}
+use Rattle.gp_values.specs.Instances.{answered_value}
+use Rattle.gp_values.specs.Report.{counted_members, instances_begun, instances_ended, overview_begun, report_ended, uncounted_members}
 use Rattle.gp_window.specs.Windows.{all_windows}
 use Rattle.gp_words.specs.Showing.{ShowForm}
 use Rattle.gp_words.specs.declared.showing.Style.{Style}
-use Rattle.gp_words.specs.declared.showing.Style.TheVariants.{Text, Page}
+use Rattle.gp_words.specs.declared.showing.Style.TheVariants.{Text, Page, Json}
 use Rattle.gp_show.specs.Answers.{answers_of}
 use Rattle.gp_show.specs.Choice.{asked_of, shown_of}
 use Rattle.gp_show.specs.Request.{RequestForm}
@@ -46,6 +49,7 @@ head_text Text submission checked =
     spelling (verdict_words submission.report.windows checked ∷ [] ∷ []) ++ table_text submission.listing.properties submission.report.windows
 head_text Page submission checked =
     page_head ++ verdict_part submission.report.windows checked ++ table_part submission.listing.properties submission.report.windows
+head_text Json submission checked = overview_begun submission.listing.properties submission.report.windows checked
 
 -- that a file beside the report is left out
 unfoldable pub left_out_line : NoteFault → List (List ℕ)
@@ -64,6 +68,7 @@ left_out_part fault = codes "<p>" ++ escaped (joined (fault_words fault)) ++ cod
 abbrev pub left_out_text : Style → List NoteFault → List ℕ
 left_out_text Text faults = spelling (left_out_lines faults)
 left_out_text Page faults = flat_map left_out_part faults
+left_out_text Json faults = instances_begun faults
 
 -- what stands before the instances of a report beside which this stands
 abbrev pub before_text : Style → Submission → Noted → Checked → List ℕ
@@ -73,11 +78,24 @@ before_text style submission noted checked = head_text style submission checked 
 abbrev pub answered_text : Style → Beside → AnsweredForm → List ℕ
 answered_text Text beside answered = spelling (answered_lines beside answered)
 answered_text Page beside answered = answered_part beside answered
+answered_text Json beside answered = json_text (answered_value beside answered)
+
+-- what parts an instance from those before it, so many
+abbrev pub separator : Style → ℕ → List ℕ
+separator Text before = []
+separator Page before = []
+separator Json before = comma before
+
+-- instances one after another, where so many are shown before them
+abbrev pub told_from : Style → Beside → ℕ → List AnsweredForm → List ℕ
+told_from style beside before [] = []
+told_from style beside before (answered ∷ answers) =
+    separator style before ++ answered_text style beside answered ++ told_from style beside (before + 1) answers
 
 -- those of further instances that are shown, where so many that are asked for were before them
 unfoldable pub text_after : RequestForm → ℕ → List AnsweredForm → List ℕ
 text_after request before answers =
-    flat_map (answered_text request.command.style request.beside) (shown_of request.command (request.command.most - before) answers)
+    told_from request.command.style request.beside before (shown_of request.command (request.command.most - before) answers)
 
 -- how many of so many instances that are asked for are shown
 abbrev pub shown_words : ℕ → ℕ → List (List ℕ)
@@ -87,16 +105,24 @@ shown_words shown asked = codes "shown" ∷ decimal shown ∷ codes "of" ∷ dec
 abbrev pub shown_text : Style → ℕ → ℕ → List ℕ
 shown_text Text shown asked = spelling ([] ∷ shown_words shown asked ∷ [])
 shown_text Page shown asked = codes "<p>" ++ escaped (joined (shown_words shown asked)) ++ codes "</p>\n"
+shown_text Json shown asked = instances_ended (counted_members shown asked)
+
+-- what stands in place of instances where the report is rejected
+abbrev pub unshown_text : Style → List ℕ
+unshown_text Text = []
+unshown_text Page = []
+unshown_text Json = instances_ended uncounted_members
 
 -- what stands at the end
 abbrev pub foot_text : Style → List ℕ
 foot_text Text = []
 foot_text Page = page_foot
+foot_text Json = report_ended
 
 -- the instances of a report that are asked for
 abbrev pub answers_text : RequestForm → List AnsweredForm → List ℕ
 answers_text request answers =
-    flat_map (answered_text request.command.style request.beside) (shown_of request.command request.command.most answers)
+    told_from request.command.style request.beside 0 (shown_of request.command request.command.most answers)
     ++ shown_text request.command.style (length (shown_of request.command request.command.most answers)) (length (asked_of request.command answers))
 
 -- all instances of what was submitted
@@ -106,7 +132,7 @@ submitted_answers submission = answers_of submission.listing.properties (all_win
 -- which instances are shown: none of a report that is rejected
 abbrev pub body_text : RequestForm → Submission → Checked → List ℕ
 body_text request submission Accepted = answers_text request (submitted_answers submission)
-body_text request submission (Rejected failure) = []
+body_text request submission (Rejected failure) = unshown_text request.command.style
 
 -- a command, where this stands beside the report
 abbrev pub request_with : ShowForm → Noted → RequestForm

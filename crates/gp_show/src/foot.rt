@@ -1,13 +1,14 @@
 ghost use Rattle.std.specs.Prelude.{◌≡◌, ◌≤◌, ◌++◌, Err, OnErr, OnOk, min};
 ghost use Rattle.gp_outside.specs.Faults.{Rose};
 ghost use Rattle.gp_outside.specs.Sinks.{Appends, AppendsFront};
-ghost use Rattle.gp_show.specs.Show.{foot_text, shown_text, shown_words};
+ghost use Rattle.gp_show.specs.Show.{foot_text, shown_text, shown_words, unshown_text};
 ghost use Rattle.gp_text.specs.Spelling.{joined};
 
 use crate::page::put_page_foot;
 use gp_drawing::put_between;
 use gp_outside::{PutFault, Sink};
 use gp_predict::put_each_line;
+use gp_values::{put_counted, put_end, put_uncounted};
 use gp_words::Style;
 use gp_writer::{put_word, put_words};
 use std::alloc::{AllocError, Global};
@@ -42,6 +43,7 @@ fn add_count(
     match style {
         Style::Text => add_count_lines(text, shown, asked),
         Style::Page => add_count_part(alloc, text, shown, asked),
+        Style::Json => put_counted(text, shown, asked),
     }
 }
 
@@ -76,6 +78,28 @@ fn add_shown_words(text: &mut Vec<u8>, shown: u64, asked: u64) -> Result<(), All
     put_words(text, &[asked])
 }
 
+/// Writes what stands in place of instances where the report is rejected.
+pub fn put_unshown<S: Sink>(alloc: Global, sink: &mut S, style: Style) -> Result<(), PutFault>
+    ensures later { S.faults sink.old ≤ S.faults sink.new }
+    ensures ok { OnOk result (Appends (S.written sink.old) (S.written sink.new) (unshown_text style)) }
+    ensures err { OnErr result (AppendsFront (S.written sink.old) (S.written sink.new) (unshown_text style)) }
+    ensures failed { result ≡ Err PutFault.Failed → Rose (S.faults sink.old) (S.faults sink.new) }
+{
+    let mut text = Vec::new(alloc);
+    add_unshown(&mut text, style)?;
+    put_each_line(sink, text.as_slice())
+}
+
+fn add_unshown(text: &mut Vec<u8>, style: Style) -> Result<(), AllocError>
+    ensures { OnOk result (text.new.items ≡ text.old.items ++ unshown_text style) }
+{
+    match style {
+        Style::Text => Ok(()),
+        Style::Page => Ok(()),
+        Style::Json => put_uncounted(text),
+    }
+}
+
 /// Writes what stands at the end.
 pub fn put_foot<S: Sink>(alloc: Global, sink: &mut S, style: Style) -> Result<(), PutFault>
     ensures later { S.faults sink.old ≤ S.faults sink.new }
@@ -83,19 +107,17 @@ pub fn put_foot<S: Sink>(alloc: Global, sink: &mut S, style: Style) -> Result<()
     ensures err { OnErr result (AppendsFront (S.written sink.old) (S.written sink.new) (foot_text style)) }
     ensures failed { result ≡ Err PutFault.Failed → Rose (S.faults sink.old) (S.faults sink.new) }
 {
-    match style {
-        Style::Text => Ok(()),
-        Style::Page => put_end_of_page(alloc, sink),
-    }
+    let mut text = Vec::new(alloc);
+    add_foot(&mut text, style)?;
+    put_each_line(sink, text.as_slice())
 }
 
-fn put_end_of_page<S: Sink>(alloc: Global, sink: &mut S) -> Result<(), PutFault>
-    ensures later { S.faults sink.old ≤ S.faults sink.new }
-    ensures ok { OnOk result (Appends (S.written sink.old) (S.written sink.new) (foot_text Style.Page)) }
-    ensures err { OnErr result (AppendsFront (S.written sink.old) (S.written sink.new) (foot_text Style.Page)) }
-    ensures failed { result ≡ Err PutFault.Failed → Rose (S.faults sink.old) (S.faults sink.new) }
+fn add_foot(text: &mut Vec<u8>, style: Style) -> Result<(), AllocError>
+    ensures { OnOk result (text.new.items ≡ text.old.items ++ foot_text style) }
 {
-    let mut text = Vec::new(alloc);
-    put_page_foot(&mut text)?;
-    put_each_line(sink, text.as_slice())
+    match style {
+        Style::Text => Ok(()),
+        Style::Page => put_page_foot(text),
+        Style::Json => put_end(text),
+    }
 }

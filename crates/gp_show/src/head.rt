@@ -14,6 +14,7 @@ use gp_outside::{PutFault, Sink};
 use gp_overview::{put_table, put_table_part, put_verdict, put_verdict_part};
 use gp_predict::{Submission, put_each_line};
 use gp_report::WindowRecord;
+use gp_values::put_overview;
 use gp_words::Style;
 use std::alloc::{AllocError, Global};
 
@@ -48,6 +49,7 @@ fn add_head(
     match style {
         Style::Text => add_lines(text, submission, checked),
         Style::Page => add_parts(text, submission, checked),
+        Style::Json => add_overview(text, submission, checked),
     }
 }
 
@@ -87,4 +89,15 @@ fn add_parts(
     put_page_head(text)?;
     put_verdict_part(text, windows, checked)?;
     put_table_part(text, submission.listing.properties.as_slice(), windows)
+}
+
+fn add_overview(
+    text: &mut Vec<u8>,
+    submission: &Submission,
+    checked: Checked,
+) -> Result<(), AllocError>
+    ensures { OnOk result (text.new.items ≡ text.old.items ++ head_text Style.Json submission.now checked) }
+{
+    let windows = submission.report.windows();
+    put_overview(text, submission.listing.properties.as_slice(), windows, checked)
 }

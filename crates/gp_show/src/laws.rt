@@ -1,7 +1,8 @@
-ghost use Rattle.gp_show.specs.Laws.{AnswersAreEntries, PagesHaveOwnMarkup};
+ghost use Rattle.gp_show.specs.Laws.{AnswersAreEntries, JsonIsOneValue, PagesHaveOwnMarkup};
 
 use gp_drawing::drawings_have_own_markup;
 use gp_overview::overviews_have_own_markup;
+use gp_values::pieces_are_the_value;
 use gp_view::answers_have_own_markup;
 
 /// The entries of a report that is accepted are those of the instances that may be shown, in their order.
@@ -16,4 +17,11 @@ pub fn pages_have_own_markup()
     drawings_have_own_markup();
     overviews_have_own_markup();
     answers_have_own_markup();
+}
+
+/// What is told as JSON is the text of one value, and a newline.
+pub fn json_is_one_value()
+    ensures { JsonIsOneValue }
+{
+    pieces_are_the_value();
 }

@@ -4,6 +4,7 @@ ghost use Rattle.gp_show.specs.Show.{left_out_line, left_out_lines, left_out_par
 
 use gp_beside::{NoteFault, put_fault};
 use gp_drawing::put_between;
+use gp_values::put_left_out;
 use gp_words::Style;
 use std::alloc::AllocError;
 
@@ -18,6 +19,7 @@ pub fn add_left_out(
     match style {
         Style::Text => add_lines(text, faults),
         Style::Page => add_parts(text, faults),
+        Style::Json => put_left_out(text, faults),
     }
 }
 

@@ -3,12 +3,13 @@ ghost use Rattle.gp_outside.specs.Faults.{Rose};
 ghost use Rattle.gp_outside.specs.Sinks.{Appends, AppendsFront};
 ghost use Rattle.gp_show.specs.Choice.{asked_count, asks};
 ghost use Rattle.gp_show.specs.Request.{request_form};
-ghost use Rattle.gp_show.specs.Show.{answered_text, text_after};
+ghost use Rattle.gp_show.specs.Show.{answered_text, separator, text_after};
 ghost use Rattle.gp_view.specs.Answered.{form_of};
 ghost use Rattle.gp_words.specs.Showing.{show_form};
 
 use crate::choice::asks;
 use crate::request::Request;
+use gp_json::put_comma;
 use gp_outside::{PutFault, Sink};
 use gp_predict::put_each_line;
 use gp_view::{Answered, put_answered, put_answered_part};
@@ -54,24 +55,37 @@ fn put_if_left<S: Sink>(
     if u64::from(request.command.most) <= asked {
         return Ok(());
     }
-    put_told(alloc, sink, request, answered)
+    put_told(alloc, sink, request, answered, asked)
 }
 
-/// Writes an instance, whose text is made in memory first.
+/// Writes an instance before which so many others are shown, whose text is made in memory first.
 fn put_told<S: Sink>(
     alloc: Global,
     sink: &mut S,
     request: &Request<'_>,
     answered: &Answered<'_>,
+    before: u64,
 ) -> Result<(), PutFault>
     ensures later { S.faults sink.old ≤ S.faults sink.new }
-    ensures ok { OnOk result (Appends (S.written sink.old) (S.written sink.new) (answered_text request.now.command.style request.now.beside.now (form_of answered.now))) }
-    ensures err { OnErr result (AppendsFront (S.written sink.old) (S.written sink.new) (answered_text request.now.command.style request.now.beside.now (form_of answered.now))) }
+    ensures ok { OnOk result (Appends (S.written sink.old) (S.written sink.new) (separator request.now.command.style before ++ answered_text request.now.command.style request.now.beside.now (form_of answered.now))) }
+    ensures err { OnErr result (AppendsFront (S.written sink.old) (S.written sink.new) (separator request.now.command.style before ++ answered_text request.now.command.style request.now.beside.now (form_of answered.now))) }
     ensures failed { result ≡ Err PutFault.Failed → Rose (S.faults sink.old) (S.faults sink.new) }
 {
     let mut text = Vec::new(alloc);
+    add_separator(&mut text, request.command.style, before)?;
     add_told(&mut text, request, answered)?;
     put_each_line(sink, text.as_slice())
+}
+
+/// Puts what parts an instance from those before it, so many.
+fn add_separator(text: &mut Vec<u8>, style: Style, before: u64) -> Result<(), AllocError>
+    ensures { OnOk result (text.new.items ≡ text.old.items ++ separator style before) }
+{
+    match style {
+        Style::Text => Ok(()),
+        Style::Page => Ok(()),
+        Style::Json => put_comma(text, before as usize),
+    }
 }
 
 fn add_told(
@@ -84,6 +98,7 @@ fn add_told(
     match request.command.style {
         Style::Text => put_answered(text, request.beside, answered),
         Style::Page => put_answered_part(text, request.beside, answered),
+        Style::Json => gp_values::put_answered(text, request.beside, answered),
     }
 }
 

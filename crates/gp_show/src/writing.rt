@@ -6,7 +6,7 @@ ghost use Rattle.gp_show.specs.Show.{answers_text, before_text, body_text, reque
 ghost use Rattle.gp_words.specs.Showing.{show_form};
 
 use crate::answers::put_submitted;
-use crate::foot::{put_count, put_foot};
+use crate::foot::{put_count, put_foot, put_unshown};
 use crate::head::put_head;
 use crate::request::Request;
 use crate::shown::Shown;
@@ -48,7 +48,7 @@ fn put_body<S: Sink>(alloc: Global, sink: &mut S, shown: &Shown<'_>) -> Result<(
     };
     match shown.checked {
         Checked::Accepted => put_answers(alloc, sink, &request, &shown.submission),
-        Checked::Rejected(_) => Ok(()),
+        Checked::Rejected(_) => put_unshown(alloc, sink, shown.command.style),
     }
 }
 

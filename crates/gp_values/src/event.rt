@@ -11,7 +11,7 @@ use std::alloc::AllocError;
 
 /// Puts an event, with its place where that is told.
 #[tactic(auto, unfolding(crate::specs::Events::event_value))]
-pub fn put_event(
+pub(crate) fn put_event(
     text: &mut Vec<u8>,
     window: &Window,
     places: &Places,

@@ -7,11 +7,11 @@ mod event;
 mod instance;
 mod overview;
 mod reason;
+mod report;
 mod sentence;
 mod story;
 
-pub use event::put_event;
 pub use instance::put_answered;
-pub use overview::{put_counts, put_verdict};
-pub use reason::put_reason;
-pub use story::put_story;
+pub use report::{
+    pieces_are_the_value, put_counted, put_end, put_left_out, put_overview, put_uncounted,
+};

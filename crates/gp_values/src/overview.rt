@@ -12,7 +12,7 @@ use gp_text::print_u64;
 use std::alloc::AllocError;
 
 /// Puts the members that tell the verdict on a report of these windows, behind one other member.
-pub fn put_verdict(
+pub(crate) fn put_verdict(
     text: &mut Vec<u8>,
     windows: &[WindowRecord],
     checked: Checked,
@@ -107,7 +107,7 @@ fn put_why(text: &mut Vec<u8>, reason: Reason, place: u64) -> Result<(), AllocEr
 /// Puts the members that tell how often a report of these windows has which answer, behind four other members.
 ///
 /// It looks at all that is told of any property for each property.
-pub fn put_counts(
+pub(crate) fn put_counts(
     text: &mut Vec<u8>,
     properties: &[Property],
     windows: &[WindowRecord],

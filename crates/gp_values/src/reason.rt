@@ -14,7 +14,7 @@ use std::alloc::AllocError;
 
 /// Puts a reason of the window of this number. An event has its place in parentheses behind its id.
 #[tactic(auto, unfolding(gp_tell::specs::Naming::name_by))]
-pub fn put_reason(
+pub(crate) fn put_reason(
     text: &mut Vec<u8>,
     places: &Places,
     window: u32,

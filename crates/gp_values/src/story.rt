@@ -12,7 +12,7 @@ use gp_window::Window;
 use std::alloc::AllocError;
 
 /// Puts a story of a window.
-pub fn put_story(
+pub(crate) fn put_story(
     text: &mut Vec<u8>,
     window: &Window,
     places: &Places,

@@ -20,6 +20,8 @@ pub enum Style {
     Text,
     /// As one HTML page, which wants nothing from outside.
     Page,
+    /// As one JSON value.
+    Json,
 }
 
 /// What the words of a command line of gpshow ask for.
@@ -70,6 +72,7 @@ fn style_named(name: &str) -> Option<Style>
     match name {
         "text" => Some(Style::Text),
         "html" => Some(Style::Page),
+        "json" => Some(Style::Json),
         _ => None,
     }
 }

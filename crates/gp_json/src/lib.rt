@@ -7,5 +7,5 @@ mod put;
 mod string;
 
 pub use laws::strings_read_back;
-pub use put::{put_comma, put_flag, put_name, put_named_number, put_named_string};
+pub use put::{put_comma, put_flag, put_name, put_named_number, put_named_small, put_named_string};
 pub use string::put_string;

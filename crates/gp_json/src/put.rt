@@ -48,6 +48,18 @@ pub fn put_named_number(
     print_u64(text, number)
 }
 
+/// Puts a member that is a number below 2^32.
+pub fn put_named_small(
+    text: &mut Vec<u8>,
+    before: usize,
+    name: &[u8],
+    number: u32,
+) -> Result<(), AllocError>
+    ensures { OnOk result (text.new.items ≡ text.old.items ++ (comma before ++ name_text name.now ++ decimal number)) }
+{
+    put_named_number(text, before, name, u64::from(number))
+}
+
 /// Puts a member that is a string.
 pub fn put_named_string(
     text: &mut Vec<u8>,

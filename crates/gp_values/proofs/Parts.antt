@@ -13,7 +13,7 @@ pub two_lists : {A : Type 0} (f : A → Json) (old : List ℕ) (xs : List A) (re
     → (old ++ elements_text 0 (elements_of (map f xs))) ++ elements_text (length xs) (elements_of rest) ≡ old ++ elements_text 0 (elements_of (map f xs ++ rest))
 two_lists f old xs rest =
     append_assoc old (elements_text 0 (elements_of (map f xs))) (elements_text (length xs) (elements_of rest))
-    ∙ ap (λ (n : ℕ). old ++ (elements_text 0 (elements_of (map f xs)) ++ elements_text n (elements_of rest))) (sym (length-map f xs))
+    ∙ ap (λ (n : ℕ). old ++ (elements_text 0 (elements_of (map f xs)) ++ elements_text n (elements_of rest))) (sym (length-map xs f))
     ∙ ap (λ text. old ++ text) (sym (elements_append 0 (map f xs) rest))
 
 four : (windows : List WindowRecord) (checked : Checked) → 1 + length (verdict_members windows checked) ≡ 4

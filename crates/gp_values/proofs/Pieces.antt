@@ -1,5 +1,5 @@
 -- The pieces of a report, one after another.
-use Rattle.std.proofs.Common.{◌≡◌, refl, ap, ◌∙◌, sym, ℕ, ◌+◌, List, [], ◌∷◌, ◌++◌, length, append_assoc}
+use Rattle.std.proofs.Common.{◌≡◌, refl, ap, ◌∙◌, sym, ℕ, ◌+◌, List, [], ◌∷◌, ◌++◌, length, append_assoc, arith}
 use Rattle.std.specs.Prelude.{codes}
 use Rattle.gp_beside.specs.declared.fault.NoteFault.{NoteFault}
 use Rattle.gp_checker.specs.declared.failure.Checked.{Checked}
@@ -18,7 +18,8 @@ six_members properties windows (Rejected failure) = refl
 members_whole : (overview rest : List Named) → length overview ≡ 6
     → members_text 0 (members_of (overview ++ rest)) ≡ members_text 0 (members_of overview) ++ members_text 6 (members_of rest)
 members_whole overview rest six =
-    members_append 0 overview rest ∙ ap (λ n. members_text 0 (members_of overview) ++ members_text n (members_of rest)) six
+    let count : 0 + length overview ≡ 6 = omega (arith, six) in
+    members_append 0 overview rest ∙ ap (λ n. members_text 0 (members_of overview) ++ members_text n (members_of rest)) count
 
 pub pieces_whole : PiecesAreTheValue
 unfolding overview_begun instances_begun instances_ended

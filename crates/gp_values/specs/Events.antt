@@ -43,10 +43,14 @@ abbrev pub words_or_null : Option Event → Json
 words_or_null None = Null
 words_or_null (Some event) = Text (joined (event_words event))
 
--- an event, with its place where that is told
-unfoldable pub event_value : Places → WindowForm → EventId → Json
-event_value places window id = object (
+-- an event of this id, and its place
+unfoldable pub placed_value : EventId → Option Event → Option Place → Json
+placed_value id event place = object (
     named (codes "thread") (Number id.thread)
     ∷ named (codes "index") (Number id.index)
-    ∷ named (codes "text") (words_or_null (event_at window id))
-    ∷ named (codes "place") (place_or_null (place_at places window.number id)) ∷ [])
+    ∷ named (codes "text") (words_or_null event)
+    ∷ named (codes "place") (place_or_null place) ∷ [])
+
+-- an event of a window, where there is one, with its place where that is told
+abbrev pub event_value : Places → WindowForm → EventId → Json
+event_value places window id = placed_value id (event_at window id) (place_at places window.number id)

@@ -2,7 +2,7 @@
 use Rattle.std.specs.Prelude.{ℕ, ◌-◌, List, [], ◌∷◌, ◌++◌, codes, filter, map}
 use Rattle.gp_json.specs.Json.{Json, Named, array, named, object}
 use Rattle.gp_json.specs.Json.Json.{Null, Number, Text}
-use Rattle.gp_place.specs.Places as places
+use Rattle.gp_place.specs.Places as naming
 use Rattle.gp_place.specs.declared.beside.Beside.{Beside}
 use Rattle.gp_place.specs.declared.beside.Sighting.{Sighting}
 use Rattle.gp_place.specs.declared.places.Places.{Places}
@@ -35,7 +35,7 @@ schedule_value places answered (Undecided worker from to) = Null
 -- why an impossible one is impossible
 abbrev pub why_value : Places → AnsweredForm → Answer → Json
 why_value places answered (Found schedule) = Null
-why_value places answered (Impossible certificate) = reason_value (places.named places answered.window.number) (reason_in answered certificate)
+why_value places answered (Impossible certificate) = reason_value (naming.named places answered.window.number) (reason_in answered certificate)
 why_value places answered (Undecided worker from to) = Null
 
 -- with how many learned clauses one was not decided

@@ -66,11 +66,13 @@ counts_value counts = object (
     ∷ named (codes "too_many") (Number counts.too_many)
     ∷ named (codes "too_large") (Number counts.too_large) ∷ [])
 
+-- a property of this name
+unfoldable pub counted_value : List ℕ → Counts → Json
+counted_value name counts = object (named (codes "name") (Text name) ∷ named (codes "counts") (counts_value counts) ∷ [])
+
 -- a property of a report of these windows
-unfoldable pub property_value : List WindowRecord → PropertyForm → Json
-property_value windows property = object (
-    named (codes "name") (Text property.name)
-    ∷ named (codes "counts") (counts_value (counts_of windows property.name)) ∷ [])
+abbrev pub property_value : List WindowRecord → PropertyForm → Json
+property_value windows property = counted_value property.name (counts_of windows property.name)
 
 -- how often a report of these windows has which answer: of each of these properties, and of all
 abbrev pub count_members : List PropertyForm → List WindowRecord → List Named

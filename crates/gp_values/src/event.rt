@@ -1,16 +1,15 @@
 ghost use Rattle.std.specs.Prelude.{◌≡◌, ◌++◌, OnOk, Some, option_copied, option_map};
 ghost use Rattle.gp_json.specs.Json.{json_text};
-ghost use Rattle.gp_values.specs.Events.{event_value, id_or_null, id_value, place_or_null, place_value, source_value, words_or_null};
+ghost use Rattle.gp_values.specs.Events.{event_value, id_or_null, id_value, place_or_null, place_value, placed_value, source_value, words_or_null};
 
-use crate::sentence::put_sentence;
-use gp_json::{put_name, put_named_number, put_named_string, put_string};
+use crate::sentence::{put_piece, put_sentence};
+use gp_json::{put_name, put_named_small, put_named_string, put_string};
 use gp_place::{Place, Places, place_at};
 use gp_trace::Event;
 use gp_window::{EventId, Window, put_event_id};
 use std::alloc::AllocError;
 
 /// Puts an event, with its place where that is told.
-#[tactic(auto, unfolding(crate::specs::Events::event_value))]
 pub(crate) fn put_event(
     text: &mut Vec<u8>,
     window: &Window,
@@ -19,14 +18,28 @@ pub(crate) fn put_event(
 ) -> Result<(), AllocError>
     ensures { OnOk result (text.new.items ≡ text.old.items ++ json_text (event_value places.now window.now id)) }
 {
-    text.extend_from_slice(b"{")?;
-    put_named_number(text, 0, b"thread", u64::from(id.thread))?;
-    put_named_number(text, 1, b"index", u64::from(id.index))?;
+    let place = place_at(places, window.number(), id);
+    put_placed(text, id, window.event(id), place)
+}
+
+#[tactic(auto, unfolding(crate::specs::Events::placed_value))]
+fn put_placed(
+    text: &mut Vec<u8>,
+    id: EventId,
+    event: Option<&Event>,
+    place: Option<&Place>,
+) -> Result<(), AllocError>
+    ensures { OnOk result (text.new.items ≡ text.old.items ++ json_text (placed_value id (option_copied event.entry) (option_map (λ place. place.now) place.entry))) }
+{
+    put_piece(text, b"{")?;
+    put_named_small(text, 0, b"thread", id.thread)?;
+    put_named_small(text, 1, b"index", id.index)?;
     put_name(text, 2, b"text")?;
-    put_words(text, window.event(id))?;
+    put_words(text, event)?;
     put_name(text, 3, b"place")?;
-    put_place(text, place_at(places, window.number(), id))?;
-    text.extend_from_slice(b"}")
+    put_place(text, place)?;
+    put_piece(text, b"}")?;
+    Ok(())
 }
 
 fn put_words(text: &mut Vec<u8>, event: Option<&Event>) -> Result<(), AllocError>
@@ -62,7 +75,7 @@ fn put_known_place(text: &mut Vec<u8>, place: &Place) -> Result<(), AllocError>
 {
     text.extend_from_slice(b"{")?;
     put_named_string(text, 0, b"file", place.file.as_slice())?;
-    put_named_number(text, 1, b"line", u64::from(place.line))?;
+    put_named_small(text, 1, b"line", place.line)?;
     put_named_string(text, 2, b"function", place.function.as_slice())?;
     put_name(text, 3, b"source")?;
     put_source(text, place.source.as_slice())?;

@@ -10,9 +10,10 @@ ghost use Rattle.gp_view.specs.Text.{is_of, reason_in, story_in};
 
 use crate::event::put_event;
 use crate::reason::put_reason;
+use crate::sentence::put_piece;
 use crate::story::put_story;
 use gp_certificate::Certificate;
-use gp_json::{put_comma, put_name, put_named_number, put_named_string, put_string};
+use gp_json::{put_comma, put_name, put_named_small, put_named_string, put_string};
 use gp_place::{Beside, Places, Sighting};
 use gp_report::Answer;
 use gp_text::print_u64;
@@ -31,30 +32,31 @@ pub fn put_answered(
 ) -> Result<(), AllocError>
     ensures { OnOk result (text.new.items ≡ text.old.items ++ json_text (answered_value beside.now (form_of answered.now))) }
 {
-    text.extend_from_slice(b"{")?;
+    put_piece(text, b"{")?;
     put_title(text, answered)?;
     put_name(text, 4, b"events")?;
     put_events(text, &beside.places, answered)?;
     put_name(text, 5, b"seen")?;
-    put_sightings(text, beside.sightings.as_slice(), answered)?;
+    put_sightings(text, beside, answered)?;
     put_name(text, 6, b"schedule")?;
     put_schedule(text, &beside.places, answered)?;
     put_name(text, 7, b"reason")?;
     put_why(text, &beside.places, answered)?;
     put_name(text, 8, b"learned")?;
     put_learned(text, &answered.entry.answer)?;
-    text.extend_from_slice(b"}")
+    put_piece(text, b"}")?;
+    Ok(())
 }
 
 /// Puts what an instance is.
 fn put_title(text: &mut Vec<u8>, answered: &Answered<'_>) -> Result<(), AllocError>
     ensures { OnOk result (text.new.items ≡ text.old.items ++ members_text 0 (members_of (title_members (form_of answered.now)))) }
 {
-    let window = u64::from(answered.encoded.window().number());
+    let window = answered.encoded.window().number();
     let property = answered.property.name().as_bytes();
-    put_named_number(text, 0, b"window", window)?;
+    put_named_small(text, 0, b"window", window)?;
     put_named_string(text, 1, b"property", property)?;
-    put_named_number(text, 2, b"instance", u64::from(answered.number))?;
+    put_named_small(text, 2, b"instance", answered.number)?;
     put_named_string(text, 3, b"answer", answer_word(&answered.entry.answer))
 }
 
@@ -88,13 +90,13 @@ fn put_each_event(
 
 fn put_sightings(
     text: &mut Vec<u8>,
-    sightings: &[Sighting],
+    beside: &Beside,
     answered: &Answered<'_>,
 ) -> Result<(), AllocError>
-    ensures { OnOk result (text.new.items ≡ text.old.items ++ json_text (sightings_value sightings.now (form_of answered.now))) }
+    ensures { OnOk result (text.new.items ≡ text.old.items ++ json_text (sightings_value beside.now.sightings (form_of answered.now))) }
 {
     text.extend_from_slice(b"[")?;
-    put_each_sighting(text, sightings, answered)?;
+    put_each_sighting(text, beside.sightings.as_slice(), answered)?;
     text.extend_from_slice(b"]")
 }
 

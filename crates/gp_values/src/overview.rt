@@ -1,10 +1,10 @@
 ghost use Rattle.std.specs.Prelude.{◌≡◌, ◌++◌, OnOk, map};
 ghost use Rattle.gp_json.specs.Json.{elements_of, elements_text, json_text, members_of, members_text};
-ghost use Rattle.gp_values.specs.Overview.{accepted_members, count_members, counts_value, failed_instance, failed_property, failure_value, property_value, rejected_members, verdict_members, why_value};
+ghost use Rattle.gp_values.specs.Overview.{accepted_members, count_members, counted_value, counts_value, failed_instance, failed_property, failure_value, property_value, rejected_members, verdict_members, why_value};
 
-use crate::sentence::put_sentence;
+use crate::sentence::{put_piece, put_sentence};
 use gp_checker::{Checked, Failure, Reason};
-use gp_json::{put_comma, put_flag, put_name, put_named_number, put_named_string};
+use gp_json::{put_comma, put_flag, put_name, put_named_number, put_named_small, put_named_string};
 use gp_overview::{Counts, answer_count, counts_of, put_reason, total_of};
 use gp_property::Property;
 use gp_report::WindowRecord;
@@ -50,15 +50,16 @@ fn put_rejected(text: &mut Vec<u8>, failure: Failure) -> Result<(), AllocError>
 fn put_failure(text: &mut Vec<u8>, failure: Failure) -> Result<(), AllocError>
     ensures { OnOk result (text.new.items ≡ text.old.items ++ json_text (failure_value failure)) }
 {
-    text.extend_from_slice(b"{")?;
-    put_named_number(text, 0, b"window", u64::from(failure.window))?;
+    put_piece(text, b"{")?;
+    put_named_small(text, 0, b"window", failure.window)?;
     put_name(text, 1, b"property")?;
     put_failed_property(text, failure)?;
     put_name(text, 2, b"instance")?;
     put_failed_instance(text, failure)?;
     put_name(text, 3, b"reason")?;
     put_why(text, failure.reason, failure.place)?;
-    text.extend_from_slice(b"}")
+    put_piece(text, b"}")?;
+    Ok(())
 }
 
 fn put_failed_property(text: &mut Vec<u8>, failure: Failure) -> Result<(), AllocError>
@@ -136,7 +137,6 @@ fn put_properties(
     Ok(())
 }
 
-#[tactic(auto, unfolding(crate::specs::Overview::property_value))]
 fn put_property(
     text: &mut Vec<u8>,
     property: &Property,
@@ -145,11 +145,19 @@ fn put_property(
     ensures { OnOk result (text.new.items ≡ text.old.items ++ json_text (property_value windows.now property.now)) }
 {
     let counts = counts_of(windows, property.name())?;
-    text.extend_from_slice(b"{")?;
-    put_named_string(text, 0, b"name", property.name().as_bytes())?;
+    put_counted(text, property.name().as_bytes(), counts)
+}
+
+#[tactic(auto, unfolding(crate::specs::Overview::counted_value))]
+fn put_counted(text: &mut Vec<u8>, name: &[u8], counts: Counts) -> Result<(), AllocError>
+    ensures { OnOk result (text.new.items ≡ text.old.items ++ json_text (counted_value name.now counts)) }
+{
+    put_piece(text, b"{")?;
+    put_named_string(text, 0, b"name", name)?;
     put_name(text, 1, b"counts")?;
     put_each_count(text, counts)?;
-    text.extend_from_slice(b"}")
+    put_piece(text, b"}")?;
+    Ok(())
 }
 
 #[tactic(auto, unfolding(crate::specs::Overview::counts_value))]
@@ -162,5 +170,6 @@ fn put_each_count(text: &mut Vec<u8>, counts: Counts) -> Result<(), AllocError>
     put_named_number(text, 2, b"undecided", counts.undecided)?;
     put_named_number(text, 3, b"too_many", counts.too_many)?;
     put_named_number(text, 4, b"too_large", counts.too_large)?;
-    text.extend_from_slice(b"}")
+    text.extend_from_slice(b"}")?;
+    Ok(())
 }

@@ -1,10 +1,10 @@
-ghost use Rattle.std.specs.Prelude.{◌≡◌, ◌++◌, OnOk, map};
-ghost use Rattle.gp_json.specs.Json.{elements_of, elements_text, json_text};
+ghost use Rattle.std.specs.Prelude.{◌≡◌, ◌∷◌, ◌++◌, [], OnOk, map};
+ghost use Rattle.gp_json.specs.Json.{array, elements_of, elements_text, json_text};
 ghost use Rattle.gp_place.specs.Places.{named};
 ghost use Rattle.gp_tell.specs.Naming.{name_by};
 ghost use Rattle.gp_values.specs.Reasons.{cycle_value, cycle_values, fact_value, ground_value, reason_value, says_value, step_value};
 
-use crate::sentence::put_sentence;
+use crate::sentence::{put_piece, put_sentence};
 use gp_json::{put_comma, put_name, put_string};
 use gp_place::Places;
 use gp_reason::{Fact, Ground, Reason, ReasonStep};
@@ -33,15 +33,33 @@ fn put_named_reason(
 ) -> Result<(), AllocError>
     ensures { OnOk result (text.new.items ≡ text.old.items ++ json_text (reason_value (name_by naming.now) reason.now)) }
 {
-    text.extend_from_slice(b"{")?;
+    put_piece(text, b"{")?;
     put_name(text, 0, b"assumed")?;
+    put_assumed(text, naming, reason)?;
+    put_name(text, 1, b"steps")?;
+    put_steps(text, naming, reason)?;
+    put_piece(text, b"}")?;
+    Ok(())
+}
+
+fn put_assumed(
+    text: &mut Vec<u8>,
+    naming: &Naming<'_>,
+    reason: &Reason,
+) -> Result<(), AllocError>
+    ensures { OnOk result (text.new.items ≡ text.old.items ++ json_text (array (map (fact_value (name_by naming.now)) reason.now.assumed))) }
+{
     text.extend_from_slice(b"[")?;
     put_facts(text, naming, reason.assumed.as_slice())?;
-    text.extend_from_slice(b"]")?;
-    put_name(text, 1, b"steps")?;
+    text.extend_from_slice(b"]")
+}
+
+fn put_steps(text: &mut Vec<u8>, naming: &Naming<'_>, reason: &Reason) -> Result<(), AllocError>
+    ensures { OnOk result (text.new.items ≡ text.old.items ++ json_text (array (map (step_value (name_by naming.now)) reason.now.steps))) }
+{
     text.extend_from_slice(b"[")?;
-    put_steps(text, naming, reason.steps.as_slice())?;
-    text.extend_from_slice(b"]}")
+    put_each_step(text, naming, reason.steps.as_slice())?;
+    text.extend_from_slice(b"]")
 }
 
 fn put_facts(text: &mut Vec<u8>, naming: &Naming<'_>, facts: &[Fact]) -> Result<(), AllocError>
@@ -66,7 +84,7 @@ fn put_fact_string(
     put_string(text, words.as_slice())
 }
 
-fn put_steps(
+fn put_each_step(
     text: &mut Vec<u8>,
     naming: &Naming<'_>,
     steps: &[ReasonStep],
@@ -157,8 +175,20 @@ fn put_cycle(
     let Some((first, others)) = events.split_first() else {
         return Ok(());
     };
+    put_cycle_after(text, naming, before, *first, others)
+}
+
+fn put_cycle_after(
+    text: &mut Vec<u8>,
+    naming: &Naming<'_>,
+    before: usize,
+    first: EventId,
+    others: &[EventId],
+) -> Result<(), AllocError>
+    ensures { OnOk result (text.new.items ≡ text.old.items ++ elements_text before (elements_of (cycle_value (name_by naming.now) first others.now ∷ []))) }
+{
     put_comma(text, before)?;
-    put_cycle_string(text, naming, *first, others)
+    put_cycle_string(text, naming, first, others)
 }
 
 #[tactic(auto, using(crate::proofs::Sentences::cycle_words_first))]

@@ -1,8 +1,10 @@
-ghost use Rattle.std.specs.Prelude.{◌≡◌, ◌-◌, ◌++◌, OnOk, length, map, option_copied, slice_get};
+ghost use Rattle.std.specs.Prelude.{◌≡◌, ◌-◌, ◌++◌, OnOk, length, map, slice_get};
 ghost use Rattle.gp_json.specs.Json.{elements_of, elements_text, json_text};
+ghost use Rattle.gp_window.specs.Events.{event_at};
 ghost use Rattle.gp_values.specs.Stories.{after_or_null, after_value, awaited_value, line_value, part_value, run_between, run_value, seen_value, sees_or_null, sees_value, story_value};
 
 use crate::event::{put_event, put_id, put_id_or_null};
+use crate::sentence::put_piece;
 use gp_json::{put_comma, put_flag, put_name, put_named_number, put_string};
 use gp_place::Places;
 use gp_story::{Part, Source, Story, StoryLine};
@@ -63,27 +65,28 @@ fn put_line(
 ) -> Result<(), AllocError>
     ensures { OnOk result (text.new.items ≡ text.old.items ++ json_text (line_value places.now window.now line.now)) }
 {
-    text.extend_from_slice(b"{")?;
+    put_piece(text, b"{")?;
     put_name(text, 0, b"number")?;
     put_number(text, line.place)?;
     put_name(text, 1, b"event")?;
     put_event(text, window, places, line.event)?;
     put_name(text, 2, b"sees")?;
-    put_sees(text, window.event(line.event), line.source)?;
+    put_sees(text, window, line)?;
     put_name(text, 3, b"after")?;
-    put_after(text, window.event(line.event), line.source)?;
+    put_after(text, window, line)?;
     put_name(text, 4, b"started_by")?;
     put_id_or_null(text, line.started_by)?;
     put_name(text, 5, b"is_of_instance")?;
     put_flag(text, line.is_marked)?;
-    text.extend_from_slice(b"}")
+    put_piece(text, b"}")?;
+    Ok(())
 }
 
-fn put_sees(text: &mut Vec<u8>, event: Option<&Event>, source: Source) -> Result<(), AllocError>
-    ensures { OnOk result (text.new.items ≡ text.old.items ++ json_text (sees_or_null (option_copied event.entry) source)) }
+fn put_sees(text: &mut Vec<u8>, window: &Window, line: &StoryLine) -> Result<(), AllocError>
+    ensures { OnOk result (text.new.items ≡ text.old.items ++ json_text (sees_or_null (event_at window.now line.now.event) line.now.source)) }
 {
-    match event {
-        Some(event) => put_seen(text, event, source),
+    match window.event(line.event) {
+        Some(event) => put_seen(text, event, line.source),
         None => text.extend_from_slice(b"null"),
     }
 }
@@ -107,11 +110,11 @@ fn put_seen_by_read(text: &mut Vec<u8>, source: Source) -> Result<(), AllocError
     }
 }
 
-fn put_after(text: &mut Vec<u8>, event: Option<&Event>, source: Source) -> Result<(), AllocError>
-    ensures { OnOk result (text.new.items ≡ text.old.items ++ json_text (after_or_null (option_copied event.entry) source)) }
+fn put_after(text: &mut Vec<u8>, window: &Window, line: &StoryLine) -> Result<(), AllocError>
+    ensures { OnOk result (text.new.items ≡ text.old.items ++ json_text (after_or_null (event_at window.now line.now.event) line.now.source)) }
 {
-    match event {
-        Some(event) => put_let_in(text, event, source),
+    match window.event(line.event) {
+        Some(event) => put_let_in(text, event, line.source),
         None => text.extend_from_slice(b"null"),
     }
 }
@@ -156,7 +159,7 @@ fn put_run_between(
 ) -> Result<(), AllocError>
     ensures { OnOk result (text.new.items ≡ text.old.items ++ json_text (run_value first.now last.now count)) }
 {
-    text.extend_from_slice(b"{")?;
+    put_piece(text, b"{")?;
     put_name(text, 0, b"first")?;
     put_number(text, first.place)?;
     put_name(text, 1, b"last")?;
@@ -166,5 +169,6 @@ fn put_run_between(
     put_name(text, 3, b"to")?;
     put_id(text, last.event)?;
     put_named_number(text, 4, b"count", count)?;
-    text.extend_from_slice(b"}")
+    put_piece(text, b"}")?;
+    Ok(())
 }

@@ -99,5 +99,10 @@ fn add_overview(
     ensures { OnOk result (text.new.items ≡ text.old.items ++ head_text Style.Json submission.now checked) }
 {
     let windows = submission.report.windows();
-    put_overview(text, submission.listing.properties.as_slice(), windows, checked)
+    put_overview(
+        text,
+        submission.listing.properties.as_slice(),
+        windows,
+        checked,
+    )
 }

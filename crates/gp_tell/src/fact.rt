@@ -10,11 +10,7 @@ use gp_window::EventId;
 use std::alloc::AllocError;
 
 /// Puts that one of these facts holds.
-pub fn put_any(
-    text: &mut Vec<u8>,
-    naming: &Naming<'_>,
-    facts: &[Fact],
-) -> Result<(), AllocError>
+pub fn put_any(text: &mut Vec<u8>, naming: &Naming<'_>, facts: &[Fact]) -> Result<(), AllocError>
     ensures { OnOk result (text.new.items ≡ text.old.items ++ any_text (name_by naming.now) facts.now) }
 {
     let Some((first, others)) = facts.split_first() else {
@@ -35,11 +31,7 @@ fn put_others(text: &mut Vec<u8>, naming: &Naming<'_>, facts: &[Fact]) -> Result
 }
 
 /// Puts a fact.
-pub fn put_fact(
-    text: &mut Vec<u8>,
-    naming: &Naming<'_>,
-    fact: &Fact,
-) -> Result<(), AllocError>
+pub fn put_fact(text: &mut Vec<u8>, naming: &Naming<'_>, fact: &Fact) -> Result<(), AllocError>
     ensures { OnOk result (text.new.items ≡ text.old.items ++ fact_text (name_by naming.now) fact.now) }
 {
     match fact {

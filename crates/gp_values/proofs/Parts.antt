@@ -1,5 +1,5 @@
 -- Lists of values one after another.
-use Rattle.std.proofs.Common.{◌≡◌, refl, ap, ◌∙◌, sym, ℕ, ◌+◌, List, [], ◌∷◌, ◌++◌, length, map, append_assoc}
+use Rattle.std.proofs.Common.{◌≡◌, refl, ap, ◌∙◌, sym, ℕ, ◌+◌, List, ◌++◌, length, map, append_assoc, arith}
 use Rattle.std.proofs.lemmas.List.{length-map}
 use Rattle.gp_checker.specs.declared.failure.Checked.{Checked}
 use Rattle.gp_checker.specs.declared.failure.Checked.TheVariants.{Accepted, Rejected}
@@ -12,8 +12,10 @@ use Rattle.gp_values.specs.Overview.{verdict_members}
 pub two_lists : {A : Type 0} (f : A → Json) (old : List ℕ) (xs : List A) (rest : List Json)
     → (old ++ elements_text 0 (elements_of (map f xs))) ++ elements_text (length xs) (elements_of rest) ≡ old ++ elements_text 0 (elements_of (map f xs ++ rest))
 two_lists f old xs rest =
+    let same = length-map xs f in
+    let count : length xs ≡ 0 + length (map f xs) = omega (arith, same) in
     append_assoc old (elements_text 0 (elements_of (map f xs))) (elements_text (length xs) (elements_of rest))
-    ∙ ap (λ (n : ℕ). old ++ (elements_text 0 (elements_of (map f xs)) ++ elements_text n (elements_of rest))) (sym (length-map xs f))
+    ∙ ap (λ (n : ℕ). old ++ (elements_text 0 (elements_of (map f xs)) ++ elements_text n (elements_of rest))) count
     ∙ ap (λ text. old ++ text) (sym (elements_append 0 (map f xs) rest))
 
 four : (windows : List WindowRecord) (checked : Checked) → 1 + length (verdict_members windows checked) ≡ 4

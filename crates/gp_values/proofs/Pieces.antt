@@ -1,14 +1,13 @@
 -- The pieces of a report, one after another.
-use Rattle.std.proofs.Common.{◌≡◌, refl, ap, ◌∙◌, sym, ℕ, ◌+◌, List, [], ◌∷◌, ◌++◌, length, append_assoc, arith}
+use Rattle.std.proofs.Common.{◌≡◌, refl, ap, ◌∙◌, ◌+◌, List, ◌∷◌, ◌++◌, length, append_assoc, arith}
 use Rattle.std.specs.Prelude.{codes}
-use Rattle.gp_beside.specs.declared.fault.NoteFault.{NoteFault}
 use Rattle.gp_checker.specs.declared.failure.Checked.{Checked}
 use Rattle.gp_checker.specs.declared.failure.Checked.TheVariants.{Accepted, Rejected}
-use Rattle.gp_json.specs.Json.{Json, Named, array, comma, elements_of, elements_text, json_text, members_of, members_text, name_text, named}
+use Rattle.gp_json.specs.Json.{Named, array, members_of, members_text, named}
 use Rattle.gp_json.specs.JsonLaws.{members_append}
 use Rattle.gp_property.specs.PropertyForm.{PropertyForm}
 use Rattle.gp_report.specs.Records.{WindowRecord}
-use Rattle.gp_values.specs.Report.{PiecesAreTheValue, instances_begun, instances_ended, left_out_member, overview_begun, overview_members, report_ended, report_value}
+use Rattle.gp_values.specs.Report.{PiecesAreTheValue, instances_begun, instances_ended, left_out_member, overview_begun, overview_members}
 
 six_members : (properties : List PropertyForm) (windows : List WindowRecord) (checked : Checked) → length (overview_members properties windows checked) ≡ 6
 six_members properties windows Accepted = refl

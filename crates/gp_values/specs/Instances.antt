@@ -1,5 +1,5 @@
 -- An instance of a report as a value: what it is, its events, what was seen of it, and what shows its answer.
-use Rattle.std.specs.Prelude.{ℕ, ◌-◌, List, [], ◌∷◌, ◌++◌, codes, filter, map}
+use Rattle.std.specs.Prelude.{◌-◌, List, [], ◌∷◌, ◌++◌, codes, filter, map}
 use Rattle.gp_json.specs.Json.{Json, Named, array, named, object}
 use Rattle.gp_json.specs.Json.Json.{Null, Number, Text}
 use Rattle.gp_place.specs.Places as naming

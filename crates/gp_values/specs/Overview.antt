@@ -4,7 +4,7 @@ use Rattle.gp_checker.specs.declared.failure.Checked.{Checked}
 use Rattle.gp_checker.specs.declared.failure.Checked.TheVariants.{Accepted, Rejected}
 use Rattle.gp_checker.specs.declared.failure.Failure.{Failure}
 use Rattle.gp_checker.specs.declared.failure.Reason.{Reason}
-use Rattle.gp_checker.specs.declared.failure.Reason.TheVariants.{WindowCount, WrongSize, WrongProperty, WrongEvents, Stuck, Unmatched, BadStep, Unrefuted, WrongBudget, BadSharedStep}
+use Rattle.gp_checker.specs.declared.failure.Reason.TheVariants.{WindowCount, WrongSize, WrongProperty, BadSharedStep}
 use Rattle.gp_json.specs.Json.{Json, Named, array, named, object}
 use Rattle.gp_json.specs.Json.Json.{Flag, Null, Number, Text}
 use Rattle.gp_overview.specs.Counts.{counts_of, total_of}

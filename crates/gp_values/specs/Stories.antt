@@ -1,5 +1,5 @@
 -- A story as a value: its parts in order.
-use Rattle.std.specs.Prelude.{ℕ, ◌+◌, ◌-◌, List, [], ◌∷◌, Option, Some, None, codes, length, map, slice_get}
+use Rattle.std.specs.Prelude.{ℕ, ◌+◌, ◌-◌, [], ◌∷◌, Option, Some, None, codes, length, map, slice_get}
 use Rattle.gp_json.specs.Json.{Json, array, named, object}
 use Rattle.gp_json.specs.Json.Json.{Flag, Null, Number, Text}
 use Rattle.gp_place.specs.declared.places.Places.{Places}

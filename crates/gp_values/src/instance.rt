@@ -160,11 +160,7 @@ fn put_found(
 }
 
 /// Puts why an impossible instance is impossible.
-fn put_why(
-    text: &mut Vec<u8>,
-    places: &Places,
-    answered: &Answered<'_>,
-) -> Result<(), AllocError>
+fn put_why(text: &mut Vec<u8>, places: &Places, answered: &Answered<'_>) -> Result<(), AllocError>
     ensures { OnOk result (text.new.items ≡ text.old.items ++ json_text (why_value places.now (form_of answered.now) answered.now.entry.now.answer)) }
 {
     match &answered.entry.answer {

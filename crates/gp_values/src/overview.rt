@@ -83,10 +83,8 @@ fn put_failed_instance(text: &mut Vec<u8>, failure: Failure) -> Result<(), Alloc
     ensures { OnOk result (text.new.items ≡ text.old.items ++ json_text (failed_instance failure.reason failure)) }
 {
     match failure.reason {
-        Reason::WindowCount
-        | Reason::WrongSize
-        | Reason::BadSharedStep
-        | Reason::WrongProperty => text.extend_from_slice(b"null"),
+        Reason::WindowCount | Reason::WrongSize | Reason::BadSharedStep | Reason::WrongProperty =>
+            text.extend_from_slice(b"null"),
         Reason::WrongEvents
         | Reason::Stuck
         | Reason::Unmatched

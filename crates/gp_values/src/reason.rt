@@ -42,11 +42,7 @@ fn put_named_reason(
     Ok(())
 }
 
-fn put_assumed(
-    text: &mut Vec<u8>,
-    naming: &Naming<'_>,
-    reason: &Reason,
-) -> Result<(), AllocError>
+fn put_assumed(text: &mut Vec<u8>, naming: &Naming<'_>, reason: &Reason) -> Result<(), AllocError>
     ensures { OnOk result (text.new.items ≡ text.old.items ++ json_text (array (map (fact_value (name_by naming.now)) reason.now.assumed))) }
 {
     text.extend_from_slice(b"[")?;
@@ -72,11 +68,7 @@ fn put_facts(text: &mut Vec<u8>, naming: &Naming<'_>, facts: &[Fact]) -> Result<
     Ok(())
 }
 
-fn put_fact_string(
-    text: &mut Vec<u8>,
-    naming: &Naming<'_>,
-    fact: &Fact,
-) -> Result<(), AllocError>
+fn put_fact_string(text: &mut Vec<u8>, naming: &Naming<'_>, fact: &Fact) -> Result<(), AllocError>
     ensures { OnOk result (text.new.items ≡ text.old.items ++ json_text (fact_value (name_by naming.now) fact.now)) }
 {
     let mut words = Vec::new(*text.allocator());
@@ -99,11 +91,7 @@ fn put_each_step(
 }
 
 #[tactic(auto, unfolding(crate::specs::Reasons::step_value))]
-fn put_step(
-    text: &mut Vec<u8>,
-    naming: &Naming<'_>,
-    step: &ReasonStep,
-) -> Result<(), AllocError>
+fn put_step(text: &mut Vec<u8>, naming: &Naming<'_>, step: &ReasonStep) -> Result<(), AllocError>
     ensures { OnOk result (text.new.items ≡ text.old.items ++ json_text (step_value (name_by naming.now) step.now)) }
 {
     text.extend_from_slice(b"{")?;
@@ -125,11 +113,7 @@ fn put_says(text: &mut Vec<u8>, naming: &Naming<'_>, facts: &[Fact]) -> Result<(
 
 /// Puts what a step rests on, and then the events of its cycle.
 #[tactic(auto, using(crate::proofs::Parts::two_lists))]
-fn put_basis(
-    text: &mut Vec<u8>,
-    naming: &Naming<'_>,
-    step: &ReasonStep,
-) -> Result<(), AllocError>
+fn put_basis(text: &mut Vec<u8>, naming: &Naming<'_>, step: &ReasonStep) -> Result<(), AllocError>
     ensures { OnOk result (text.new.items ≡ text.old.items ++ elements_text 0 (elements_of (map (ground_value (name_by naming.now)) step.now.grounds ++ cycle_values (name_by naming.now) step.now.cycle))) }
 {
     put_grounds(text, naming, step.grounds.as_slice())?;
@@ -151,11 +135,7 @@ fn put_grounds(
 }
 
 #[tactic(auto, using(crate::proofs::Sentences::ground_words_first))]
-fn put_ground(
-    text: &mut Vec<u8>,
-    naming: &Naming<'_>,
-    basis: &Ground,
-) -> Result<(), AllocError>
+fn put_ground(text: &mut Vec<u8>, naming: &Naming<'_>, basis: &Ground) -> Result<(), AllocError>
     ensures { OnOk result (text.new.items ≡ text.old.items ++ json_text (ground_value (name_by naming.now) basis.now)) }
 {
     let mut words = Vec::new(*text.allocator());

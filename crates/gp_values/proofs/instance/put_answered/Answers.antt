@@ -1,6 +1,10 @@
 -- The members one after another, between the braces.
 use Rattle.std.proofs.Common.{◌≡◌, ◌∙◌, ap, ℕ, List, [], ◌++◌, append_assoc, append-nil}
-use Rattle.std.specs.Prelude.{codes}
+use Rattle.std.specs.Prelude.{codes, decimal}
+use Rattle.gp_json.specs.Json.{comma, name_text}
+use Rattle.gp_json.specs.Strings.{string_text}
+use Rattle.gp_view.specs.Answered.{AnsweredForm, form_of}
+use Rattle.gp_view.specs.Text.{answer_word}
 use Rattle.gp_values.specs.Instances.{answered_value}
 use Rattle.gp_values.proofs.instance.put_answered.Goals as goal
 
@@ -13,4 +17,9 @@ all_put old a b c d e f g h i j k m n o t1 t2 t3 t4 t5 t6 t7 t8 t9 t10 t11 t12 t
 pub returns : goal.returns
 unfolding answered_value
 returns c =
-    all_put c.args.text.now.items _ _ _ _ _ _ _ _ _ _ _ _ _ _ _ _ _ _ _ _ _ _ _ _ _ _ _ c.in_ok-put_piece.ensures c.in_ok-put_title.ensures c.in_ok-put_name.ensures c.in_ok-put_events.ensures c.in_ok-put_name-2.ensures c.in_ok-put_sightings.ensures c.in_ok-put_name-3.ensures c.in_ok-put_schedule.ensures c.in_ok-put_name-4.ensures c.in_ok-put_why.ensures c.in_ok-put_name-5.ensures c.in_ok-put_learned.ensures c.in_ok-put_piece-2.ensures
+    let answered : AnsweredForm = form_of c.args.answered.now in
+    let window : List ℕ = comma 0 ++ name_text (codes "window") ++ decimal answered.window.number in
+    let property : List ℕ = comma 1 ++ name_text (codes "property") ++ string_text answered.property.name in
+    let instance : List ℕ = comma 2 ++ name_text (codes "instance") ++ decimal answered.number in
+    let answer : List ℕ = comma 3 ++ name_text (codes "answer") ++ string_text (answer_word answered.entry.answer) in
+    all_put c.args.text.now.items window property instance answer _ _ _ _ _ _ _ _ _ _ _ _ _ _ _ _ _ _ _ _ _ _ _ c.in_ok-put_piece.ensures c.in_ok-put_title.ensures c.in_ok-put_name.ensures c.in_ok-put_events.ensures c.in_ok-put_name-2.ensures c.in_ok-put_sightings.ensures c.in_ok-put_name-3.ensures c.in_ok-put_schedule.ensures c.in_ok-put_name-4.ensures c.in_ok-put_why.ensures c.in_ok-put_name-5.ensures c.in_ok-put_learned.ensures c.in_ok-put_piece-2.ensures

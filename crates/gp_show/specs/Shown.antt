@@ -1,5 +1,5 @@
 -- What is shown of a report, as one value.
-use Rattle.std.specs.Prelude.{ℕ, List, [], length, map}
+use Rattle.std.specs.Prelude.{List, [], length, map}
 use Rattle.gp_beside.specs.declared.beside.Noted.{Noted}
 use Rattle.gp_checker.specs.declared.failure.Checked.{Checked}
 use Rattle.gp_checker.specs.declared.failure.Checked.TheVariants.{Accepted, Rejected}

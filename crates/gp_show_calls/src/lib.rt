@@ -9,9 +9,11 @@ mod instances;
 mod overviews;
 mod places;
 mod reasons;
+mod values;
 
 pub use drawings::{draw, put_escaped};
 pub use instances::put_answered;
 pub use overviews::put_table;
 pub use places::{put_behind, put_named};
 pub use reasons::{cycle_of, forced, put_reason, put_story, reason};
+pub use values::{put_string, put_value};

@@ -2,6 +2,7 @@
 import os
 from typing import NamedTuple
 
+FILES = {'analyse': 'report', 'notify': 'notified', 'stuck': 'deadlocks'}  # the file for a task's report
 CONDITIONS = ('sleep', 'wake', 'notify', 'notifyall')
 
 

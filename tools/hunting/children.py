@@ -35,18 +35,10 @@ class Children:
             running = self.begin(words, streams)
         except OSError as fault:
             raise Failed('%s does not run: %s' % (words[0], fault.strerror)) from None
-        in_time = True
         try:
-            printed, told = running.communicate(timeout=seconds)
+            printed, told, in_time = *running.communicate(timeout=seconds), True
         except subprocess.TimeoutExpired:
-            in_time = False
-            running.terminate()
-            with_end = lambda: running.communicate(timeout=ENDING_SECONDS)
-            try:
-                printed, told = with_end()
-            except subprocess.TimeoutExpired:
-                end_group(running)
-                printed, told = running.communicate()
+            printed, told, in_time = *end_slowly(running), False
         finally:
             end_group(running)
             self.running.discard(running)
@@ -76,6 +68,16 @@ class Children:
         self.over = True
         for running in list(self.running):
             end_group(running)
+
+
+def end_slowly(running):
+    """What a command prints that is asked to end, as the recorder then writes what it has; and is made to where that takes long."""
+    running.terminate()
+    try:
+        return running.communicate(timeout=ENDING_SECONDS)
+    except subprocess.TimeoutExpired:
+        end_group(running)
+        return running.communicate()
 
 
 def end_group(running):

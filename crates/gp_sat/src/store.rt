@@ -1,4 +1,4 @@
-ghost use Rattle.std.specs.Prelude.{◌≡◌, ◌<◌, [], ◌∷◌, ◌++◌, length, slice_set, slice_index_or, OnOk, OnErr, true, false};
+ghost use Rattle.std.specs.Prelude.{◌≡◌, ◌<◌, ◌^◌, [], ◌∷◌, ◌++◌, length, slice_set, slice_index_or, IfOk, OnOk, OnErr, true, false};
 ghost use Rattle.gp_clause.specs.Clause.{IsRising};
 ghost use Rattle.gp_sat.specs.State.{clause_at, no_clause};
 
@@ -6,11 +6,12 @@ use gp_clause::{Clause, Lit};
 use std::alloc::{AllocError, Global};
 use std::marker::Model;
 
-/// Where the literals of a clause lie in the array of all literals, and whether it is attached.
+/// Where the literals of a clause lie in the array of all literals, and whether it is attached. In 12 bytes, since propagation
+/// waits for them.
 #[derive(Clone, Copy, PartialEq, Eq, Drop)]
 pub struct Range {
-    pub start: usize,
-    pub end: usize,
+    pub start: u32,
+    pub end: u32,
     pub attached: bool,
 }
 
@@ -57,7 +58,7 @@ impl Store {
         ensures rising { IsRising result.now }
     {
         let range = self.ranges[number];
-        &self.literals[range.start..range.end]
+        &self.literals[range.start as usize..range.end as usize]
     }
 
     pub fn is_attached(&self, number: usize) -> bool
@@ -67,15 +68,15 @@ impl Store {
         self.ranges[number].attached
     }
 
-    /// Adds a clause under the next number, attached.
+    /// Adds a clause under the next number, attached. More than 2^32 literals in all are as many as no memory holds.
     pub fn push(&mut self, clause: &Clause) -> Result<(), AllocError>
         ensures ok { OnOk result (self.new ≡ self.old ++ record { clause = clause.now; attached = true } ∷ []) }
         ensures err { OnErr result (self.new ≡ self.old) }
     {
-        let start = self.literals.len();
+        let start = place(self.literals.len())?;
+        let end = place(self.literals.len().saturating_add(clause.len()))?;
         self.ranges.reserve(1)?;
         self.literals.extend_from_slice(clause.lits())?;
-        let end = self.literals.len();
         self.ranges.push_reserved(Range {
             start,
             end,
@@ -90,5 +91,16 @@ impl Store {
         ensures { self.new ≡ slice_set self.old number (record { clause = clause_at self.old number; attached = false }) }
     {
         self.ranges[number].attached = false;
+    }
+}
+
+// A place in the array of all literals, which is less than 2^32.
+fn place(at: usize) -> Result<u32, AllocError>
+    ensures place { IfOk result (λ place. place ≡ at) }
+    ensures few { IfOk result (λ place. place < 2 ^ 32) }
+{
+    match u32::try_from(at) {
+        Ok(place) => Ok(place),
+        Err(_) => Err(AllocError),
     }
 }

@@ -68,7 +68,7 @@ impl Store {
         self.ranges[number].attached
     }
 
-    /// Adds a clause under the next number, attached. More than 2^32 literals in all are as many as no memory holds.
+    /// Adds a clause under the next number, attached. A place has 32 bits, so there is room for 2^32 literals in all, which take 34 GB.
     pub fn push(&mut self, clause: &Clause) -> Result<(), AllocError>
         ensures ok { OnOk result (self.new ≡ self.old ++ record { clause = clause.now; attached = true } ∷ []) }
         ensures err { OnErr result (self.new ≡ self.old) }

@@ -1,11 +1,9 @@
 -- A string is read as its bytes.
-use Rattle.std.proofs.Common.{◌≡◌, refl, sym, ap, ◌∙◌, arith, ℕ, zero, suc, ◌+◌, ◌-◌, ◌*◌, ◌<◌, ◌/◌, ◌%◌, Bool, true, false, List, [], ◌∷◌, ◌++◌, append_assoc}
+use Rattle.std.proofs.Common.{◌≡◌, refl, sym, ap, ◌∙◌, arith, ℕ, zero, suc, ◌<◌, ◌/◌, ◌%◌, Bool, true, false, List, [], ◌∷◌, ◌++◌, append_assoc}
 use Rattle.std.proofs.lemmas.Bool.{eqb-true}
-use Rattle.std.specs.Prelude.{◌==◌, ◌||◌, codes, nat_lt, if◌then◌else◌, Option, Some}
+use Rattle.std.specs.Prelude.{◌==◌, codes, if◌then◌else◌, Some}
 use Rattle.std.specs.List.{AllByRecursion}
-use Rattle.gp_json.specs.Json.{json_text}
-use Rattle.gp_json.specs.Json.Json.{Text}
-use Rattle.gp_json.specs.Reading.{StringRead, StringsReadBack, characters_read, digit_of, number_of, string_read, with_character}
+use Rattle.gp_json.specs.Reading.{StringsReadBack, characters_read, digit_of, number_of, with_character}
 use Rattle.gp_json.specs.Strings.{by_number, character_text, characters_text, hexadecimal, is_numbered, string_text}
 
 -- a digit counts what it was written for

@@ -16,6 +16,7 @@ mod Reports
 mod Results
 mod Schedules
 mod Sharded
+mod Shown
 mod Starts
 mod Tasks
 mod Traces

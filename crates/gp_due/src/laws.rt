@@ -1,6 +1,7 @@
 ghost use Rattle.gp_due.specs.NeverDue.{NeverDue, TextsAreDone};
 ghost use Rattle.gp_due.specs.Readers.{ContentsWantNoMemory, InstancesWantNoMemory, LinesWantNoMemory, PartsWantNoMemory, PropertiesWantNoMemory, RecordingsWantNoMemory, ReplaysWantNoMemory, ReportsWantNoMemory, SchedulesWantNoMemory, TracesWantNoMemory};
 ghost use Rattle.gp_due.specs.ShardsNeverDue.{ShardsAreDone, ShardsNeverDue};
+ghost use Rattle.gp_due.specs.ShownNeverDue.{ShownNeverDue, ShownTextsAreDone};
 
 /// A law: where a text is no lines, the fault is never want of memory.
 pub fn lines_want_no_memory()
@@ -71,4 +72,14 @@ pub fn shards_never_due()
 /// A law: what is due to that program has a status of 0 to 3, or 7.
 pub fn shards_are_done()
     ensures { ShardsAreDone }
+{}
+
+/// A law: whatever the words and whichever files are told, the answer without a text is not due to the program that shows a report.
+pub fn shown_never_due()
+    ensures { ShownNeverDue }
+{}
+
+/// A law: a text that is due to that program has a status of 0 to 3, or 7.
+pub fn shown_texts_are_done()
+    ensures { ShownTextsAreDone }
 {}

@@ -15,4 +15,4 @@ pub use counts::Counts;
 pub use laws::{overviews_have_own_markup, shows_examples, tables_add_up};
 pub use page::{put_table_part, put_verdict_part};
 pub use table::put_table;
-pub use verdict::{put_reason, put_verdict};
+pub use verdict::{put_reason, put_verdict, verdict_words};

@@ -24,7 +24,7 @@ pub fn put_verdict(
 }
 
 /// The verdict on a report of these windows.
-pub(crate) fn verdict_words(
+pub fn verdict_words(
     alloc: Global,
     windows: &[WindowRecord],
     checked: Checked,

@@ -46,13 +46,14 @@ fn put_words(text: &mut Vec<u8>, event: Option<&Event>) -> Result<(), AllocError
     ensures { OnOk result (text.new.items ≡ text.old.items ++ json_text (words_or_null (option_copied event.entry))) }
 {
     match event {
-        Some(event) => put_own_words(text, event),
+        Some(event) => put_event_words(text, event),
         None => text.extend_from_slice(b"null"),
     }
 }
 
+/// Puts an event as its trace has it, as a string.
 #[tactic(auto, using(crate::proofs::Sentences::event_words_first))]
-fn put_own_words(text: &mut Vec<u8>, event: &Event) -> Result<(), AllocError>
+pub fn put_event_words(text: &mut Vec<u8>, event: &Event) -> Result<(), AllocError>
     ensures { OnOk result (text.new.items ≡ text.old.items ++ json_text (words_or_null (Some event.now))) }
 {
     let mut words = Vec::new(*text.allocator());

@@ -11,6 +11,7 @@ mod report;
 mod sentence;
 mod story;
 
+pub use event::put_event_words;
 pub use instance::put_answered;
 pub use report::{
     pieces_are_the_value, put_counted, put_end, put_left_out, put_overview, put_uncounted,

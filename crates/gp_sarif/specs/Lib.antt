@@ -1,0 +1,5 @@
+pub mod Flows
+pub mod Locations
+pub mod Log
+pub mod Results
+pub mod Uri

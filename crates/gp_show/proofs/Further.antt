@@ -8,6 +8,7 @@ use Rattle.gp_predict.specs.WrittenLaws.{IsWritten, appends_both, front_first, f
 use Rattle.gp_view.specs.Answered.{AnsweredForm}
 use Rattle.gp_show.specs.Choice.{asked_count, asked_of, asks, shown_of}
 use Rattle.gp_show.specs.Request.{RequestForm}
+use Rattle.gp_property.specs.PropertyForm.{PropertyForm}
 use Rattle.gp_place.specs.declared.beside.Beside.{Beside}
 use Rattle.gp_words.specs.declared.showing.Style.{Style}
 use Rattle.gp_show.specs.Show.{answered_text, answers_text, separator, shown_text, text_after, told_from}
@@ -26,27 +27,27 @@ take_append (suc n) (x ∷ xs) ys =
     ap (λ rest. x ∷ rest) (take_append n xs ys ∙ ap (λ k. take n xs ++ take k ys) fewer)
 
 -- instances one after another, of two lists
-told_append : (style : Style) (beside : Beside) (before : ℕ) (xs ys : List AnsweredForm)
-    → told_from style beside before (xs ++ ys) ≡ told_from style beside before xs ++ told_from style beside (before + length xs) ys
-told_append style beside before [] ys = let none : before ≡ before + 0 = omega arith in ap (λ n. told_from style beside n ys) none
-told_append style beside before (x ∷ xs) ys =
+told_append : (style : Style) (properties : List PropertyForm) (beside : Beside) (before : ℕ) (xs ys : List AnsweredForm)
+    → told_from style properties beside before (xs ++ ys) ≡ told_from style properties beside before xs ++ told_from style properties beside (before + length xs) ys
+told_append style properties beside before [] ys = let none : before ≡ before + 0 = omega arith in ap (λ n. told_from style properties beside n ys) none
+told_append style properties beside before (x ∷ xs) ys =
     let next : before + 1 + length xs ≡ before + length (x ∷ xs) = omega arith in
-    ap (λ rest. separator style before ++ answered_text style beside x ++ rest) (told_append style beside (before + 1) xs ys)
-    ∙ ap (λ n. separator style before ++ answered_text style beside x ++ (told_from style beside (before + 1) xs ++ told_from style beside n ys)) next
+    ap (λ rest. separator style before ++ answered_text style properties beside x ++ rest) (told_append style properties beside (before + 1) xs ys)
+    ∙ ap (λ n. separator style before ++ answered_text style properties beside x ++ (told_from style properties beside (before + 1) xs ++ told_from style properties beside n ys)) next
     ∙ simp append_assoc
 
 -- where fewer are taken than there are, none is left to take, so that it does not matter how many were before
-told_left : (style : Style) (beside : Beside) (before most : ℕ) (xs ys : List AnsweredForm)
-    → told_from style beside (before + length (take most xs)) (take (most - length xs) ys) ≡ told_from style beside (before + length xs) (take (most - length xs) ys)
-told_left style beside before most xs ys = at (most - length xs) refl
+told_left : (style : Style) (properties : List PropertyForm) (beside : Beside) (before most : ℕ) (xs ys : List AnsweredForm)
+    → told_from style properties beside (before + length (take most xs)) (take (most - length xs) ys) ≡ told_from style properties beside (before + length xs) (take (most - length xs) ys)
+told_left style properties beside before most xs ys = at (most - length xs) refl
   where
     at : (left : ℕ) → most - length xs ≡ left
-        → told_from style beside (before + length (take most xs)) (take left ys) ≡ told_from style beside (before + length xs) (take left ys)
+        → told_from style properties beside (before + length (take most xs)) (take left ys) ≡ told_from style properties beside (before + length xs) (take left ys)
     at zero is = refl
     at (suc left) is =
         let taken : length (take most xs) ≡ min most (length xs) = length-take most xs in
         let all : before + length (take most xs) ≡ before + length xs = omega (arith, taken, is) in
-        ap (λ n. told_from style beside n (take (suc left) ys)) all
+        ap (λ n. told_from style properties beside n (take (suc left) ys)) all
 
 module _ (request : RequestForm) where
   -- of no instance none is asked for
@@ -57,7 +58,7 @@ module _ (request : RequestForm) where
   -- and none is shown
   pub text_none : (before : ℕ) → text_after request before [] ≡ []
   unfolding text_after
-  text_none before = ap (told_from request.command.style request.beside before) (take_none (request.command.most - before))
+  text_none before = ap (told_from request.command.style request.properties request.beside before) (take_none (request.command.most - before))
 
   -- those asked for of two lists
   pub count_append : (xs ys : List AnsweredForm) → asked_count request.command (xs ++ ys) ≡ asked_count request.command xs + asked_count request.command ys
@@ -74,11 +75,11 @@ module _ (request : RequestForm) where
       let first : List AnsweredForm = asked_of request.command xs in
       let second : List AnsweredForm = asked_of request.command ys in
       let left : most - length first ≡ request.command.most - (before + length first) = omega arith in
-      ap (λ (zs : List AnsweredForm). told_from style request.beside before (take most zs)) (filter-append (asks request.command) xs ys)
-      ∙ ap (told_from style request.beside before) (take_append most first second)
-      ∙ told_append style request.beside before (take most first) (take (most - length first) second)
-      ∙ ap (λ rest. told_from style request.beside before (take most first) ++ rest) (told_left style request.beside before most first second)
-      ∙ ap (λ k. told_from style request.beside before (take most first) ++ told_from style request.beside (before + length first) (take k second)) left
+      ap (λ (zs : List AnsweredForm). told_from style request.properties request.beside before (take most zs)) (filter-append (asks request.command) xs ys)
+      ∙ ap (told_from style request.properties request.beside before) (take_append most first second)
+      ∙ told_append style request.properties request.beside before (take most first) (take (most - length first) second)
+      ∙ ap (λ rest. told_from style request.properties request.beside before (take most first) ++ rest) (told_left style request.properties request.beside before most first second)
+      ∙ ap (λ k. told_from style request.properties request.beside before (take most first) ++ told_from style request.properties request.beside (before + length first) (take k second)) left
 
   passes : (answered : AnsweredForm) → asks request.command answered ≡ true → asked_of request.command (answered ∷ []) ≡ answered ∷ []
   passes answered is = subst (λ (b : Bool). cond b (answered ∷ []) [] ≡ answered ∷ []) (sym is) refl
@@ -95,8 +96,8 @@ module _ (request : RequestForm) where
   pub unasked_text : (before : ℕ) (answered : AnsweredForm) → asks request.command answered ≡ false → text_after request before (answered ∷ []) ≡ []
   unfolding text_after
   unasked_text before answered is =
-      ap (λ (xs : List AnsweredForm). told_from request.command.style request.beside before (take (request.command.most - before) xs)) (drops answered is)
-      ∙ ap (told_from request.command.style request.beside before) (take_none (request.command.most - before))
+      ap (λ (xs : List AnsweredForm). told_from request.command.style request.properties request.beside before (take (request.command.most - before) xs)) (drops answered is)
+      ∙ ap (told_from request.command.style request.properties request.beside before) (take_none (request.command.most - before))
 
   -- one that is asked for counts once
   pub asked_once : (answered : AnsweredForm) → asks request.command answered ≡ true → asked_count request.command (answered ∷ []) ≡ 1
@@ -104,20 +105,20 @@ module _ (request : RequestForm) where
   asked_once answered is = ap (λ (xs : List AnsweredForm). length xs) (passes answered is)
 
   one_of : (before left : ℕ) (answered : AnsweredForm) → request.command.most - before ≡ left → asks request.command answered ≡ true
-      → text_after request before (answered ∷ []) ≡ told_from request.command.style request.beside before (take left (answered ∷ []))
+      → text_after request before (answered ∷ []) ≡ told_from request.command.style request.properties request.beside before (take left (answered ∷ []))
   unfolding text_after
   one_of before left answered is asked =
-      ap (λ k. told_from request.command.style request.beside before (take k (asked_of request.command (answered ∷ [])))) is
-      ∙ ap (λ (xs : List AnsweredForm). told_from request.command.style request.beside before (take left xs)) (passes answered asked)
+      ap (λ k. told_from request.command.style request.properties request.beside before (take k (asked_of request.command (answered ∷ [])))) is
+      ∙ ap (λ (xs : List AnsweredForm). told_from request.command.style request.properties request.beside before (take left xs)) (passes answered asked)
 
   -- it is shown where not too many were before it
   pub asked_text : (before : ℕ) (answered : AnsweredForm) → asks request.command answered ≡ true → before < request.command.most
-      → text_after request before (answered ∷ []) ≡ separator request.command.style before ++ answered_text request.command.style request.beside answered
+      → text_after request before (answered ∷ []) ≡ separator request.command.style before ++ answered_text request.command.style request.properties request.beside answered
   asked_text before answered asked below =
       let left : request.command.most - before ≡ suc (request.command.most - before - 1) = omega (arith, below) in
       one_of before (suc (request.command.most - before - 1)) answered left asked
-      ∙ ap (λ (rest : List AnsweredForm). told_from request.command.style request.beside before (answered ∷ rest)) (take_none (request.command.most - before - 1))
-      ∙ append-nil (separator request.command.style before ++ answered_text request.command.style request.beside answered)
+      ∙ ap (λ (rest : List AnsweredForm). told_from request.command.style request.properties request.beside before (answered ∷ rest)) (take_none (request.command.most - before - 1))
+      ∙ append-nil (separator request.command.style before ++ answered_text request.command.style request.properties request.beside answered)
 
   -- and else not
   pub past_text : (before : ℕ) (answered : AnsweredForm) → asks request.command answered ≡ true → request.command.most ≤ before → text_after request before (answered ∷ []) ≡ []
@@ -129,8 +130,8 @@ module _ (request : RequestForm) where
   unfolding asked_count text_after
   told_whole answers =
       let all : request.command.most ≡ request.command.most - 0 = omega arith in
-      ap (λ k. told_from request.command.style request.beside 0 (take k (asked_of request.command answers)) ++ shown_text request.command.style (length (shown_of request.command request.command.most answers)) (length (asked_of request.command answers))) all
-      ∙ ap (λ k. told_from request.command.style request.beside 0 (take (request.command.most - 0) (asked_of request.command answers)) ++ shown_text request.command.style k (length (asked_of request.command answers))) (length-take request.command.most (asked_of request.command answers))
+      ap (λ k. told_from request.command.style request.properties request.beside 0 (take k (asked_of request.command answers)) ++ shown_text request.command.style (length (shown_of request.command request.command.most answers)) (length (asked_of request.command answers))) all
+      ∙ ap (λ k. told_from request.command.style request.properties request.beside 0 (take (request.command.most - 0) (asked_of request.command answers)) ++ shown_text request.command.style k (length (asked_of request.command answers))) (length-take request.command.most (asked_of request.command answers))
 
   -- the instances, and then how many of how many
   pub told_both : (old middle new : Option (List ℕ)) (answers : List AnsweredForm) (asked : ℕ) → asked ≡ 0 + asked_count request.command answers → Appends old middle (text_after request 0 answers)

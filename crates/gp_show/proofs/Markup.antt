@@ -13,6 +13,7 @@ use Rattle.gp_overview.specs.Laws.{OverviewsHaveOwnMarkup}
 use Rattle.gp_overview.specs.Page.{table_part, verdict_part}
 use Rattle.gp_place.specs.declared.beside.Beside.{Beside}
 use Rattle.gp_predict.specs.declared.submission.Submission.{Submission}
+use Rattle.gp_property.specs.PropertyForm.{PropertyForm}
 use Rattle.gp_text.specs.Spelling.{joined}
 use Rattle.gp_view.specs.Answered.{AnsweredForm}
 use Rattle.gp_view.specs.Laws.{AnswersHaveOwnMarkup}
@@ -62,10 +63,10 @@ module _ (drawings : DrawingsHaveOwnMarkup) (overviews : OverviewsHaveOwnMarkup)
   all_before_own submission noted checked =
       markup_append (head_text Page submission checked) (left_out_text Page noted.left_out) (before_own submission checked) (left_out_own noted.left_out)
 
-  told_own : (beside : Beside) (before : ℕ) (answers : List AnsweredForm) → HasOwnMarkup (told_from Page beside before answers)
-  told_own beside before [] = markup_nil
-  told_own beside before (answered ∷ answers) =
-      markup_append (answered_part beside answered) (told_from Page beside (before + 1) answers) (answers_own beside answered) (told_own beside (before + 1) answers)
+  told_own : (properties : List PropertyForm) (beside : Beside) (before : ℕ) (answers : List AnsweredForm) → HasOwnMarkup (told_from Page properties beside before answers)
+  told_own properties beside before [] = markup_nil
+  told_own properties beside before (answered ∷ answers) =
+      markup_append (answered_part beside answered) (told_from Page properties beside (before + 1) answers) (answers_own beside answered) (told_own properties beside (before + 1) answers)
 
   -- the style is a page
   body_own : (request : RequestForm) (submission : Submission) (checked : Checked) → request.command.style ≡ Page → HasOwnMarkup (body_text request submission checked)
@@ -73,17 +74,17 @@ module _ (drawings : DrawingsHaveOwnMarkup) (overviews : OverviewsHaveOwnMarkup)
       let answers : List AnsweredForm = submitted_answers submission in
       let shown : List AnsweredForm = shown_of request.command request.command.most answers in
       let asked : List AnsweredForm = asked_of request.command answers in
-      subst (λ (style : Style). HasOwnMarkup (told_from style request.beside 0 shown ++ shown_text style (length shown) (length asked))) (sym is)
-      (markup_append (told_from Page request.beside 0 shown) (shown_text Page (length shown) (length asked))
-      (told_own request.beside 0 shown) (count_own (length shown) (length asked)))
+      subst (λ (style : Style). HasOwnMarkup (told_from style request.properties request.beside 0 shown ++ shown_text style (length shown) (length asked))) (sym is)
+      (markup_append (told_from Page request.properties request.beside 0 shown) (shown_text Page (length shown) (length asked))
+      (told_own request.properties request.beside 0 shown) (count_own (length shown) (length asked)))
   body_own request submission (Rejected failure) is = subst (λ (style : Style). HasOwnMarkup (unshown_text style)) (sym is) markup_nil
 
   pub pages_own : PagesHaveOwnMarkup
   pages_own command submission noted checked is =
       let before : List ℕ = before_text command.style submission noted checked in
-      let body : List ℕ = body_text (request_with command noted) submission checked in
+      let body : List ℕ = body_text (request_with command submission noted) submission checked in
       markup_append (before ++ body) (foot_text command.style)
       (markup_append before body
       (subst (λ (style : Style). HasOwnMarkup (before_text style submission noted checked)) (sym is) (all_before_own submission noted checked))
-      (body_own (request_with command noted) submission checked is))
+      (body_own (request_with command submission noted) submission checked is))
       (subst (λ (style : Style). HasOwnMarkup (foot_text style)) (sym is) foot_own)

@@ -13,10 +13,10 @@ use Rattle.gp_view.specs.Answered.{AnsweredForm}
 use Rattle.gp_window.specs.RecordingForm.{RecordingForm}
 use Rattle.gp_window.specs.Windows.{all_windows}
 use Rattle.gp_words.specs.Showing.{ShowForm}
-use Rattle.gp_words.specs.declared.showing.Style.TheVariants.{Json, Page}
+use Rattle.gp_words.specs.declared.showing.Style.TheVariants.{Json, Page, Sarif}
 use Rattle.gp_show.specs.Answers.{answers_of}
 use Rattle.gp_show.specs.Show.{show_text}
-use Rattle.gp_show.specs.Shown.{shown_value}
+use Rattle.gp_show.specs.Shown.{log_shown, shown_value}
 
 -- nothing of a report that is accepted is lost: its entries are those of the instances that may be shown, in their order
 abbrev pub AnswersAreEntries : Type 0
@@ -32,3 +32,8 @@ PagesHaveOwnMarkup = (command : ShowForm) (submission : Submission) (noted : Not
 abbrev pub JsonIsOneValue : Type 0
 JsonIsOneValue = (command : ShowForm) (submission : Submission) (noted : Noted) (checked : Checked) → command.style ≡ Json
     → show_text command submission noted checked ≡ json_text (shown_value command submission noted checked) ++ codes "\n"
+
+-- what is told as SARIF is the text of one log, and a newline
+abbrev pub SarifIsOneLog : Type 0
+SarifIsOneLog = (command : ShowForm) (submission : Submission) (noted : Noted) (checked : Checked) → command.style ≡ Sarif
+    → show_text command submission noted checked ≡ json_text (log_shown command submission noted checked) ++ codes "\n"

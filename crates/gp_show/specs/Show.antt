@@ -14,6 +14,9 @@ use Rattle.gp_overview.specs.Verdict.{verdict_words}
 use Rattle.gp_place.specs.declared.beside.Beside.{Beside}
 use Rattle.gp_predict.specs.Told.{Nothing, Told}
 use Rattle.gp_predict.specs.declared.submission.Submission.{Submission}
+use Rattle.gp_property.specs.PropertyForm.{PropertyForm}
+use Rattle.gp_sarif.specs.Log as sarif
+use Rattle.gp_sarif.specs.Results.{result_value}
 use Rattle.gp_text.specs.Spelling.{joined, spelling}
 use Rattle.gp_view.specs.Answered.{AnsweredForm}
 use Rattle.gp_view.specs.Page.{answered_part}
@@ -24,7 +27,7 @@ use Rattle.gp_values.specs.Report.{counted_members, instances_begun, instances_e
 use Rattle.gp_window.specs.Windows.{all_windows}
 use Rattle.gp_words.specs.Showing.{ShowForm}
 use Rattle.gp_words.specs.declared.showing.Style.{Style}
-use Rattle.gp_words.specs.declared.showing.Style.TheVariants.{Text, Page, Json}
+use Rattle.gp_words.specs.declared.showing.Style.TheVariants.{Text, Page, Json, Sarif}
 use Rattle.gp_show.specs.Answers.{answers_of}
 use Rattle.gp_show.specs.Choice.{asked_of, shown_of}
 use Rattle.gp_show.specs.Request.{RequestForm}
@@ -50,6 +53,7 @@ head_text Text submission checked =
 head_text Page submission checked =
     page_head ++ verdict_part submission.report.windows checked ++ table_part submission.listing.properties submission.report.windows
 head_text Json submission checked = overview_begun submission.listing.properties submission.report.windows checked
+head_text Sarif submission checked = sarif.log_begun submission.listing.properties submission.report.windows checked
 
 -- that a file beside the report is left out
 unfoldable pub left_out_line : NoteFault → List (List ℕ)
@@ -69,33 +73,36 @@ abbrev pub left_out_text : Style → List NoteFault → List ℕ
 left_out_text Text faults = spelling (left_out_lines faults)
 left_out_text Page faults = flat_map left_out_part faults
 left_out_text Json faults = instances_begun faults
+left_out_text Sarif faults = sarif.results_begun faults
 
 -- what stands before the instances of a report beside which this stands
 abbrev pub before_text : Style → Submission → Noted → Checked → List ℕ
 before_text style submission noted checked = head_text style submission checked ++ left_out_text style noted.left_out
 
--- an instance, with what stands beside the report
-abbrev pub answered_text : Style → Beside → AnsweredForm → List ℕ
-answered_text Text beside answered = spelling (answered_lines beside answered)
-answered_text Page beside answered = answered_part beside answered
-answered_text Json beside answered = json_text (answered_value beside answered)
+-- an instance, with what stands beside the report that answers these properties
+abbrev pub answered_text : Style → List PropertyForm → Beside → AnsweredForm → List ℕ
+answered_text Text properties beside answered = spelling (answered_lines beside answered)
+answered_text Page properties beside answered = answered_part beside answered
+answered_text Json properties beside answered = json_text (answered_value beside answered)
+answered_text Sarif properties beside answered = json_text (result_value properties beside.places answered)
 
 -- what parts an instance from those before it, so many
 abbrev pub separator : Style → ℕ → List ℕ
 separator Text before = []
 separator Page before = []
 separator Json before = comma before
+separator Sarif before = comma before
 
 -- instances one after another, where so many are shown before them
-abbrev pub told_from : Style → Beside → ℕ → List AnsweredForm → List ℕ
-told_from style beside before [] = []
-told_from style beside before (answered ∷ answers) =
-    separator style before ++ answered_text style beside answered ++ told_from style beside (before + 1) answers
+abbrev pub told_from : Style → List PropertyForm → Beside → ℕ → List AnsweredForm → List ℕ
+told_from style properties beside before [] = []
+told_from style properties beside before (answered ∷ answers) =
+    separator style before ++ answered_text style properties beside answered ++ told_from style properties beside (before + 1) answers
 
 -- those of further instances that are shown, where so many that are asked for were before them
 unfoldable pub text_after : RequestForm → ℕ → List AnsweredForm → List ℕ
 text_after request before answers =
-    told_from request.command.style request.beside before (shown_of request.command (request.command.most - before) answers)
+    told_from request.command.style request.properties request.beside before (shown_of request.command (request.command.most - before) answers)
 
 -- how many of so many instances that are asked for are shown
 abbrev pub shown_words : ℕ → ℕ → List (List ℕ)
@@ -106,23 +113,26 @@ abbrev pub shown_text : Style → ℕ → ℕ → List ℕ
 shown_text Text shown asked = spelling ([] ∷ shown_words shown asked ∷ [])
 shown_text Page shown asked = codes "<p>" ++ escaped (joined (shown_words shown asked)) ++ codes "</p>\n"
 shown_text Json shown asked = instances_ended (counted_members shown asked)
+shown_text Sarif shown asked = sarif.results_ended (sarif.counted_members shown asked)
 
 -- what stands in place of instances where the report is rejected
 abbrev pub unshown_text : Style → List ℕ
 unshown_text Text = []
 unshown_text Page = []
 unshown_text Json = instances_ended uncounted_members
+unshown_text Sarif = sarif.results_ended []
 
 -- what stands at the end
 abbrev pub foot_text : Style → List ℕ
 foot_text Text = []
 foot_text Page = page_foot
 foot_text Json = report_ended
+foot_text Sarif = sarif.log_ended
 
 -- the instances of a report that are asked for
 abbrev pub answers_text : RequestForm → List AnsweredForm → List ℕ
 answers_text request answers =
-    told_from request.command.style request.beside 0 (shown_of request.command request.command.most answers)
+    told_from request.command.style request.properties request.beside 0 (shown_of request.command request.command.most answers)
     ++ shown_text request.command.style (length (shown_of request.command request.command.most answers)) (length (asked_of request.command answers))
 
 -- all instances of what was submitted
@@ -134,14 +144,14 @@ abbrev pub body_text : RequestForm → Submission → Checked → List ℕ
 body_text request submission Accepted = answers_text request (submitted_answers submission)
 body_text request submission (Rejected failure) = unshown_text request.command.style
 
--- a command, where this stands beside the report
-abbrev pub request_with : ShowForm → Noted → RequestForm
-request_with command noted = record { command = command; beside = noted.beside }
+-- a command, where this was submitted and this stands beside the report
+abbrev pub request_with : ShowForm → Submission → Noted → RequestForm
+request_with command submission noted = record { command = command; properties = submission.listing.properties; beside = noted.beside }
 
 -- what is shown of a report that was checked so, beside which this stands
 abbrev pub show_text : ShowForm → Submission → Noted → Checked → List ℕ
 show_text command submission noted checked =
-    before_text command.style submission noted checked ++ body_text (request_with command noted) submission checked ++ foot_text command.style
+    before_text command.style submission noted checked ++ body_text (request_with command submission noted) submission checked ++ foot_text command.style
 
 -- 0 where it is accepted, and 1 where it is rejected
 abbrev pub show_status : Checked → ℕ

@@ -44,6 +44,7 @@ fn add_count(
         Style::Text => add_count_lines(text, shown, asked),
         Style::Page => add_count_part(alloc, text, shown, asked),
         Style::Json => put_counted(text, shown, asked),
+        Style::Sarif => gp_sarif::put_counted(text, shown, asked),
     }
 }
 
@@ -97,6 +98,7 @@ fn add_unshown(text: &mut Vec<u8>, style: Style) -> Result<(), AllocError>
         Style::Text => Ok(()),
         Style::Page => Ok(()),
         Style::Json => put_uncounted(text),
+        Style::Sarif => gp_sarif::put_uncounted(text),
     }
 }
 
@@ -119,5 +121,6 @@ fn add_foot(text: &mut Vec<u8>, style: Style) -> Result<(), AllocError>
         Style::Text => Ok(()),
         Style::Page => put_page_foot(text),
         Style::Json => put_end(text),
+        Style::Sarif => gp_sarif::put_end(text),
     }
 }

@@ -14,6 +14,7 @@ use gp_outside::{PutFault, Sink};
 use gp_overview::{put_table, put_table_part, put_verdict, put_verdict_part};
 use gp_predict::{Submission, put_each_line};
 use gp_report::WindowRecord;
+use gp_sarif::put_log_head;
 use gp_values::put_overview;
 use gp_words::Style;
 use std::alloc::{AllocError, Global};
@@ -50,6 +51,7 @@ fn add_head(
         Style::Text => add_lines(text, submission, checked),
         Style::Page => add_parts(text, submission, checked),
         Style::Json => add_overview(text, submission, checked),
+        Style::Sarif => add_log_head(text, submission, checked),
     }
 }
 
@@ -100,6 +102,22 @@ fn add_overview(
 {
     let windows = submission.report.windows();
     put_overview(
+        text,
+        submission.listing.properties.as_slice(),
+        windows,
+        checked,
+    )
+}
+
+fn add_log_head(
+    text: &mut Vec<u8>,
+    submission: &Submission,
+    checked: Checked,
+) -> Result<(), AllocError>
+    ensures { OnOk result (text.new.items ≡ text.old.items ++ head_text Style.Sarif submission.now checked) }
+{
+    let windows = submission.report.windows();
+    put_log_head(
         text,
         submission.listing.properties.as_slice(),
         windows,

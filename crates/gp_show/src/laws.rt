@@ -1,7 +1,8 @@
-ghost use Rattle.gp_show.specs.Laws.{AnswersAreEntries, JsonIsOneValue, PagesHaveOwnMarkup};
+ghost use Rattle.gp_show.specs.Laws.{AnswersAreEntries, JsonIsOneValue, PagesHaveOwnMarkup, SarifIsOneLog};
 
 use gp_drawing::drawings_have_own_markup;
 use gp_overview::overviews_have_own_markup;
+use gp_sarif::pieces_are_the_log;
 use gp_values::pieces_are_the_value;
 use gp_view::answers_have_own_markup;
 
@@ -24,4 +25,11 @@ pub fn json_is_one_value()
     ensures { JsonIsOneValue }
 {
     pieces_are_the_value();
+}
+
+/// What is told as SARIF is the text of one log, and a newline.
+pub fn sarif_is_one_log()
+    ensures { SarifIsOneLog }
+{
+    pieces_are_the_log();
 }

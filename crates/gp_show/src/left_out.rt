@@ -20,6 +20,7 @@ pub fn add_left_out(
         Style::Text => add_lines(text, faults),
         Style::Page => add_parts(text, faults),
         Style::Json => put_left_out(text, faults),
+        Style::Sarif => gp_sarif::put_left_out(text, faults),
     }
 }
 

@@ -1,5 +1,5 @@
 // What people see of a report: the verdict on it, how often each property is found, impossible and undecided, and instances with what
-// shows their answers, as text, as one page, or as one JSON value.
+// shows their answers, as text, as one page, as one JSON value, or as a log in SARIF.
 //
 // `show` reads a recording, its properties and a report, as task check does, and what may stand beside them: where in the program the events
 // are, and which instances were seen to happen. It checks the report. What is rejected is told with the reason, and
@@ -21,5 +21,5 @@ mod telling;
 mod top;
 mod writing;
 
-pub use laws::{answers_are_entries, json_is_one_value, pages_have_own_markup};
+pub use laws::{answers_are_entries, json_is_one_value, pages_have_own_markup, sarif_is_one_log};
 pub use top::show;

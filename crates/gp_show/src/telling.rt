@@ -12,6 +12,7 @@ use crate::request::Request;
 use gp_json::put_comma;
 use gp_outside::{PutFault, Sink};
 use gp_predict::put_each_line;
+use gp_sarif::put_result;
 use gp_view::{Answered, put_answered, put_answered_part};
 use gp_words::Style;
 use std::alloc::{AllocError, Global};
@@ -67,8 +68,8 @@ fn put_told<S: Sink>(
     before: u64,
 ) -> Result<(), PutFault>
     ensures later { S.faults sink.old ≤ S.faults sink.new }
-    ensures ok { OnOk result (Appends (S.written sink.old) (S.written sink.new) (separator request.now.command.style before ++ answered_text request.now.command.style request.now.beside.now (form_of answered.now))) }
-    ensures err { OnErr result (AppendsFront (S.written sink.old) (S.written sink.new) (separator request.now.command.style before ++ answered_text request.now.command.style request.now.beside.now (form_of answered.now))) }
+    ensures ok { OnOk result (Appends (S.written sink.old) (S.written sink.new) (separator request.now.command.style before ++ answered_text request.now.command.style request.now.properties.now request.now.beside.now (form_of answered.now))) }
+    ensures err { OnErr result (AppendsFront (S.written sink.old) (S.written sink.new) (separator request.now.command.style before ++ answered_text request.now.command.style request.now.properties.now request.now.beside.now (form_of answered.now))) }
     ensures failed { result ≡ Err PutFault.Failed → Rose (S.faults sink.old) (S.faults sink.new) }
 {
     let mut text = Vec::new(alloc);
@@ -84,7 +85,7 @@ fn add_separator(text: &mut Vec<u8>, style: Style, before: u64) -> Result<(), Al
     match style {
         Style::Text => Ok(()),
         Style::Page => Ok(()),
-        Style::Json => put_comma(text, before as usize),
+        Style::Json | Style::Sarif => put_comma(text, before as usize),
     }
 }
 
@@ -93,12 +94,13 @@ fn add_told(
     request: &Request<'_>,
     answered: &Answered<'_>,
 ) -> Result<(), AllocError>
-    ensures { OnOk result (text.new.items ≡ text.old.items ++ answered_text request.now.command.style request.now.beside.now (form_of answered.now)) }
+    ensures { OnOk result (text.new.items ≡ text.old.items ++ answered_text request.now.command.style request.now.properties.now request.now.beside.now (form_of answered.now)) }
 {
     match request.command.style {
         Style::Text => put_answered(text, request.beside, answered),
         Style::Page => put_answered_part(text, request.beside, answered),
         Style::Json => gp_values::put_answered(text, request.beside, answered),
+        Style::Sarif => put_result(text, request.properties, &request.beside.places, answered),
     }
 }
 

@@ -28,8 +28,8 @@ pub fn put_report<S: Sink>(alloc: Global, sink: &mut S, shown: &Shown<'_>) -> Re
 
 fn put_before_foot<S: Sink>(alloc: Global, sink: &mut S, shown: &Shown<'_>) -> Result<(), PutFault>
     ensures later { S.faults sink.old ≤ S.faults sink.new }
-    ensures ok { OnOk result (Appends (S.written sink.old) (S.written sink.new) (before_text (show_form shown.now.command).style shown.now.submission shown.now.noted shown.now.checked ++ body_text (request_with (show_form shown.now.command) shown.now.noted) shown.now.submission shown.now.checked)) }
-    ensures err { OnErr result (AppendsFront (S.written sink.old) (S.written sink.new) (before_text (show_form shown.now.command).style shown.now.submission shown.now.noted shown.now.checked ++ body_text (request_with (show_form shown.now.command) shown.now.noted) shown.now.submission shown.now.checked)) }
+    ensures ok { OnOk result (Appends (S.written sink.old) (S.written sink.new) (before_text (show_form shown.now.command).style shown.now.submission shown.now.noted shown.now.checked ++ body_text (request_with (show_form shown.now.command) shown.now.submission shown.now.noted) shown.now.submission shown.now.checked)) }
+    ensures err { OnErr result (AppendsFront (S.written sink.old) (S.written sink.new) (before_text (show_form shown.now.command).style shown.now.submission shown.now.noted shown.now.checked ++ body_text (request_with (show_form shown.now.command) shown.now.submission shown.now.noted) shown.now.submission shown.now.checked)) }
     ensures failed { result ≡ Err PutFault.Failed → Rose (S.faults sink.old) (S.faults sink.new) }
 {
     put_head(alloc, sink, shown)?;
@@ -38,12 +38,13 @@ fn put_before_foot<S: Sink>(alloc: Global, sink: &mut S, shown: &Shown<'_>) -> R
 
 fn put_body<S: Sink>(alloc: Global, sink: &mut S, shown: &Shown<'_>) -> Result<(), PutFault>
     ensures later { S.faults sink.old ≤ S.faults sink.new }
-    ensures ok { OnOk result (Appends (S.written sink.old) (S.written sink.new) (body_text (request_with (show_form shown.now.command) shown.now.noted) shown.now.submission shown.now.checked)) }
-    ensures err { OnErr result (AppendsFront (S.written sink.old) (S.written sink.new) (body_text (request_with (show_form shown.now.command) shown.now.noted) shown.now.submission shown.now.checked)) }
+    ensures ok { OnOk result (Appends (S.written sink.old) (S.written sink.new) (body_text (request_with (show_form shown.now.command) shown.now.submission shown.now.noted) shown.now.submission shown.now.checked)) }
+    ensures err { OnErr result (AppendsFront (S.written sink.old) (S.written sink.new) (body_text (request_with (show_form shown.now.command) shown.now.submission shown.now.noted) shown.now.submission shown.now.checked)) }
     ensures failed { result ≡ Err PutFault.Failed → Rose (S.faults sink.old) (S.faults sink.new) }
 {
     let request = Request {
         command: shown.command,
+        properties: shown.submission.listing.properties.as_slice(),
         beside: &shown.noted.beside,
     };
     match shown.checked {

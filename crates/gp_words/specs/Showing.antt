@@ -10,7 +10,7 @@ use Rattle.gp_words.specs.declared.argument.Program.{Program}
 use Rattle.gp_words.specs.declared.argument.Program.TheVariants.{Gpshow}
 use Rattle.gp_words.specs.declared.showing.ShowCommand.{ShowCommand}
 use Rattle.gp_words.specs.declared.showing.Style.{Style}
-use Rattle.gp_words.specs.declared.showing.Style.TheVariants.{Text, Page, Json}
+use Rattle.gp_words.specs.declared.showing.Style.TheVariants.{Text, Page, Json, Sarif}
 
 -- how a report is shown, the folder that it stands in, where the sources of the program lie, if that is said, which instances are asked
 -- for, and how many of them are shown at most; where no window, no property or no number of an instance is given, any is asked for
@@ -40,7 +40,8 @@ abbrev pub style_named : List ℕ → Option Style
 style_named name =
     if bytes_eq name (codes "text") then Some Text else
     (if bytes_eq name (codes "html") then Some Page else
-    (if bytes_eq name (codes "json") then Some Json else None))
+    (if bytes_eq name (codes "json") then Some Json else
+    (if bytes_eq name (codes "sarif") then Some Sarif else None)))
 
 -- the style, which is text where none is given
 abbrev pub style_or_text : Option (List ℕ) → Option Style

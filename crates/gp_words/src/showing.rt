@@ -22,6 +22,8 @@ pub enum Style {
     Page,
     /// As one JSON value.
     Json,
+    /// As a log of findings in SARIF, which is one JSON value too.
+    Sarif,
 }
 
 /// What the words of a command line of gpshow ask for.
@@ -73,6 +75,7 @@ fn style_named(name: &str) -> Option<Style>
         "text" => Some(Style::Text),
         "html" => Some(Style::Page),
         "json" => Some(Style::Json),
+        "sarif" => Some(Style::Sarif),
         _ => None,
     }
 }

@@ -10,7 +10,7 @@ pub returns-in_err-put_head-clause-err : goal.returns-in_err-put_head-clause-err
 returns-in_err-put_head-clause-err g c =
     let command = show_form c.args.shown.now.command in
     anyway c.from_residual.result
-    (front_first (g.S.Sink.written c.args.sink.now) (g.S.Sink.written c.put_head.new.sink) (before_text command.style c.args.shown.now.submission c.args.shown.now.noted c.args.shown.now.checked) (body_text (request_with command c.args.shown.now.noted) c.args.shown.now.submission c.args.shown.now.checked)
+    (front_first (g.S.Sink.written c.args.sink.now) (g.S.Sink.written c.put_head.new.sink) (before_text command.style c.args.shown.now.submission c.args.shown.now.noted c.args.shown.now.checked) (body_text (request_with command c.args.shown.now.submission c.args.shown.now.noted) c.args.shown.now.submission c.args.shown.now.checked)
     c.in_err-put_head.ensures.err)
 
 pub returns-clause-err : goal.returns-clause-err
@@ -18,5 +18,5 @@ returns-clause-err g c =
     let command = show_form c.args.shown.now.command in
     on_err_weaker c.put_body.result
     (λ cut. front_second (g.S.Sink.written c.args.sink.now) (g.S.Sink.written c.put_head.new.sink) (g.S.Sink.written c.put_body.new.sink) (before_text command.style c.args.shown.now.submission c.args.shown.now.noted c.args.shown.now.checked)
-    (body_text (request_with command c.args.shown.now.noted) c.args.shown.now.submission c.args.shown.now.checked) c.in_ok-put_head.ensures.ok cut)
+    (body_text (request_with command c.args.shown.now.submission c.args.shown.now.noted) c.args.shown.now.submission c.args.shown.now.checked) c.in_ok-put_head.ensures.ok cut)
     c.put_body.ensures.err

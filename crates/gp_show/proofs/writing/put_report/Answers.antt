@@ -12,12 +12,12 @@ returns-in_err-put_before_foot-clause-err g c =
     let command = show_form c.args.shown.now.command in
     anyway c.from_residual.result
     (front_first (g.S.Sink.written c.args.sink.now) (g.S.Sink.written c.put_before_foot.new.sink)
-    (before_text command.style c.args.shown.now.submission c.args.shown.now.noted c.args.shown.now.checked ++ body_text (request_with command c.args.shown.now.noted) c.args.shown.now.submission c.args.shown.now.checked) (foot_text command.style) c.in_err-put_before_foot.ensures.err)
+    (before_text command.style c.args.shown.now.submission c.args.shown.now.noted c.args.shown.now.checked ++ body_text (request_with command c.args.shown.now.submission c.args.shown.now.noted) c.args.shown.now.submission c.args.shown.now.checked) (foot_text command.style) c.in_err-put_before_foot.ensures.err)
 
 pub returns-clause-err : goal.returns-clause-err
 returns-clause-err g c =
     let command = show_form c.args.shown.now.command in
     on_err_weaker c.put_foot.result
     (λ cut. front_second (g.S.Sink.written c.args.sink.now) (g.S.Sink.written c.put_before_foot.new.sink) (g.S.Sink.written c.put_foot.new.sink)
-    (before_text command.style c.args.shown.now.submission c.args.shown.now.noted c.args.shown.now.checked ++ body_text (request_with command c.args.shown.now.noted) c.args.shown.now.submission c.args.shown.now.checked) (foot_text command.style) c.in_ok-put_before_foot.ensures.ok cut)
+    (before_text command.style c.args.shown.now.submission c.args.shown.now.noted c.args.shown.now.checked ++ body_text (request_with command c.args.shown.now.submission c.args.shown.now.noted) c.args.shown.now.submission c.args.shown.now.checked) (foot_text command.style) c.in_ok-put_before_foot.ensures.ok cut)
     c.put_foot.ensures.err

@@ -16,4 +16,4 @@ pub use instances::put_answered;
 pub use overviews::put_table;
 pub use places::{put_behind, put_named};
 pub use reasons::{cycle_of, forced, put_reason, put_story, reason};
-pub use values::{put_string, put_value};
+pub use values::{put_result, put_string, put_value};

@@ -36,6 +36,11 @@ pub record AreSomeMade (made before after : List File) : Type 0 where
   pub is_made : Any (λ (file : File). file.name ≡ failed) made
   pub others : (name : List ℕ) → bytes_eq name failed ≡ false → IsKeptOrMade made before after name
 
+-- the files are made in their order: where one of them is not as before, each one in front of it is there with its text
+abbrev pub AreMadeInOrder : List File → List File → List File → Type 0
+AreMadeInOrder made before after =
+    AllPairs (λ (one later : File). (file_named after later.name ≡ file_named before later.name) ⊎ (file_named after one.name ≡ Some one.bytes)) made
+
 -- where the files are told, they are still told, and the fact holds of those before and those after
 abbrev pub WhereTold : Option (List File) → Option (List File) → (List File → List File → Type 0) → Type 0
 WhereTold None after P = after ≡ None

@@ -2,7 +2,7 @@ ghost use Rattle.std.specs.Prelude.{◌≡◌, ◌≤◌, OnOk};
 ghost use Rattle.gp_outside.specs.Faults.{Rose};
 ghost use Rattle.gp_outside.specs.Folders.{Spares, Writes};
 ghost use Rattle.gp_window.specs.FileNames.{path_of};
-ghost use Rattle.gp_files.specs.Writing.{AreAllMade, AreApart, AreKeptOrMade, AreSomeMade, WhereTold, files_at};
+ghost use Rattle.gp_files.specs.Writing.{AreAllMade, AreApart, AreKeptOrMade, AreMadeInOrder, AreSomeMade, WhereTold, files_at};
 
 use crate::made_file::MadeFile;
 use gp_outside::{Folder, WriteFault};
@@ -18,6 +18,8 @@ pub fn write_files<F: Folder>(
     requires { AreApart (files_at directory.now files.now) }
     ensures later { F.faults folder.old ≤ F.faults folder.new }
     ensures made { OnOk result (WhereTold (F.files folder.old) (F.files folder.new) (AreAllMade (files_at directory.now files.now))) }
+    // However it ends, no file is changed before all those in front of it are there.
+    ensures order { WhereTold (F.files folder.old) (F.files folder.new) (AreMadeInOrder (files_at directory.now files.now)) }
     ensures failed { result ≡ Err WriteFault.Failed → Rose (F.faults folder.old) (F.faults folder.new) }
     ensures spared { result ≡ Err WriteFault.Failed
         → WhereTold (F.files folder.old) (F.files folder.new) (AreSomeMade (files_at directory.now files.now)) }

@@ -1,7 +1,7 @@
 -- What a cut leaves, by how its writes ended.
-use Rattle.std.proofs.Common.{◌≡◌, ◌≢◌, refl, sym, subst, inl, inr, ℕ, List, arith}
+use Rattle.std.proofs.Common.{◌≡◌, ◌≢◌, refl, sym, ◌∙◌, subst, inl, inr, ℕ, List, arith}
 use Rattle.std.specs.Prelude.{◌⊎◌, Option, None, Some, Result, Ok}
-use Rattle.gp_files.specs.Writing.{WhereTold, files_at}
+use Rattle.gp_files.specs.Writing.{AreMadeInOrder, WhereTold, files_at}
 use Rattle.gp_outside.specs.Folders.{File}
 use Rattle.gp_predict.specs.declared.reply.Reply.{Reply}
 use Rattle.gp_predict.specs.Making as making
@@ -17,21 +17,40 @@ unrefused status (inr (inl four)) three = omega (arith, four, three)
 unrefused status (inr (inr (inl five))) three = omega (arith, five, three)
 unrefused status (inr (inr (inr six))) three = omega (arith, six, three)
 
-left_from : (made : List File) (status : ℕ) (before after : List File) → status ≢ 3 → making.IsLeft made status before after → IsLeft made status before after
-left_from made status before after other left =
-    record { all = left.all; refused = λ three. absurd (other three); failed = λ four. inr (left.failed four); others = left.others }
+left_from : (made : List File) (status : ℕ) (before after : List File) → status ≢ 3 → making.IsLeft made status before after → AreMadeInOrder made before after
+    → IsLeft made status before after
+left_from made status before after other left order = record {
+  all = left.all;
+  refused = λ three. absurd (other three);
+  failed = λ four. inr (left.failed four);
+  others = left.others;
+  order = order;
+}
+
+-- two facts of the files that are told hold of the same files
+both_told : (P Q : List File → List File → Type 0) (before : List File) (after : Option (List File)) → WhereTold (Some before) after P → WhereTold (Some before) after Q
+    → WhereTold (Some before) after (λ old new. P old new × Q old new)
+both_told P Q before after one other =
+    let same : Some one.0 ≡ Some other.0 = sym one.1 ∙ other.1 in
+    (one.0, one.1, (one.2, subst IsFact (sym same) other.2))
+  where
+    IsFact : Option (List File) → Type 0
+    IsFact None = Unit {0}
+    IsFact (Some files) = Q before files
 
 -- the files were written, or some of them
 pub files_left : (cut : CutForm) (cutting : Cutting) (status : ℕ) (middle before after : Option (List File)) → status ≢ 3 → middle ≡ before
     → ((told : List File) → before ≡ Some told → cutting_at told cut ≡ Ok cutting) → making.LeavesMade (files_at cut.out cutting.files) status middle after
-    → WhereTold before after (LeavesPart cut status)
-files_left cut cutting status middle None after other same came left =
+    → WhereTold middle after (AreMadeInOrder (files_at cut.out cutting.files)) → WhereTold before after (LeavesPart cut status)
+files_left cut cutting status middle None after other same came left order =
     subst (λ (old : Option (List File)). making.LeavesMade (files_at cut.out cutting.files) status old after) same left
-files_left cut cutting status middle (Some told) after other same came left =
-    let moved : making.LeavesMade (files_at cut.out cutting.files) status (Some told) after =
-    subst (λ (old : Option (List File)). making.LeavesMade (files_at cut.out cutting.files) status old after) same left in (
-      moved.0,
-      moved.1,
-      subst (λ (due : Result Cutting Reply). IsLeft (made_in cut.out due) status told moved.0) (sym (came told refl))
-          (left_from (files_at cut.out cutting.files) status told moved.0 other moved.2),
+files_left cut cutting status middle (Some told) after other same came left order =
+    let made = files_at cut.out cutting.files in
+    let both = both_told (making.IsLeft made status) (AreMadeInOrder made) told after
+    (subst (λ (old : Option (List File)). making.LeavesMade made status old after) same left)
+    (subst (λ (old : Option (List File)). WhereTold old after (AreMadeInOrder made)) same order) in (
+      both.0,
+      both.1,
+      subst (λ (due : Result Cutting Reply). IsLeft (made_in cut.out due) status told both.0) (sym (came told refl))
+          (left_from made status told both.0 other both.2.0 both.2.1),
     )

@@ -1,6 +1,6 @@
 -- What is left of the files.
 use Rattle.std.specs.Prelude.{ℕ, ◌≡◌, ◌≢◌, ◌⊎◌, List, [], Option, None, Some, Result, Ok, Err}
-use Rattle.gp_files.specs.Writing.{AreAllMade, AreKeptOrMade, AreSomeMade, WhereTold, files_at}
+use Rattle.gp_files.specs.Writing.{AreAllMade, AreKeptOrMade, AreMadeInOrder, AreSomeMade, WhereTold, files_at}
 use Rattle.gp_outside.specs.Folders.{File}
 use Rattle.gp_predict.specs.declared.reply.Reply.{Reply}
 use Rattle.gp_words.specs.Sharding.{Cut, CutForm, Merge, ShardForm}
@@ -13,12 +13,13 @@ made_in out (Ok cutting) = files_at out cutting.files
 made_in out (Err refusal) = []
 
 -- at status 0 all files are made; where the cut is refused, all is as before; where the folder failed, so it is, or one of the files
--- may hold anything; and all else is as before
+-- may hold anything; and all else is as before. However it ends, the files are made in their order, of which `shard` is the last
 pub record IsLeft (made : List File) (status : ℕ) (before after : List File) : Type 0 where
   pub all : status ≡ 0 → AreAllMade made before after
   pub refused : status ≡ 3 → after ≡ before
   pub failed : status ≡ 4 → (after ≡ before) ⊎ AreSomeMade made before after
   pub others : status ≢ 4 → AreKeptOrMade made before after
+  pub order : AreMadeInOrder made before after
 
 -- what a cut leaves, by its status
 abbrev pub LeavesPart : CutForm → ℕ → List File → List File → Type 0

@@ -1,5 +1,5 @@
 ghost use Rattle.std.specs.Prelude.{◌≡◌, ◌≢◌, ◌≤◌, ◌⊎◌};
-ghost use Rattle.gp_files.specs.Writing.{AreApart, WhereTold, files_at};
+ghost use Rattle.gp_files.specs.Writing.{AreApart, AreMadeInOrder, WhereTold, files_at};
 ghost use Rattle.gp_outside.specs.Faults.{Rose};
 ghost use Rattle.gp_predict.specs.Finished.{IsPut};
 ghost use Rattle.gp_predict.specs.Making.{LeavesMade};
@@ -63,6 +63,7 @@ fn put_part<F: Folder, S: Sink>(
     ensures put { result.status ≢ 4 → IsPut (of_reply (cut_answer cutting.now.shard)) result (S.written sink.old) (S.written sink.new) (S.faults sink.old) (S.faults sink.new) }
     ensures failed { result.status ≡ 4 → Rose (F.faults folder.old) (F.faults folder.new) × IsNothing result (S.written sink.old) (S.written sink.new) }
     ensures left { LeavesMade (files_at out.now cutting.now.files) result.status (F.files folder.old) (F.files folder.new) }
+    ensures order { WhereTold (F.files folder.old) (F.files folder.new) (AreMadeInOrder (files_at out.now cutting.now.files)) }
     ensures status { (result.status ≡ 0) ⊎ (result.status ≡ 4) ⊎ (result.status ≡ 5) ⊎ (result.status ≡ 6) }
 {
     match write_files(alloc, folder, out, cutting.files.as_slice()) {

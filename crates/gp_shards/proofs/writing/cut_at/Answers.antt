@@ -11,7 +11,7 @@ use Rattle.gp_shards.proofs.writing.cut_at.Goals as goal
 pub returns-in-Ok-clause-left : goal.returns-in-Ok-clause-left
 returns-in-Ok-clause-left g c =
     files_left (cut_form c.args.cut.now) c.in-Ok.cutting c.put_part.result.status (g.F.Folder.files c.cutting_at.new.folder) (g.F.Folder.files c.args.folder.now) (g.F.Folder.files c.put_part.new.folder)
-    (unrefused c.put_part.result.status c.put_part.ensures.status) c.in-Ok.ensures.stage.kept c.in-Ok.ensures.stage.told c.put_part.ensures.left
+    (unrefused c.put_part.result.status c.put_part.ensures.status) c.in-Ok.ensures.stage.kept c.in-Ok.ensures.stage.told c.put_part.ensures.left c.put_part.ensures.order
 
 pub returns-in-Ok-clause-cut : goal.returns-in-Ok-clause-cut
 returns-in-Ok-clause-cut g c = λ zero.

@@ -1,8 +1,9 @@
 -- What is wrong with a part is told by a text, and so is a cut.
-use Rattle.std.proofs.Common.{ℕ, Bool, true, false, List, Option, Some, None, find, option_map, if◌then◌else◌, nat_lt}
+use Rattle.std.proofs.Common.{ℕ, Bool, true, false, List, Option, Some, None, Result, Ok, Err, find, option_map, if◌then◌else◌, nat_lt}
 use Rattle.std.specs.Prelude.{IfSome}
 use Rattle.gp_files.specs.MadeFileForm.{MadeFileForm}
 use Rattle.gp_outside.specs.Folders.{File}
+use Rattle.gp_predict.specs.declared.reply.Reply.{Reply}
 use Rattle.gp_predict.specs.Refusal.{properties_refusal}
 use Rattle.gp_report.specs.declared.fault.ReportFault.{ReportFault}
 use Rattle.gp_report.specs.declared.fault.ReportFault.TheVariants as report
@@ -21,6 +22,7 @@ use Rattle.gp_shards.specs.Cutting.{cutting_at, cutting_with, is_too_long, lengt
 use Rattle.gp_shards.specs.Refusing.{content_refusal, part_refusal, report_refusal, shard_refusal, text_in, unless_wrong}
 use Rattle.gp_shards.specs.declared.refusal.PartFault.{PartFault}
 use Rattle.gp_shards.specs.declared.refusal.PartFault.TheVariants as wrong
+use Rattle.gp_shards.specs.Sparing.{holds_recording}
 use Rattle.gp_due.specs.Saying.{ContentSays, OnlySays, ReportSays, ShardSays, TextSays}
 use Rattle.gp_due.proofs.Folder.{content_answers, recording_answers}
 use Rattle.gp_due.proofs.Properties.{properties_say}
@@ -29,6 +31,7 @@ use Rattle.gp_due.proofs.Results as of
 
 -- what is wrong in the folder of a part says something of the files
 abbrev pub PartSays : PartFault → Type 0
+PartSays wrong.HoldsRecording = Unit {0}
 PartSays wrong.ManyWindows = Unit {0}
 PartSays (wrong.Content fault) = ContentSays fault
 PartSays (wrong.Shard fault) = ShardSays fault
@@ -77,6 +80,7 @@ report_refused folder (report.Rule line rule) says = refused
 report_refused folder report.Memory says = absurd says
 
 part_refused : (folder : List ℕ) (fault : PartFault) → PartSays fault → IsAnswer (part_refusal folder fault)
+part_refused folder wrong.HoldsRecording says = refused
 part_refused folder wrong.ManyWindows says = refused
 part_refused folder (wrong.Content fault) says = content_refused folder fault says
 part_refused folder (wrong.Shard fault) says = shard_refused folder fault says
@@ -107,7 +111,15 @@ properties_answer files folder =
     of.in_turn (content_answers files folder file.Properties) (λ bytes.
     of.in_turn (of.refused properties_refusal properties_refused (properties_say bytes)) (λ properties. of.value))
 
+abbrev unless_held : Bool → List ℕ → Result (Unit {0}) Reply
+unless_held holds out = if holds then Err (part_refusal out wrong.HoldsRecording) else Ok tt
+
+unless_answers : (holds : Bool) (out : List ℕ) → OnlySays IsAnswer (unless_held holds out)
+unless_answers true out = of.fault refused
+unless_answers false out = of.value
+
 pub cutting_answers : (files : List File) (cut : CutForm) → OnlySays IsAnswer (cutting_at files cut)
 cutting_answers files cut =
+    of.in_turn (unless_answers (holds_recording files cut.out) cut.out) (λ spared.
     of.in_turn (recording_answers files cut.folder) (λ recording.
-    of.in_turn (properties_answer files cut.folder) (λ properties. with_says recording properties cut.out (shard_of recording cut.part cut.parts)))
+    of.in_turn (properties_answer files cut.folder) (λ properties. with_says recording properties cut.out (shard_of recording cut.part cut.parts))))

@@ -179,6 +179,7 @@ module _ (folder : List ℕ) where
   rule_in_ends name line rule.After = in_at_ends name line (codes "after")
 
   part_ends : (fault : PartFault) → is_absent_in fault ≡ false → EndsElse (part_refusal folder fault)
+  part_ends wrong.HoldsRecording other three = in_ends file.Manifest (codes "exists")
   part_ends wrong.ManyWindows other three = in_ends file.Manifest (codes "epochs")
   part_ends (wrong.Content (content.Absent name)) other three = absurd (cc)
   part_ends (wrong.Content (content.TooLong name)) other three = in_ends name (codes "toolong")

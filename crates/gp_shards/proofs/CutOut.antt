@@ -36,6 +36,7 @@ use Rattle.gp_shards.specs.Cutting.{cutting_at, cutting_with, is_too_long, part_
 use Rattle.gp_shards.specs.Headline.{IsCutOut}
 use Rattle.gp_shards.specs.Refusing as refusing
 use Rattle.gp_shards.specs.Refusing.{part_refusal, shard_refusal, unless_wrong}
+use Rattle.gp_shards.specs.Sparing.{unless_recording}
 use Rattle.gp_shards.proofs.Merged.{was_read}
 
 -- what came of two steps came of the first and then of the second
@@ -131,7 +132,8 @@ module _ (reads : CutsAreRead) (spelled : WhatIsReadCanBeSpelled) (alike : CutWi
   -- a cut that was written, where the files were told
   cut_out : (cut : CutForm) (cutting : Cutting) (old new : List File) → IsShard cutting.shard → cutting_at old cut ≡ Ok cutting → AreAllMade (files_at cut.out cutting.files) old new → IsCutOut cut old new
   cut_out cut cutting old new rules came written =
-      let first = then_came (recording_at old cut.folder) _ cutting came in
+      let spared = then_came (unless_recording old cut.out) _ cutting came in
+      let first = then_came (recording_at old cut.folder) _ cutting spared.2 in
       let second = then_came (properties_text old cut.folder) _ cutting first.2 in
       let content = then_came (content_at old cut.folder file.Properties) _ second.0 second.1 in
       let parsed = then_came (or_refused properties_refusal (properties_of content.0)) _ second.0 content.2 in

@@ -1,14 +1,18 @@
 -- What a cut leaves, by how its writes ended.
 use Rattle.std.proofs.Common.{◌≡◌, ◌≢◌, refl, sym, ◌∙◌, subst, inl, inr, ℕ, List, arith}
-use Rattle.std.specs.Prelude.{◌⊎◌, Option, None, Some, Result, Ok}
+use Rattle.std.specs.Prelude.{◌⊎◌, Bool, true, false, Option, None, Some, Result, Ok, Err, if◌then◌else◌}
+use Rattle.gp_base.specs.Results.{and_then}
 use Rattle.gp_files.specs.Writing.{AreMadeInOrder, WhereTold, files_at}
 use Rattle.gp_outside.specs.Folders.{File}
 use Rattle.gp_predict.specs.declared.reply.Reply.{Reply}
 use Rattle.gp_predict.specs.Making as making
 use Rattle.gp_words.specs.Sharding.{CutForm}
 use Rattle.gp_shards.specs.declared.cutting.Cutting.{Cutting}
-use Rattle.gp_shards.specs.Cutting.{cutting_at}
+use Rattle.gp_shards.specs.Cutting.{cutting_at, cutting_from}
+use Rattle.gp_shards.specs.declared.refusal.PartFault.TheVariants.{HoldsRecording}
 use Rattle.gp_shards.specs.Leaving.{IsLeft, LeavesPart, made_in}
+use Rattle.gp_shards.specs.Refusing.{part_refusal}
+use Rattle.gp_shards.specs.Sparing.{holds_recording}
 
 -- a cut whose files were to be written is not refused
 pub unrefused : (status : ℕ) → (status ≡ 0) ⊎ (status ≡ 4) ⊎ (status ≡ 5) ⊎ (status ≡ 6) → status ≢ 3
@@ -26,6 +30,18 @@ left_from made status before after other left order = record {
   others = left.others;
   order = order;
 }
+
+-- a folder that holds a recording is refused
+abbrev spared_where : List ℕ → Bool → Result (Unit {0}) Reply
+spared_where out holds = if holds then Err (part_refusal out HoldsRecording) else Ok tt
+
+none_where : (files : List File) (cut : CutForm) (cutting : Cutting) (holds : Bool) → holds ≡ true
+    → and_then (spared_where cut.out holds) (λ spared. cutting_from files cut) ≡ Ok cutting → ⊥
+none_where files cut cutting true held came = absurd (cc)
+none_where files cut cutting false held came = absurd (cc)
+
+none_held : (files : List File) (cut : CutForm) (cutting : Cutting) → holds_recording files cut.out ≡ true → cutting_at files cut ≡ Ok cutting → ⊥
+none_held files cut cutting held came = none_where files cut cutting (holds_recording files cut.out) held came
 
 -- two facts of the files that are told hold of the same files
 both_told : (P Q : List File → List File → Type 0) (before : List File) (after : Option (List File)) → WhereTold (Some before) after P → WhereTold (Some before) after Q
@@ -51,6 +67,9 @@ files_left cut cutting status middle (Some told) after other same came left orde
     (subst (λ (old : Option (List File)). WhereTold old after (AreMadeInOrder made)) same order) in (
       both.0,
       both.1,
-      subst (λ (due : Result Cutting Reply). IsLeft (made_in cut.out due) status told both.0) (sym (came told refl))
-          (left_from made status told both.0 other both.2.0 both.2.1),
+      (record {
+        left = subst (λ (due : Result Cutting Reply). IsLeft (made_in cut.out due) status told both.0) (sym (came told refl))
+            (left_from made status told both.0 other both.2.0 both.2.1);
+        spared = λ held. absurd (none_held told cut cutting held (came told refl));
+      }),
     )

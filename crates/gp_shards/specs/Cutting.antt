@@ -22,6 +22,7 @@ use Rattle.gp_shards.specs.declared.cutting.Cutting.{Cutting}
 use Rattle.gp_shards.specs.declared.refusal.PartFault.{PartFault}
 use Rattle.gp_shards.specs.declared.refusal.PartFault.TheVariants.{Content, ManyWindows}
 use Rattle.gp_shards.specs.Refusing.{part_refusal, unless_wrong}
+use Rattle.gp_shards.specs.Sparing.{unless_recording}
 
 -- the text of the properties in a folder, where they are properties
 abbrev pub properties_text : List File → List ℕ → Result (List ℕ) Reply
@@ -73,11 +74,15 @@ abbrev pub cutting_of : RecordingForm → List ℕ → CutForm → Result Cuttin
 cutting_of r properties cut = cutting_with r properties cut.out (shard_of r cut.part cut.parts)
 
 -- the part that is asked for of the recording in a folder, with the properties there
-abbrev pub cutting_at : List File → CutForm → Result Cutting Reply
-cutting_at files cut =
+abbrev pub cutting_from : List File → CutForm → Result Cutting Reply
+cutting_from files cut =
     and_then (recording_at files cut.folder) (λ recording.
     and_then (properties_text files cut.folder) (λ properties.
     cutting_of recording properties cut))
+
+-- that part, for a folder that holds no recording but a part
+abbrev pub cutting_at : List File → CutForm → Result Cutting Reply
+cutting_at files cut = and_then (unless_recording files cut.out) (λ spared. cutting_from files cut)
 
 -- a part was written: which of how many, the number of its first window, and how many windows it has
 abbrev pub cut_answer : Shard → Reply

@@ -1,11 +1,12 @@
 -- What is left of the files.
-use Rattle.std.specs.Prelude.{ℕ, ◌≡◌, ◌≢◌, ◌⊎◌, List, [], Option, None, Some, Result, Ok, Err}
+use Rattle.std.specs.Prelude.{ℕ, ◌≡◌, ◌≢◌, ◌⊎◌, true, List, [], Option, None, Some, Result, Ok, Err}
 use Rattle.gp_files.specs.Writing.{AreAllMade, AreKeptOrMade, AreMadeInOrder, AreSomeMade, WhereTold, files_at}
 use Rattle.gp_outside.specs.Folders.{File}
 use Rattle.gp_predict.specs.declared.reply.Reply.{Reply}
 use Rattle.gp_words.specs.Sharding.{Cut, CutForm, Merge, ShardForm}
 use Rattle.gp_shards.specs.declared.cutting.Cutting.{Cutting}
 use Rattle.gp_shards.specs.Cutting.{cutting_at}
+use Rattle.gp_shards.specs.Sparing.{holds_recording}
 
 -- the files that a cut makes in this folder: none where it is refused
 abbrev pub made_in : List ℕ → Result Cutting Reply → List File
@@ -21,9 +22,10 @@ pub record IsLeft (made : List File) (status : ℕ) (before after : List File) :
   pub others : status ≢ 4 → AreKeptOrMade made before after
   pub order : AreMadeInOrder made before after
 
--- what a cut leaves, by its status
-abbrev pub LeavesPart : CutForm → ℕ → List File → List File → Type 0
-LeavesPart cut status before after = IsLeft (made_in cut.out (cutting_at before cut)) status before after
+-- what a cut leaves, by its status; where its folder holds a recording that is no part, all is as before, however it ends
+pub record LeavesPart (cut : CutForm) (status : ℕ) (before after : List File) : Type 0 where
+  pub left : IsLeft (made_in cut.out (cutting_at before cut)) status before after
+  pub spared : holds_recording before cut.out ≡ true → after ≡ before
 
 -- what is left by a command; a merge changes nothing
 abbrev pub LeavesBy : ShardForm → ℕ → Option (List File) → Option (List File) → Type 0

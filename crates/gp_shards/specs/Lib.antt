@@ -8,4 +8,5 @@ pub mod Merging
 pub mod PartFolders
 pub mod Refusing
 pub mod Run
+pub mod Sparing
 pub mod Stage

@@ -61,6 +61,7 @@ report_refusal folder report.Memory = never_due
 
 -- what is wrong in the folder of a part
 abbrev pub part_refusal : List ℕ → PartFault → Reply
+part_refusal folder wrong.HoldsRecording = refused_in folder file.Manifest (codes "exists")
 part_refusal folder wrong.ManyWindows = refused_in folder file.Manifest (codes "epochs")
 part_refusal folder (wrong.Content fault) = content_refusal folder fault
 part_refusal folder (wrong.Shard fault) = shard_refusal folder fault

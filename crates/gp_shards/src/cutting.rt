@@ -7,6 +7,7 @@ ghost use Rattle.gp_words.specs.Sharding.{IsCut, cut_form};
 
 use crate::content::{properties_text, recording_in};
 use crate::refusal::PartFault;
+use crate::sparing::unless_recording;
 use crate::stop::{ShardStop, refuse_in, unless_wrong};
 use gp_base::Row;
 use gp_cut::{Part, part_of};
@@ -27,7 +28,8 @@ pub struct Cutting {
     pub files: Row<MadeFile>,
 }
 
-/// Reads the recording and the properties in a folder, and makes the files of the part that is asked for. Nothing is written yet.
+/// Reads the recording and the properties in a folder, and makes the files of the part that is asked for, where the part's own folder
+/// holds no other recording. Nothing is written yet.
 pub fn cutting_at<R: AllocGlobal + Threads + Sync, F: Folder>(
     rt: &R,
     folder: &mut F,
@@ -37,6 +39,7 @@ pub fn cutting_at<R: AllocGlobal + Threads + Sync, F: Folder>(
     ensures stage { IsShardStage result (λ files. Gives refusal_of result (cutting_at files (cut_form cut.now))) (F.files folder.old) (F.files folder.new) (F.faults folder.old) (F.faults folder.new) }
     ensures writable { IfOk result CanBeWritten }
 {
+    unless_recording(rt.alloc(), folder, cut.out)?;
     let recording = recording_in(rt, folder, cut.folder)?;
     let properties = properties_text(rt.alloc(), folder, cut.folder)?;
     cutting_of(rt.alloc(), &recording, properties, cut)

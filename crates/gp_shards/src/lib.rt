@@ -15,6 +15,7 @@ mod merging;
 mod ordering;
 mod refusal;
 mod reports;
+mod sparing;
 mod stop;
 mod top;
 mod writing;

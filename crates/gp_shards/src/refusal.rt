@@ -14,6 +14,8 @@ const REFUSED: u8 = 3;
 /// What is wrong in the folder of a part.
 #[derive(Clone, Copy)]
 pub enum PartFault {
+    /// The folder holds a recording that is no part, which is not written over.
+    HoldsRecording,
     /// The part has so many windows that no manifest can tell them with their stage.
     ManyWindows,
     /// The bytes of a file are not told, or a file that is to be written has more bytes than its limit.
@@ -70,6 +72,7 @@ fn part_refusal(alloc: Global, folder: &str, fault: PartFault) -> Result<Reply, 
     ensures status { IfOk result (λ answer. answer.status ≡ 3) }
 {
     match fault {
+        PartFault::HoldsRecording => refused_in(alloc, folder, FileName::Manifest, "exists"),
         PartFault::ManyWindows => refused_in(alloc, folder, FileName::Manifest, "epochs"),
         PartFault::Content(fault) => content_refusal(alloc, folder, fault),
         PartFault::Shard(fault) => shard_refusal(alloc, folder, fault),

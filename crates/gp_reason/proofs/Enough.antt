@@ -4,7 +4,7 @@ use Rattle.std.specs.Prelude.{◌⊎◌, ◌==◌, Some, slice_get}
 use Rattle.std.specs.List.{list_any}
 use Rattle.std.proofs.lemmas.Bool.{eq-eqb, le-leb, or_left, or_right}
 use Rattle.std.proofs.lemmas.List.{append-nil, length-append, length-map, length_push, map-append}
-use Rattle.std.proofs.lemmas.List.Elements.{All-append, All-contains, All-contains_itself, All-push, Contains-append_cases, Contains-append_left, Contains-append_right}
+use Rattle.std.proofs.lemmas.List.Elements.{All-append, All-contains_itself, All-push, Contains-append_cases, Contains-append_left, Contains-append_right}
 use Rattle.std.proofs.lemmas.Option.{none-some, same_Some, slice_get_within}
 use Rattle.gp_base.specs.ListLaws.{all_from_contains, contains_from_map, contains_got, contains_map, contains_middle, contains_parts, first_or_rest, got_front, here, joined_cases, nothing_in, Pairwise, recursion_at, slice_get_front, there}
 use Rattle.gp_certificate.specs.declared.certificate.Certificate.{Certificate}
@@ -25,12 +25,16 @@ use Rattle.gp_reason.specs.Told.{all_steps, cites, hints_cite, numbered, numbere
 use Rattle.gp_reason.proofs.Resting.{closed_told, Rises, told_once, told_within}
 
 -- clauses that have each one that a step cites
-abbrev HasCited : List NumberedStep → List (List Lit) → NumberedStep → Type 0
+abbrev pub HasCited : List NumberedStep → List (List Lit) → NumberedStep → Type 0
 HasCited all more step = (earlier : NumberedStep) → Contains all earlier → earlier.number < step.number → cites earlier.number step ≡ true → Contains more earlier.step.clause
 
--- a step passes with all clauses that have the base ones and each one that it cites
-abbrev IsEnough : List Edge → List Kind → List (List Lit) → List NumberedStep → NumberedStep → Type 0
-IsEnough edges kinds base all step = (more : List (List Lit)) → All (Contains more) base → HasCited all more step → Passes edges kinds more step.step.clause
+-- clauses that have each base one that the hints of a step number, and where it has none all of them
+abbrev pub HasBase : List (List Lit) → List (List Lit) → NumberedStep → Type 0
+HasBase base more step = (hint : ℕ) (clause : List Lit) → slice_get base hint ≡ Some clause → Contains step.step.hints hint ⊎ (step.step.hints ≡ []) → Contains more clause
+
+-- a step passes with all clauses that have the base ones and those of steps that it cites
+abbrev pub IsEnough : List Edge → List Kind → List (List Lit) → List NumberedStep → NumberedStep → Type 0
+IsEnough edges kinds base all step = (more : List (List Lit)) → HasBase base more step → HasCited all more step → Passes edges kinds more step.step.clause
 
 -- a hint is cited
 hint_among : (hint : ℕ) (hints : List ℕ) → Contains hints hint → list_any (λ other. other == hint) hints ≡ true
@@ -70,18 +74,18 @@ numbered_got first start (suc place) (head ∷ steps) step got =
     (subst (λ (n : ℕ). Contains (numbered_from first (suc start) steps) (record { first = first; number = n; step = step })) at (numbered_got first (suc start) place steps step got))
 
 -- an element by some place
-some_place : (steps : List Step) (step : Step) → Contains steps step → (place : ℕ) × (slice_get steps place ≡ Some step)
+some_place : {X : Type 0} (steps : List X) (step : X) → Contains steps step → (place : ℕ) × (slice_get steps place ≡ Some step)
 some_place [] step i = absurd (nothing_in step i)
 some_place (head ∷ steps) step i =
     elim (first_or_rest head steps step i) [
-      | inl same ↦ (zero, ap (λ (s : Step). Some s) same)
+      | inl same ↦ (zero, ap Some same)
       | inr more ↦ let rest = some_place steps step more in (suc rest.0, rest.1)
     ]
 
 -- clauses with numbers below those of a list of steps are base clauses, or those of steps with these numbers
 abbrev IsPrior : List (List Lit) → List NumberedStep → List (List Lit) → Type 0
 IsPrior base all prior = (hint : ℕ) (clause : List Lit) → slice_get prior hint ≡ Some clause
-    → Contains base clause ⊎ ((earlier : NumberedStep) × Contains all earlier × (earlier.number ≡ hint) × (earlier.step.clause ≡ clause))
+    → (slice_get base hint ≡ Some clause) ⊎ ((earlier : NumberedStep) × Contains all earlier × (earlier.number ≡ hint) × (earlier.step.clause ≡ clause))
 
 -- one step, behind some of its list
 step_enough : MorePasses → (edges : List Edge) (kinds : List Kind) (base prior : List (List Lit)) (first : ℕ) (all : List NumberedStep) (front : List Step) (step : Step) (number : ℕ)
@@ -97,7 +101,7 @@ step_enough more_pass edges kinds base prior first all front step number is size
     hinted hint clause i got =
         elim (joined_cases (λ (s : Step). s.clause) prior front hint clause got) [
           | inl early ↦ elim (known hint clause early) [
-            | inl among ↦ All-contains (Contains more) base clause bases among
+            | inl among ↦ bases hint clause among (inl i)
             | inr found ↦
                 let within : hint < length prior = slice_get_within prior hint clause early in
                 let below : found.0.number < number = let at : found.0.number ≡ hint = found.2 in omega (arith, at, within, size, is) in
@@ -114,7 +118,8 @@ step_enough more_pass edges kinds base prior first all front step number is size
 
     free : step.hints ≡ [] → All (Contains more) (base ++ clauses_of front)
     free none =
-        All-append (Contains more) base (clauses_of front) bases
+        All-append (Contains more) base (clauses_of front)
+        (all_from_contains (Contains more) base (λ clause i. let at = some_place base clause i in bases at.0 clause at.1 (inr none)))
         (all_from_contains (Contains more) (clauses_of front) (λ clause i.
         let from = contains_from_map (λ (s : Step). s.clause) front clause i in
         let at = some_place front from.0 from.1 in
@@ -154,7 +159,7 @@ shared_enough more_pass edges kinds locals base first start all shared front (he
     elim (first_or_rest (record { first = first; number = start; step = head }) (numbered_from first (suc start) rest) step i) [
       | inl same ↦
           subst (IsEnough edges (kinds ++ locals) base all) same
-          (step_enough more_pass edges (kinds ++ locals) base base first all front head start is size (λ hint clause got. inl (contains_got base hint clause got))
+          (step_enough more_pass edges (kinds ++ locals) base base first all front head start is size (λ hint clause got. inl got)
           (λ place one got. within place one (ap (λ (list : List Step). slice_get list place) split ∙ got_front front (head ∷ rest) place one got))
           (passes_alike edges kinds (kinds ++ locals) (length kinds) (usable earlier earlier head.hints) head.clause (omega (arith, length-append kinds locals))
           (λ variable less. slice_get_front kinds locals variable less)
@@ -173,7 +178,7 @@ shared_enough more_pass edges kinds locals base first start all shared front (he
     next = append_assoc base (clauses_of front) (head.clause ∷ []) ∙ ap (λ (done : List (List Lit)). base ++ done) (sym (map-append (λ (s : Step). s.clause) front (head ∷ [])))
 
 -- each step of a certificate that checks, and each shared one
-all_enough : MorePasses → (problem : Problem) (shared : List Step) (query : Query) (certificate : Certificate) → IsValidProblem problem → ChecksOver problem shared query certificate
+pub all_enough : MorePasses → (problem : Problem) (shared : List Step) (query : Query) (certificate : Certificate) → IsValidProblem problem → ChecksOver problem shared query certificate
     → (step : NumberedStep) → Contains (all_steps (length problem.clauses) shared certificate.steps) step
     → IsEnough problem.edges (problem.kinds ++ query.locals) problem.clauses (all_steps (length problem.clauses) shared certificate.steps) step
 all_enough more_pass problem shared query certificate valid checks step i =
@@ -207,7 +212,7 @@ all_enough more_pass problem shared query certificate valid checks step i =
     prior : IsPrior problem.clauses steps (problem.clauses ++ clauses_of shared)
     prior hint clause got =
         elim (joined_cases (λ (s : Step). s.clause) problem.clauses shared hint clause got) [
-          | inl early ↦ inl (contains_got problem.clauses hint clause early)
+          | inl early ↦ inl early
           | inr late ↦ inr (record { first = base; number = base + late.0; step = late.1 }, shared_known late.0 late.1 late.3, late.2, late.4)
         ]
 
@@ -221,7 +226,7 @@ pub enough : MorePasses → (problem : Problem) (shared : List Step) (query : Qu
     → Passes problem.edges (problem.kinds ++ query.locals) (problem.clauses ++ map (λ (step : NumberedStep). step.step.clause) before) told.step.clause
 enough more_pass problem shared query certificate valid checks before after told split =
     all_enough more_pass problem shared query certificate valid checks told (told_within base shared certificate.steps told is_told) more
-    (all_from_contains (Contains more) problem.clauses (λ clause i. Contains-append_left problem.clauses (map clause_of before) clause i)) cited
+    (λ hint clause got _. Contains-append_left problem.clauses (map clause_of before) clause (contains_got problem.clauses hint clause got)) cited
   where
     base : ℕ
     base = length problem.clauses

@@ -1,8 +1,10 @@
 pub mod Assumed
 pub mod Circled
+pub mod Cited
 pub mod Drafted
 pub mod Enough
 pub mod FamiliesTold
 pub mod Holding
 pub mod Marked
+pub mod Nothing
 pub mod Resting

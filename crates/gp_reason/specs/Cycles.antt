@@ -1,5 +1,5 @@
 -- A cycle of events by which a step follows: what the step denies and what it cites force orders that lead round.
-use Rattle.std.specs.Prelude.{ℕ, List, [], ◌∷◌, ◌++◌, Option, None, Some, if◌then◌else◌, nat_lt, reverse, slice_get}
+use Rattle.std.specs.Prelude.{ℕ, ◌==◌, Bool, false, List, [], ◌∷◌, ◌++◌, Option, None, Some, if◌then◌else◌, length, nat_lt, reverse, slice_get}
 use Rattle.std.specs.List.{flat_map}
 use Rattle.gp_certificate.specs.declared.step.Step.{Step}
 use Rattle.gp_certificate.specs.Certificate.{clauses_of}
@@ -56,6 +56,15 @@ cycle_by window names None = []
 -- what unit clauses force from the negation of the clause of a step of this number, by those that its hints number
 abbrev pub forced_in : List (List Lit) → ℕ → Step → Option (List Lit)
 forced_in clauses number step = forced (negations step.clause) (hinted clauses number step.hints)
+
+-- whether what is forced from a start is the start alone, and no clause becomes false
+abbrev pub adds_nothing : List Lit → Option (List Lit) → Bool
+adds_nothing start (Some lits) = length lits == length start
+adds_nothing start None = false
+
+-- whether the clauses that the hints of a step of this number number force nothing from what it denies, and none of them becomes false
+unfoldable pub forces_nothing : List (List Lit) → ℕ → Step → Bool
+forces_nothing clauses number step = adds_nothing (negations step.clause) (forced_in clauses number step)
 
 -- the events of a cycle by which a step of this number follows; none where a clause becomes false or no orders lead round
 unfoldable pub cycle_told : WindowForm → List Symbol → List (List Lit) → ℕ → Step → List EventId

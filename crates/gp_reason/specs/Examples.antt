@@ -8,8 +8,8 @@ use Rattle.gp_property.specs.PropertyForm.{PropertyForm}
 use Rattle.gp_trace.specs.declared.event.Event.TheVariants as event
 use Rattle.gp_window.specs.declared.schedule.EventId.{EventId}
 use Rattle.gp_window.specs.WindowForm.{WindowForm}
-use Rattle.gp_reason.specs.declared.fact.Fact.TheVariants.{Executed, NotExecuted, Before, Sees, NotSees}
-use Rattle.gp_reason.specs.declared.reasons.Ground.TheVariants.{Base, Earlier, Everything}
+use Rattle.gp_reason.specs.declared.fact.Fact.TheVariants.{Executed, NotExecuted, Before, Sees, NotSees, Within, Beyond}
+use Rattle.gp_reason.specs.declared.reasons.Ground.TheVariants.{Base, Earlier, Everything, ThreadOrder}
 use Rattle.gp_reason.specs.Reasons.{reason_of}
 
 abbrev a : List ℕ
@@ -67,6 +67,22 @@ guarded = record {
   exited = [];
 }
 
+-- thread 1 works twice, and thread 2 works with something between. The clauses 0 to 2 are of program order
+abbrev pub apart : WindowForm
+apart = record {
+  number = 1;
+  segments = (event.Op (c, []) ∷ event.Op (c, []) ∷ []) ∷ (event.Op (a, []) ∷ event.Op (c, []) ∷ event.Op (b, []) ∷ []) ∷ [];
+  start_values = [];
+  holders = [];
+  readers = [];
+  started = 1 ∷ 2 ∷ [];
+  exited = [];
+}
+
+-- two events side by side
+abbrev pub beside : PropertyForm
+beside = record { name = a; events = []; pattern = record { atoms = record { event = a; thread_var = b; opens = None; closes = None } ∷ record { event = b; thread_var = b; opens = None; closes = None } ∷ [] } ∷ [] }
+
 -- the work of thread 2 before that of thread 1
 abbrev pub reversed : List EventId
 reversed = at 2 1 ∷ at 1 0 ∷ []
@@ -119,5 +135,11 @@ pub record ExamplesHold : Type 0 where
         }
             ∷ record { number = 6; says = NotExecuted (at 2 1) ∷ Before (at 1 0) (at 2 1) ∷ []; grounds = Everything ∷ []; cycle = [] } ∷ [];
       }
+  -- two events of one thread with one between are not side by side: the clause that the step cites has nothing to do with it. The first five
+  -- variables are those of the points, and 5 and 6 say that 2.0 and 2.2 are at most one place apart
+  pub thread_order : reason_of apart beside (at 2 0 ∷ at 2 2 ∷ []) [] (record { steps = step (not_so 6 ∷ []) (0 ∷ []) ∷ [] }) ≡ record {
+    assumed = Within (at 2 2) (at 2 0) 1 ∷ [];
+    steps = record { number = 3; says = Beyond (at 2 2) (at 2 0) 1 ∷ []; grounds = ThreadOrder ∷ []; cycle = [] } ∷ [];
+  }
   -- a certificate without steps gives no reason
   pub none : reason_of flagged in_turn reversed (step (not_so 2 ∷ so 1 ∷ []) (2 ∷ 3 ∷ []) ∷ []) (record { steps = [] }) ≡ record { assumed = []; steps = [] }

@@ -3,6 +3,7 @@ use Rattle.std.specs.Prelude.{ℕ, ◌≡◌, ◌⊎◌, ◌+◌, ◌<◌, ◌�
 use Rattle.gp_base.specs.ListLaws.{Pairwise}
 use Rattle.gp_certificate.specs.declared.certificate.Certificate.{Certificate}
 use Rattle.gp_certificate.specs.declared.step.Step.{Step}
+use Rattle.gp_certificate.specs.Certificate.{clauses_of as certificate_clauses}
 use Rattle.gp_certificate.specs.Shared.{ChecksOver}
 use Rattle.gp_certificate.specs.Step.{Passes}
 use Rattle.gp_clause.specs.declared.lit.Lit.{Lit}
@@ -22,7 +23,7 @@ use Rattle.gp_cycle.specs.Laws.{GoRound}
 use Rattle.gp_window.specs.declared.schedule.EventId.{EventId}
 use Rattle.gp_window.specs.WindowForm.{WindowForm}
 use Rattle.gp_reason.specs.declared.fact.Fact.TheVariants.{Before}
-use Rattle.gp_reason.specs.Cycles.{cycle_told, hinted}
+use Rattle.gp_reason.specs.Cycles.{cycle_told, forces_nothing, hinted}
 use Rattle.gp_reason.specs.Facts.{fact_of, facts_of}
 use Rattle.gp_reason.specs.Families.{family_at}
 use Rattle.gp_reason.specs.Reasons.{reason_by}
@@ -82,3 +83,19 @@ IsForcedBefore window names clauses number step one other =
 abbrev pub CyclesAreForced : Type 0
 CyclesAreForced = (window : WindowForm) (names : List Symbol) (clauses : List (List Lit)) (number : ℕ) (step : Step)
     → (cycle_told window names clauses number step ≡ []) ⊎ GoRound (IsForcedBefore window names clauses number step) (cycle_told window names clauses number step)
+
+-- the clauses that the hints of a certificate over shared steps number
+abbrev pub all_clauses : Problem → List Step → Certificate → List (List Lit)
+all_clauses problem shared certificate = problem.clauses ++ (certificate_clauses shared ++ certificate_clauses certificate.steps)
+
+-- a step with hints that is told of a certificate that checks passes with just what is told as its grounds
+pub record GroundsAreEnough : Type 0 where
+  -- the clauses that its hints number
+  pub cited : (problem : Problem) (shared : List Step) (query : Query) (certificate : Certificate) → IsValidProblem problem → ChecksOver problem shared query certificate
+      → (told : NumberedStep) (hint : ℕ) → Contains (told_of (length problem.clauses) shared certificate.steps) told → Contains told.step.hints hint
+      → Passes problem.edges (problem.kinds ++ query.locals) (hinted (all_clauses problem shared certificate) told.number told.step.hints) told.step.clause
+  -- where these force nothing none, so that the order within threads is enough
+  pub alone : (problem : Problem) (shared : List Step) (query : Query) (certificate : Certificate) → IsValidProblem problem → ChecksOver problem shared query certificate
+      → (told : NumberedStep) (hint : ℕ) → Contains (told_of (length problem.clauses) shared certificate.steps) told → Contains told.step.hints hint
+      → forces_nothing (all_clauses problem shared certificate) told.number told.step ≡ true
+      → Passes problem.edges (problem.kinds ++ query.locals) [] told.step.clause

@@ -1,5 +1,5 @@
 -- The reason that a certificate gives, in the facts of its window.
-use Rattle.std.specs.Prelude.{ℕ, ◌==◌, List, [], ◌∷◌, ◌++◌, Option, Some, None, flat_map, get_or, length, position}
+use Rattle.std.specs.Prelude.{ℕ, ◌==◌, Bool, true, false, List, [], ◌∷◌, ◌++◌, Option, Some, None, flat_map, get_or, length, position}
 use Rattle.gp_certificate.specs.declared.certificate.Certificate.{Certificate}
 use Rattle.gp_certificate.specs.declared.step.Step.{Step}
 use Rattle.gp_clause.specs.declared.lit.Lit.{Lit}
@@ -13,10 +13,10 @@ use Rattle.gp_window.specs.declared.schedule.EventId.{EventId}
 use Rattle.gp_window.specs.WindowForm.{WindowForm}
 use Rattle.gp_reason.specs.declared.fact.Fact.{Fact}
 use Rattle.gp_reason.specs.declared.reasons.Ground.{Ground}
-use Rattle.gp_reason.specs.declared.reasons.Ground.TheVariants.{Base, Earlier, Everything}
+use Rattle.gp_reason.specs.declared.reasons.Ground.TheVariants.{Base, Earlier, Everything, ThreadOrder}
 use Rattle.gp_reason.specs.declared.reasons.Reason.{Reason}
 use Rattle.gp_reason.specs.declared.reasons.ReasonStep.{ReasonStep}
-use Rattle.gp_reason.specs.Cycles.{cycle_told, numbered_clauses}
+use Rattle.gp_reason.specs.Cycles.{cycle_told, forces_nothing, numbered_clauses}
 use Rattle.gp_reason.specs.Facts.{facts_of}
 use Rattle.gp_reason.specs.Families.{family_at}
 use Rattle.gp_reason.specs.Told.{NumberedStep, told_of}
@@ -42,17 +42,18 @@ named_ground window names place hint None = step_ground (place hint)
 abbrev pub ground_of : WindowForm → List Symbol → (ℕ → Option ℕ) → ℕ → List Ground
 ground_of window names place hint = named_ground window names place hint (family_at window hint)
 
--- what a step with these hints rests on
-abbrev pub grounds_of : WindowForm → List Symbol → (ℕ → Option ℕ) → List ℕ → List Ground
-grounds_of window names place [] = Everything ∷ []
-grounds_of window names place (hint ∷ hints) = flat_map (ground_of window names place) (hint ∷ hints)
+-- what a step with these hints rests on: the order within threads alone where the clauses that they number force nothing
+abbrev pub grounds_of : WindowForm → List Symbol → (ℕ → Option ℕ) → Bool → List ℕ → List Ground
+grounds_of window names place nothing [] = Everything ∷ []
+grounds_of window names place true (hint ∷ hints) = ThreadOrder ∷ []
+grounds_of window names place false (hint ∷ hints) = flat_map (ground_of window names place) (hint ∷ hints)
 
 -- a step that is told, where the steps told before have these places
 abbrev pub step_of : WindowForm → List Symbol → List (List Lit) → (ℕ → Option ℕ) → ℕ → Step → ReasonStep
 step_of window names clauses place number step = record {
   number = number;
   says = facts_of window names step.clause;
-  grounds = grounds_of window names place step.hints;
+  grounds = grounds_of window names place (forces_nothing clauses number step) step.hints;
   cycle = cycle_told window names clauses number step;
 }
 

@@ -1,5 +1,5 @@
 ghost use Rattle.gp_reason.specs.Examples.{ExamplesHold};
-ghost use Rattle.gp_reason.specs.Laws.{CyclesAreForced, FamiliesAreTold, ReasonsAreEnough, ReasonsTellWhatTheyRestOn};
+ghost use Rattle.gp_reason.specs.Laws.{CyclesAreForced, FamiliesAreTold, GroundsAreEnough, ReasonsAreEnough, ReasonsTellWhatTheyRestOn};
 ghost use Rattle.gp_reason.specs.Truth.{FactsAreTrue};
 
 use gp_certificate::more_passes;
@@ -15,6 +15,15 @@ pub fn reasons_are_enough()
     ensures { ReasonsAreEnough }
 {
     more_passes();
+}
+
+/// Each step with hints that is told of a certificate that checks passes with just the clauses that these number, and where the order
+/// within threads is told as its ground with none.
+pub fn grounds_are_enough()
+    ensures { GroundsAreEnough }
+{
+    more_passes();
+    forced_is_derived();
 }
 
 /// Each event of a cycle that is told is before the next, and the last one before the first: in one thread, or by what the clauses

@@ -12,6 +12,8 @@ pub enum Ground {
     Earlier(u64),
     /// Every clause of the window, and every step of its own list before it: the step cites none by number.
     Everything,
+    /// The order within threads alone: the clauses that the step cites force nothing from what it denies.
+    ThreadOrder,
 }
 
 /// A step of a reason: a clause that follows from its grounds.

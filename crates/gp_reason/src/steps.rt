@@ -1,14 +1,16 @@
 ghost use Rattle.std.specs.Prelude.{◌≡◌, ◌++◌, [], ◌∷◌, true, false, length, IfOk, OnOk, flat_map};
+ghost use Rattle.gp_reason.specs.Cycles.{cycle_told, forces_nothing};
 ghost use Rattle.gp_reason.specs.Draft.{after_step, after_steps, first_draft, place_at};
 ghost use Rattle.gp_reason.specs.Marks.{is_marked};
 ghost use Rattle.gp_reason.specs.Reasons.{ground_of, grounds_of, step_ground, step_of};
 
-use crate::cycles::cycle_told;
+use crate::cycles::{adds_nothing, cycle_told, forced_in};
 use crate::marking::is_marked;
 use crate::reasons::{Ground, ReasonStep};
 use crate::vocabulary::Vocabulary;
 use gp_base::Row;
 use gp_certificate::Step;
+use gp_window::EventId;
 use std::alloc::{AllocError, Global};
 
 /// The steps that were told, and for each number of a clause or of a step so far its place among them.
@@ -113,12 +115,8 @@ fn step_of(
     ensures { IfOk result (λ told. told ≡ step_of vocabulary.now.window vocabulary.now.names vocabulary.now.clauses (place_at places.now) (length places.now) step.now) }
 {
     let says = vocabulary.facts(alloc, step.clause.lits())?;
-    let Ok(grounds) = grounds_of(alloc, vocabulary, places, step.hints.as_slice()) else {
+    let Ok((grounds, cycle)) = basis_of(alloc, vocabulary, places, step) else {
         drop(says);
-        return Err(AllocError);
-    };
-    let Ok(cycle) = cycle_told(alloc, vocabulary, places.len(), step) else {
-        drop((says, grounds));
         return Err(AllocError);
     };
     Ok(ReasonStep {
@@ -129,26 +127,53 @@ fn step_of(
     })
 }
 
-/// What a step with these hints rests on.
+/// What the next step rests on, and the events of its cycle.
+#[tactic(auto, unfolding(crate::specs::Cycles::cycle_told, crate::specs::Cycles::forces_nothing))]
+fn basis_of(
+    alloc: Global,
+    vocabulary: &Vocabulary,
+    places: &[Option<u64>],
+    step: &Step,
+) -> Result<(Row<Ground>, Row<EventId>), AllocError>
+    ensures grounds { IfOk result (λ basis. basis.0 ≡ grounds_of vocabulary.now.window vocabulary.now.names (place_at places.now) (forces_nothing vocabulary.now.clauses (length places.now) step.now) step.now.hints) }
+    ensures cycle { IfOk result (λ basis. basis.1 ≡ cycle_told vocabulary.now.window vocabulary.now.names vocabulary.now.clauses (length places.now) step.now) }
+{
+    let lits = forced_in(alloc, vocabulary, places.len(), step)?;
+    let nothing = adds_nothing(step, &lits);
+    let cycle = cycle_told(alloc, vocabulary, lits)?;
+    match grounds_of(alloc, vocabulary, places, nothing, step.hints.as_slice()) {
+        Ok(grounds) => Ok((grounds, cycle)),
+        Err(error) => {
+            drop(cycle);
+            Err(error)
+        }
+    }
+}
+
+/// What a step with these hints rests on, whose clauses may force nothing.
 fn grounds_of(
     alloc: Global,
     vocabulary: &Vocabulary,
     places: &[Option<u64>],
+    nothing: bool,
     hints: &[u32],
 ) -> Result<Row<Ground>, AllocError>
-    ensures { IfOk result (λ grounds. grounds ≡ grounds_of vocabulary.now.window vocabulary.now.names (place_at places.now) hints.now) }
+    ensures { IfOk result (λ grounds. grounds ≡ grounds_of vocabulary.now.window vocabulary.now.names (place_at places.now) nothing hints.now) }
 {
     if hints.is_empty() {
-        return everything(alloc);
+        return only(alloc, Ground::Everything);
+    }
+    if nothing {
+        return only(alloc, Ground::ThreadOrder);
     }
     cited(alloc, vocabulary, places, hints)
 }
 
-fn everything(alloc: Global) -> Result<Row<Ground>, AllocError>
-    ensures { IfOk result (λ grounds. grounds ≡ Ground.Everything ∷ []) }
+fn only(alloc: Global, ground: Ground) -> Result<Row<Ground>, AllocError>
+    ensures { IfOk result (λ grounds. grounds ≡ ground ∷ []) }
 {
     let mut grounds = Row::new(alloc);
-    grounds.push(Ground::Everything)?;
+    grounds.push(ground)?;
     Ok(grounds)
 }
 

@@ -10,7 +10,7 @@ use Rattle.gp_constraint.specs.declared.base_family.BaseFamily.TheVariants.{Prog
 use Rattle.gp_story.specs.Examples.{flagged, guarded}
 use Rattle.gp_story.specs.Parts.{story_of}
 use Rattle.gp_reason.specs.declared.fact.Fact.TheVariants.{Executed, NotExecuted, Before, Sees, NotSees, SeesStart, NotSeesStart, SectionBefore, Last, NotLast, Takes, NotTakes, Within, Beyond, Unnamed}
-use Rattle.gp_reason.specs.declared.reasons.Ground.TheVariants.{Base, Earlier, Everything}
+use Rattle.gp_reason.specs.declared.reasons.Ground.TheVariants.{Base, Earlier, Everything, ThreadOrder}
 use Rattle.gp_reason.specs.declared.reasons.Reason.{Reason}
 use Rattle.gp_text.specs.Spelling.{spelling}
 use Rattle.gp_tell.specs.ReasonText.{reason_lines}
@@ -56,7 +56,7 @@ by_clauses = record {
   } ∷ [];
 }
 
--- a step of each other family, and one that says nothing
+-- a step of each other family, one that says nothing, and one that needs no clause
 abbrev pub by_steps : Reason
 by_steps = record {
   assumed = Last (at 1 2) ∷ Takes (at 3 0) (at 1 4) ∷ Within (at 3 0) (at 1 4) 12 ∷ Unnamed 7 true ∷ [];
@@ -70,7 +70,8 @@ by_steps = record {
         ∷ Base HeldLock (Unnamed 7 false ∷ []) ∷ [];
     cycle = [];
   }
-      ∷ record { number = 44; says = []; grounds = Earlier 0 ∷ Everything ∷ []; cycle = [] } ∷ [];
+      ∷ record { number = 44; says = []; grounds = Earlier 0 ∷ Everything ∷ []; cycle = [] }
+      ∷ record { number = 45; says = Beyond (at 2 2) (at 2 0) 1 ∷ []; grounds = ThreadOrder ∷ []; cycle = [] } ∷ [];
 }
 
 pub record ExamplesHold : Type 0 where
@@ -126,7 +127,7 @@ pub record ExamplesHold : Type 0 where
       ++ codes "- value of a read: 2.0 is not executed, or 2.0 sees 1.1\n"
       ++ codes "- what a read sees: 2.0 does not see 1.1, or 1.1 is before 2.0\n"
       ++ codes "- a cycle: 2.1 (work.c:12 in second) before 1.0 before 1.1 before 2.0 before 2.1 (work.c:12 in second)\n"
-  -- the other families and facts, an earlier step, and a step that says nothing; none of them has a cycle
+  -- the other families and facts, an earlier step, a step that says nothing, and one by the order within threads alone; none of them has a cycle
   pub steps : spelling (reason_lines event_id_text by_steps) ≡
       codes "this cannot all hold:\n"
       ++ codes "- 1.2 is the last write\n"
@@ -142,3 +143,5 @@ pub record ExamplesHold : Type 0 where
       ++ codes "2. a contradiction, since\n"
       ++ codes "- step 1\n"
       ++ codes "- all of the above and of the window\n"
+      ++ codes "3. 2.2 is more than 1 places behind 2.0, since\n"
+      ++ codes "- the order within threads alone\n"

@@ -6,7 +6,7 @@ use Rattle.gp_constraint.specs.declared.base_family.BaseFamily.TheVariants.{Prog
 use Rattle.gp_window.specs.declared.schedule.EventId.{EventId}
 use Rattle.gp_reason.specs.declared.fact.Fact.{Fact}
 use Rattle.gp_reason.specs.declared.reasons.Ground.{Ground}
-use Rattle.gp_reason.specs.declared.reasons.Ground.TheVariants.{Base, Earlier, Everything}
+use Rattle.gp_reason.specs.declared.reasons.Ground.TheVariants.{Base, Earlier, Everything, ThreadOrder}
 use Rattle.gp_reason.specs.declared.reasons.Reason.{Reason}
 use Rattle.gp_reason.specs.declared.reasons.ReasonStep.{ReasonStep}
 use Rattle.gp_tell.specs.FactText.{any_text, fact_text}
@@ -22,11 +22,12 @@ family_text StartChoice = codes "the beginning is seen:"
 family_text Section = codes "sections of a lock:"
 family_text HeldLock = codes "lock held from before:"
 
--- what a step rests on: a clause of the window with its family, an earlier step by its number from 1, or all there is
+-- what a step rests on: a clause of the window with its family, an earlier step by its number from 1, all there is, or no clause
 abbrev pub ground_words : (EventId → List ℕ) → Ground → List (List ℕ)
 ground_words name (Base family facts) = family_text family ∷ any_text name facts ∷ []
 ground_words name (Earlier place) = codes "step" ∷ decimal (place + 1) ∷ []
 ground_words name Everything = codes "all of the above and of the window" ∷ []
+ground_words name ThreadOrder = codes "the order within threads alone" ∷ []
 
 -- one of the lines under another one
 abbrev pub item_line : List (List ℕ) → List (List ℕ)

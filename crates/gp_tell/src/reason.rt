@@ -203,6 +203,7 @@ pub fn put_ground_words(
         Ground::Base(family, facts) => put_clause(text, naming, *family, facts.as_slice()),
         Ground::Earlier(place) => put_earlier(text, *place),
         Ground::Everything => put_word(text, b"all of the above and of the window"),
+        Ground::ThreadOrder => put_word(text, b"the order within threads alone"),
     }
 }
 

@@ -7,7 +7,7 @@ use Rattle.gp_checker.specs.declared.failure.Reason.{Reason}
 use Rattle.gp_checker.specs.declared.failure.Reason.TheVariants as why
 use Rattle.gp_overview.specs.Verdict.{reason_words}
 use Rattle.gp_reason.specs.declared.reasons.Ground.{Ground}
-use Rattle.gp_reason.specs.declared.reasons.Ground.TheVariants.{Base, Earlier, Everything}
+use Rattle.gp_reason.specs.declared.reasons.Ground.TheVariants.{Base, Earlier, Everything, ThreadOrder}
 use Rattle.gp_tell.specs.ReasonText.{before_words, cycle_words, family_text, ground_words}
 use Rattle.gp_tell.specs.FactText.{any_text}
 use Rattle.gp_text.specs.Spelling.{after_words, joined}
@@ -41,6 +41,7 @@ pub ground_words_first : (name : EventId → List ℕ) (basis : Ground) → drop
 ground_words_first name (Base family facts) = phrases_first (ground_words name (Base family facts)) (family_text family) (any_text name facts ∷ []) refl
 ground_words_first name (Earlier place) = phrases_first (ground_words name (Earlier place)) (codes "step") (decimal (place + 1) ∷ []) refl
 ground_words_first name Everything = phrases_first (ground_words name Everything) (codes "all of the above and of the window") [] refl
+ground_words_first name ThreadOrder = phrases_first (ground_words name ThreadOrder) (codes "the order within threads alone") [] refl
 
 -- of a cycle
 pub cycle_words_first : (name : EventId → List ℕ) (first : EventId) (others : List EventId) → drop 1 (after_words (cycle_words name first others)) ≡ joined (cycle_words name first others)

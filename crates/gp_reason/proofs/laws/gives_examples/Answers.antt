@@ -1,7 +1,7 @@
 use Rattle.std.proofs.Common.{refl}
-use Rattle.gp_reason.specs.Cycles.{cycle_told}
+use Rattle.gp_reason.specs.Cycles.{cycle_told, forces_nothing}
 use Rattle.gp_reason.proofs.laws.gives_examples.Goals as goal
 
 pub returns : goal.returns
-unfolding cycle_told
-returns c = record { flag = refl; shared = refl; everything = refl; none = refl }
+unfolding cycle_told forces_nothing
+returns c = record { flag = refl; shared = refl; everything = refl; thread_order = refl; none = refl }

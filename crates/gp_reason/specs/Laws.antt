@@ -4,7 +4,7 @@ use Rattle.gp_base.specs.ListLaws.{Pairwise}
 use Rattle.gp_certificate.specs.declared.certificate.Certificate.{Certificate}
 use Rattle.gp_certificate.specs.declared.step.Step.{Step}
 use Rattle.gp_certificate.specs.Certificate.{clauses_of as certificate_clauses}
-use Rattle.gp_certificate.specs.Shared.{ChecksOver}
+use Rattle.gp_certificate.specs.Shared.{ChecksOver, RefutesOver}
 use Rattle.gp_certificate.specs.Step.{Passes}
 use Rattle.gp_clause.specs.declared.lit.Lit.{Lit}
 use Rattle.gp_clause.specs.declared.problem.Problem.{Problem}
@@ -19,14 +19,17 @@ use Rattle.gp_constraint.specs.Base.{base_of, clauses_of}
 use Rattle.gp_constraint.specs.Families.{family_clauses}
 use Rattle.gp_constraint.specs.PointIds.{id_at}
 use Rattle.gp_constraint.specs.Points.{points_of}
+use Rattle.gp_constraint.specs.Query.{query_names, query_of}
 use Rattle.gp_cycle.specs.Laws.{GoRound}
+use Rattle.gp_property.specs.PropertyForm.{PropertyForm}
 use Rattle.gp_window.specs.declared.schedule.EventId.{EventId}
 use Rattle.gp_window.specs.WindowForm.{WindowForm}
+use Rattle.gp_reason.specs.declared.fact.Fact.{Fact}
 use Rattle.gp_reason.specs.declared.fact.Fact.TheVariants.{Before}
 use Rattle.gp_reason.specs.Cycles.{cycle_told, forces_nothing, hinted}
 use Rattle.gp_reason.specs.Facts.{fact_of, facts_of}
 use Rattle.gp_reason.specs.Families.{family_at}
-use Rattle.gp_reason.specs.Reasons.{reason_by}
+use Rattle.gp_reason.specs.Reasons.{reason_by, reason_of}
 use Rattle.gp_reason.specs.Told.{NumberedStep, all_steps, cites, told_of}
 
 -- the last step of a certificate with its own number, behind so many base clauses, the shared steps and those before it
@@ -99,3 +102,9 @@ pub record GroundsAreEnough : Type 0 where
       → (told : NumberedStep) (hint : ℕ) → Contains (told_of (length problem.clauses) shared certificate.steps) told → Contains told.step.hints hint
       → forces_nothing (all_clauses problem shared certificate) told.number told.step ≡ true
       → Passes problem.edges (problem.kinds ++ query.locals) [] told.step.clause
+
+-- where a certificate refutes the query of an instance, all that its reason assumes is assumed by the query
+abbrev pub AssumedIsAsked : Type 0
+AssumedIsAsked = (window : WindowForm) (property : PropertyForm) (ids : List EventId) (shared : List Step) (certificate : Certificate)
+    → RefutesOver (base_of window) shared (query_of window property ids) certificate → (fact : Fact) → Contains (reason_of window property ids shared certificate).assumed fact
+    → Contains (facts_of window (query_names window property ids) (query_of window property ids).assumed) fact

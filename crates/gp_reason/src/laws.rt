@@ -1,5 +1,5 @@
 ghost use Rattle.gp_reason.specs.Examples.{ExamplesHold};
-ghost use Rattle.gp_reason.specs.Laws.{CyclesAreForced, FamiliesAreTold, GroundsAreEnough, ReasonsAreEnough, ReasonsTellWhatTheyRestOn};
+ghost use Rattle.gp_reason.specs.Laws.{AssumedIsAsked, CyclesAreForced, FamiliesAreTold, GroundsAreEnough, ReasonsAreEnough, ReasonsTellWhatTheyRestOn};
 ghost use Rattle.gp_reason.specs.Truth.{FactsAreTrue};
 
 use gp_certificate::more_passes;
@@ -25,6 +25,11 @@ pub fn grounds_are_enough()
     more_passes();
     forced_is_derived();
 }
+
+/// Of a certificate that refutes the query of an instance, a reason assumes nothing but what the query does.
+pub fn assumed_is_asked()
+    ensures { AssumedIsAsked }
+{}
 
 /// Each event of a cycle that is told is before the next, and the last one before the first: in one thread, or by what the clauses
 /// that the step cites derive from its denial.

@@ -15,8 +15,8 @@ mod vocabulary;
 
 pub use fact::Fact;
 pub use laws::{
-    cycles_are_forced, facts_are_true, families_are_told, gives_examples, grounds_are_enough,
-    reasons_are_enough, reasons_tell_what_they_rest_on,
+    assumed_is_asked, cycles_are_forced, facts_are_true, families_are_told, gives_examples,
+    grounds_are_enough, reasons_are_enough, reasons_tell_what_they_rest_on,
 };
 pub use reasons::{Ground, Reason, ReasonStep};
 pub use telling::reason;

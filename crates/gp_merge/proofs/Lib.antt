@@ -1,5 +1,7 @@
+pub mod Checked
 pub mod Moved
 pub mod Numbers
+pub mod Reached
 pub mod Renumbered
 pub mod Rows
 pub mod Told

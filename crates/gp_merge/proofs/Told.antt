@@ -38,7 +38,7 @@ module _ (format budget : ℕ) where
       ∙ ap (map (λ (n : ℕ). one.part.before + (n - 1))) (behind_first one.part.count one.report.windows is.windows is.report.numbered)
       ∙ numbers_moved one.part.before 2 (one.part.before + 1) one.part.count (omega arith) (omega arith)
 
-  numbers_of_parts : (before last : ℕ) (parts : List PartReport) → AreInRow before parts last → AllByRecursion (IsPartReport format budget) parts
+  pub numbers_of_parts : (before last : ℕ) (parts : List PartReport) → AreInRow before parts last → AllByRecursion (IsPartReport format budget) parts
       → told_numbers (flat_map part_windows parts) ≡ numbers_from (before + 1) (last - before)
   numbers_of_parts before last [] row all = let none : 0 ≡ last - before = omega (arith, row) in ap (numbers_from (before + 1)) none
   numbers_of_parts before last (one ∷ parts) row all =

@@ -3,8 +3,10 @@
 // whole, so each of its answers is true there.
 #![tactic(auto)]
 
+mod checking;
 mod laws;
 mod merging;
 
+pub use checking::{CheckedMerge, PartFailure, merge_checked};
 pub use laws::{merged_is_accepted, merged_is_report, merges_examples};
 pub use merging::{PartReport, merge};

@@ -220,7 +220,7 @@ clause_holds facts window property ids t model kinds clause holds =
     )
 
 -- a step that is told, behind those told before
-pub step_told : (window : WindowForm) (names : List Symbol) (clauses : List (List Lit)) (before told : List NumberedStep) (step : ReasonStep) → Contains (steps_from window names clauses before told) step
+step_told : (window : WindowForm) (names : List Symbol) (clauses : List (List Lit)) (before told : List NumberedStep) (step : ReasonStep) → Contains (steps_from window names clauses before told) step
     → (earlier : List NumberedStep) × (one : NumberedStep) × Contains told one × (step_of window names clauses (place_of earlier) one.number one.step ≡ step)
 step_told window names clauses before [] step i = absurd (nothing_in step i)
 step_told window names clauses before (one ∷ told) step i =
@@ -243,7 +243,7 @@ ends_with step [] = ([], step, refl)
 ends_with step (next ∷ steps) = let rest = ends_with next steps in (step ∷ rest.0, rest.1, ap (λ (list : List Step). step ∷ list) rest.2)
 
 -- a step that is told is one of the shared ones or of the certificate
-told_within : ReasonsTellWhatTheyRestOn → (base : ℕ) (shared own : List Step) (one : NumberedStep) → Contains (told_of base shared own) one → Contains (all_steps base shared own) one
+pub told_within : ReasonsTellWhatTheyRestOn → (base : ℕ) (shared own : List Step) (one : NumberedStep) → Contains (told_of base shared own) one → Contains (all_steps base shared own) one
 told_within law base shared [] one i = absurd (nothing_in one i)
 told_within law base shared (step ∷ own) one i =
     let end = ends_with step own in

@@ -1,5 +1,5 @@
 -- What is true of the reasons of instances that are posed: they assume something, what they tell is true of each schedule, and cycles are told.
-use Rattle.std.specs.Prelude.{ℕ, ◌≡◌, ◌↔◌, ◌⊎◌, ◌≤◌, true, false, Contains, List, [], ◌∷◌, Some, length, slice_get}
+use Rattle.std.specs.Prelude.{ℕ, ◌≡◌, ◌↔◌, ◌⊎◌, ◌<◌, ◌≤◌, true, false, Contains, List, [], ◌∷◌, Some, length, map, slice_get}
 use Rattle.gp_certificate.specs.declared.certificate.Certificate.{Certificate}
 use Rattle.gp_certificate.specs.declared.step.Step.{Step}
 use Rattle.gp_certificate.specs.Shared.{ChecksOver, RefutesOver}
@@ -20,7 +20,7 @@ use Rattle.gp_instance.specs.Instance.{is_instance}
 use Rattle.gp_property.specs.PropertyForm.{PropertyForm}
 use Rattle.gp_reason.specs.declared.fact.Fact.{Fact}
 use Rattle.gp_reason.specs.declared.fact.Fact.TheVariants.{Beyond, Within}
-use Rattle.gp_reason.specs.declared.reasons.Ground.TheVariants.{Base, Everything, ThreadOrder}
+use Rattle.gp_reason.specs.declared.reasons.Ground.TheVariants.{Base, Earlier, Everything, ThreadOrder}
 use Rattle.gp_reason.specs.declared.reasons.ReasonStep.{ReasonStep}
 use Rattle.gp_reason.specs.Cycles.{cycle_told, forces_nothing, hinted, numbered_clauses}
 use Rattle.gp_reason.specs.Facts.{fact_of, facts_of}
@@ -89,8 +89,9 @@ pub record StepsAreTrue : Type 0 where
   pub schedules : (window : WindowForm) (schedule : List EventId) → IsWindow window → IsEncodable window → IsFeasible window schedule
       → (t : SymbolTruth) × IsModel window t × IsOfSchedule window schedule t
 
--- a step that is told has the grounds of the numbered one
-pub record IsGrounded (window : WindowForm) (names : List Symbol) (clauses : List (List Lit)) (told : NumberedStep) (step : ReasonStep) : Type 0 where
+-- a step of a reason is one of the numbered ones that are told, with the grounds that its hints call for
+pub record IsGrounded (window : WindowForm) (names : List Symbol) (clauses : List (List Lit)) (all : List NumberedStep) (told : NumberedStep) (step : ReasonStep) : Type 0 where
+  pub among : Contains all told
   pub number : step.number ≡ told.number
   -- everything that it may use, where it has no hints
   pub everything : told.step.hints ≡ [] → step.grounds ≡ Everything ∷ []
@@ -99,10 +100,13 @@ pub record IsGrounded (window : WindowForm) (names : List Symbol) (clauses : Lis
   -- and else each clause of the window that a hint numbers, by its facts
   pub cited : (hint : ℕ) (clause : List Lit) → Contains told.step.hints hint → forces_nothing clauses told.number told.step ≡ false → slice_get (base_of window).clauses hint ≡ Some clause
       → (family : BaseFamily) × Contains step.grounds (Base family (facts_of window names clause))
+  -- and each earlier step that one numbers, by its place among those that are told
+  pub earlier : (prior : NumberedStep) → Contains all prior → prior.number < told.number → Contains told.step.hints prior.number → forces_nothing clauses told.number told.step ≡ false
+      → (place : ℕ) × Contains step.grounds (Earlier place) × (slice_get (map (λ one. one.number) all) place ≡ Some prior.number)
 
--- what a step of a reason rests on in the window is told
+-- what each step of a reason rests on is told
 abbrev pub GroundsAreTold : Type 0
 GroundsAreTold = (window : WindowForm) (property : PropertyForm) (ids : List EventId) (shared : List Step) (certificate : Certificate) (step : ReasonStep)
     → Contains (reason_of window property ids shared certificate).steps step
-    → (told : NumberedStep) × Contains (told_of (length (base_of window).clauses) shared certificate.steps) told
-    × IsGrounded window (query_names window property ids) (numbered_clauses window shared certificate.steps) told step
+    → (told : NumberedStep)
+    × IsGrounded window (query_names window property ids) (numbered_clauses window shared certificate.steps) (told_of (length (base_of window).clauses) shared certificate.steps) told step

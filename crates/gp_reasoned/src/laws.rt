@@ -53,10 +53,11 @@ pub fn cycles_are_told()
     truths_are_numbered();
 }
 
-/// What a step of a reason rests on is told: everything, the order within threads alone, or else each clause of the window that it
-/// cites.
+/// What each step of a reason rests on is told: everything, the order within threads alone, or else each clause of the window and
+/// each earlier step that it cites.
 pub fn grounds_are_told()
     ensures { GroundsAreTold }
 {
+    reasons_tell_what_they_rest_on();
     families_are_told();
 }

@@ -15,7 +15,7 @@ use Rattle.gp_sat.specs.Links.{IsChain, put}
 use Rattle.gp_sat.specs.WatchesForm.{WatchesForm}
 use Rattle.gp_sat.specs.Watching.{ArePartners, IsTrueTo, IsSafe, IsHeld, IsLong, Watches, AreWatched, code, link_at, next_at, watch_at, no_slot}
 use Rattle.gp_sat.specs.Linked.{IsMember, IsOf, IsLinked}
-use Rattle.gp_sat.specs.Stepping.{IsPick, HasFallen, IsWalking, IsReturning, GoesOn, Stops, work}
+use Rattle.gp_sat.specs.Stepping.{IsPick, HasFallenBeside, HasFallen, IsWalking, IsReturning, GoesOn, Stops, work}
 use Rattle.gp_sat.proofs.Lengths.{once_few, steps_is}
 use Rattle.gp_sat.proofs.Watched.{watched_more}
 use Rattle.gp_sat.proofs.Linking.{put_here}
@@ -210,6 +210,21 @@ pair_of s w fallen x number y walking first partners held =
             (subst (λ (l : Lit). IsTrueLit (assigned s) l) at.watch (back.0, back.1, back.2))
             (walking.fell.value, walking.fell.is, walking.fell.opposes)
       ];
+    }
+
+-- beside the other literal of a clause that is held stands the one that fell
+pub fallen_beside : (s : SolverForm) (w : WatchesForm) (fallen : Lit) (x number y : ℕ) (walking : IsWalking s w fallen) → link_at w.heads 0 ≡ x + 1 → ArePartners number x y → IsAttached s.clauses number
+    → HasFallenBeside (assigned s) (clause_at s.clauses number) (watch_at w.slots y)
+fallen_beside s w fallen x number y walking first partners attached =
+    let at : IsFirst s w fallen walking.lists x = first_slot s w fallen walking.lists x walking.linked first in
+    let below : number < w.linked = subst (λ (m : ℕ). m < w.linked) (same_partner at.member.number number x at.member.other y at.member.partners partners).0 at.member.before in
+    let pair : IsPair s w fallen number x y = pair_of s w fallen x number y walking first partners (attached, below) in
+    record {
+      fallen = fallen;
+      one = pair.one;
+      two = pair.two;
+      differ = pair.differ;
+      fell = (walking.fell.value, walking.fell.is, walking.fell.opposes);
     }
 
 -- a variable that is assigned is one of the solver

@@ -26,6 +26,14 @@ StandsAs values lit Free = values lit.variable ≡ None
 abbrev pub IsPick : (ℕ → Option Assigned) → List Lit → Lit → Lit → Type 0
 IsPick values clause other lit = Contains clause lit × (lit ≢ other) × (IsFalse values lit → ⊥)
 
+-- a clause has a literal that is watched, and another one, which fell
+pub record HasFallenBeside (values : ℕ → Option Assigned) (clause : List Lit) (other : Lit) : Type 0 where
+  pub fallen : Lit
+  pub one : Contains clause fallen
+  pub two : Contains clause other
+  pub differ : fallen ≢ other
+  pub fell : IsFalse values fallen
+
 -- what becomes of a slot whose literal fell, by its clause and the other literal that this watches
 abbrev pub JudgesAs : SolverForm → ℕ → Lit → Judged → Type 0
 JudgesAs s number other Off = IsAttached s.clauses number → ⊥

@@ -1,4 +1,4 @@
-ghost use Rattle.std.specs.Prelude.{◌≡◌, ◌<◌, ◌^◌, [], ◌∷◌, ◌++◌, length, slice_set, slice_index_or, IfOk, OnOk, OnErr, true, false};
+ghost use Rattle.std.specs.Prelude.{◌≡◌, ◌<◌, ◌^◌, ◌==◌, [], ◌∷◌, ◌++◌, length, slice_set, slice_index_or, IfOk, OnOk, OnErr, true, false};
 ghost use Rattle.gp_clause.specs.Clause.{IsRising};
 ghost use Rattle.gp_sat.specs.State.{clause_at, no_clause};
 
@@ -66,6 +66,15 @@ impl Store {
         ensures { result ≡ (slice_index_or self.now number no_clause).attached }
     {
         self.ranges[number].attached
+    }
+
+    /// Whether a clause has two literals. It does not look at them.
+    pub fn is_pair(&self, number: usize) -> bool
+        requires { number < length self.now }
+        ensures { result ≡ (length (clause_at self.now number) == 2) }
+    {
+        let range = self.ranges[number];
+        range.end - range.start == 2
     }
 
     /// Adds a clause under the next number, attached. A place has 32 bits, so there is room for 2^32 literals in all, which take 34 GB.

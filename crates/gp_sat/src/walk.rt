@@ -2,7 +2,7 @@ ghost use Rattle.std.specs.Prelude.{◌≡◌, ◌≢◌, ◌⊎◌, MatchBool, 
 ghost use Rattle.gp_sat.specs.State.{assigned, clause_at, IsAttached};
 ghost use Rattle.gp_sat.specs.Standing.{IsFalse, EachOther};
 ghost use Rattle.gp_sat.specs.Changes.{Propagates};
-ghost use Rattle.gp_sat.specs.Stepping.{StandsAs, IsPick, JudgesAs, IsWalking, IsReturning, IsIdle, IsDone, IsBroken, KeepsShorts, GoesOn, Stops};
+ghost use Rattle.gp_sat.specs.Stepping.{StandsAs, IsPick, HasFallenBeside, JudgesAs, IsWalking, IsReturning, IsIdle, IsDone, IsBroken, KeepsShorts, GoesOn, Stops};
 ghost use Rattle.gp_sat.specs.Watching.{link_at, no_slot};
 ghost use Rattle.gp_clause.specs.Lit.{opposite};
 
@@ -75,13 +75,18 @@ pub(crate) fn pick(values: &Values, lits: &[Lit], other: Lit) -> Option<Lit>
     None
 }
 
-// The first such literal of the clause of a number.
+// The first such literal of the clause of a number, which has a literal that fell. Of two literals none is such, so that they are
+// not looked at.
 fn pick_at(kernel: &Kernel, number: usize, other: Lit) -> Option<Lit>
-    requires { number < length kernel.now.clauses }
+    requires within { number < length kernel.now.clauses }
+    requires fell { HasFallenBeside (assigned kernel.now) (clause_at kernel.now.clauses number) other }
     ensures { MatchOption result
         (EachOther (IsFalse (assigned kernel.now)) (clause_at kernel.now.clauses number) other)
         (IsPick (assigned kernel.now) (clause_at kernel.now.clauses number) other) }
 {
+    if kernel.clauses.is_pair(number) {
+        return None;
+    }
     pick(&kernel.values, kernel.clauses.lits(number), other)
 }
 
@@ -100,7 +105,8 @@ pub(crate) fn is_attached(kernel: &Kernel, number: usize) -> bool
 
 // What becomes of a slot whose literal fell, by the number of its clause and the other literal that this watches.
 fn judge(kernel: &Kernel, number: usize, other: Lit) -> Judged
-    requires { number < length kernel.now.clauses }
+    requires within { number < length kernel.now.clauses }
+    requires fell { IsAttached kernel.now.clauses number → HasFallenBeside (assigned kernel.now) (clause_at kernel.now.clauses number) other }
     ensures { JudgesAs kernel.now number other result }
 {
     match look_up_at(kernel, other) {

@@ -5,11 +5,11 @@ use Rattle.gp_sat.specs.State.{SolverForm, assigned, clause_at}
 use Rattle.gp_sat.specs.Looking.{IsTrueLit, IsUnit}
 use Rattle.gp_sat.specs.WatchesForm.{WatchesForm}
 use Rattle.gp_sat.specs.Watching.{ArePartners, link_at, next_at, watch_at}
-use Rattle.gp_sat.specs.Stepping.{IsPick, JudgesAs, IsWalking, GoesOn, Stops}
+use Rattle.gp_sat.specs.Stepping.{IsPick, HasFallenBeside, JudgesAs, IsWalking, GoesOn, Stops}
 use Rattle.gp_sat.specs.declared.walk.Judged.TheVariants.{Forces, Fails}
 use Rattle.std.proofs.lemmas.List.{length-set}
 use Rattle.gp_sat.proofs.Relinking.{taken, at_front, code_below}
-use Rattle.gp_sat.proofs.Stepping.{first_within, IsWithin, bounds_at, goes_off, goes_keeps, goes_moves, walking_more, added_true, is_unit, stops_at}
+use Rattle.gp_sat.proofs.Stepping.{first_within, IsWithin, bounds_at, fallen_beside, goes_off, goes_keeps, goes_moves, walking_more, added_true, is_unit, stops_at}
 use Rattle.gp_sat.proofs.walk.step.Goals as goal
 
 -- the bounds, where the partner is not known yet
@@ -31,10 +31,16 @@ watched-other-requires c =
     let b : IsWithin c.args.kernel.now c.args.watches.now c.args.fallen c.clause_of-number.result c.take-slot.result c.partner_of.result = bounds_at c.args.kernel.now c.args.watches.now c.args.fallen c.clause_of-number.result c.take-slot.result c.partner_of.result c.requires.walking c.take-slot.ensures.first c.partner_of.ensures in
     omega (arith, b.other, ap (λ (l : WatchesForm). length l.slots) c.take-slot.ensures.taken)
 
-pub judge-requires : goal.judge-requires
-judge-requires c =
+pub judge-requires-clause-within : goal.judge-requires-clause-within
+judge-requires-clause-within c =
     let b : IsWithin c.args.kernel.now c.args.watches.now c.args.fallen c.clause_of-number.result c.take-slot.result c.partner_of.result = bounds_at c.args.kernel.now c.args.watches.now c.args.fallen c.clause_of-number.result c.take-slot.result c.partner_of.result c.requires.walking c.take-slot.ensures.first c.partner_of.ensures in
     b.clause
+
+pub judge-requires-clause-fell : goal.judge-requires-clause-fell
+judge-requires-clause-fell c = λ attached.
+    let same : c.watched-other.result ≡ watch_at c.args.watches.now.slots c.partner_of.result = c.watched-other.ensures ∙ ap (λ (l : WatchesForm). watch_at l.slots c.partner_of.result) c.take-slot.ensures.taken in
+    subst (λ (l : Lit). HasFallenBeside (assigned c.args.kernel.now) (clause_at c.args.kernel.now.clauses c.clause_of-number.result) l) (sym same)
+    (fallen_beside c.args.kernel.now c.args.watches.now c.args.fallen c.take-slot.result c.clause_of-number.result c.partner_of.result c.requires.walking c.take-slot.ensures.first c.partner_of.ensures attached)
 
 pub link-requires-clause-within : goal.link-requires-clause-within
 link-requires-clause-within c =

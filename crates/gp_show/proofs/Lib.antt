@@ -1,7 +1,9 @@
 pub mod Further
+pub mod InOrder
 pub mod Markup
 pub mod Numbered
 pub mod OneValue
 pub mod Pieces
 pub mod Reached
 pub mod Told
+pub mod Unwanted

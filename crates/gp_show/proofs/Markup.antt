@@ -22,8 +22,8 @@ use Rattle.gp_words.specs.declared.showing.Style.{Style}
 use Rattle.gp_words.specs.declared.showing.Style.TheVariants.{Page}
 use Rattle.gp_show.specs.Choice.{asked_of, shown_of}
 use Rattle.gp_show.specs.Laws.{PagesHaveOwnMarkup}
-use Rattle.gp_show.specs.Request.{RequestForm}
-use Rattle.gp_show.specs.Show.{before_text, body_text, foot_text, head_text, left_out_part, left_out_text, page_foot, page_head, request_with, shown_text, shown_words, style_sheet, submitted_answers, told_from, unshown_text}
+use Rattle.gp_words.specs.Showing.{ShowForm}
+use Rattle.gp_show.specs.Show.{before_text, body_text, foot_text, head_text, left_out_part, left_out_text, page_foot, page_head, shown_text, shown_words, style_sheet, submitted_answers, told_from, unshown_text}
 
 style_own : HasOwnMarkup style_sheet
 unfolding style_sheet
@@ -69,22 +69,22 @@ module _ (drawings : DrawingsHaveOwnMarkup) (overviews : OverviewsHaveOwnMarkup)
       markup_append (answered_part beside answered) (told_from Page properties beside (before + 1) answers) (answers_own beside answered) (told_own properties beside (before + 1) answers)
 
   -- the style is a page
-  body_own : (request : RequestForm) (submission : Submission) (checked : Checked) → request.command.style ≡ Page → HasOwnMarkup (body_text request submission checked)
-  body_own request submission Accepted is =
-      let answers : List AnsweredForm = submitted_answers submission in
-      let shown : List AnsweredForm = shown_of request.command request.command.most answers in
-      let asked : List AnsweredForm = asked_of request.command answers in
-      subst (λ (style : Style). HasOwnMarkup (told_from style request.properties request.beside 0 shown ++ shown_text style (length shown) (length asked))) (sym is)
-      (markup_append (told_from Page request.properties request.beside 0 shown) (shown_text Page (length shown) (length asked))
-      (told_own request.properties request.beside 0 shown) (count_own (length shown) (length asked)))
-  body_own request submission (Rejected failure) is = subst (λ (style : Style). HasOwnMarkup (unshown_text style)) (sym is) markup_nil
+  body_own : (command : ShowForm) (submission : Submission) (noted : Noted) (checked : Checked) → command.style ≡ Page → HasOwnMarkup (body_text command submission noted checked)
+  body_own command submission noted Accepted is =
+      let properties = submission.listing.properties in
+      let shown : List AnsweredForm = shown_of command (submitted_answers submission) in
+      let asked : List AnsweredForm = asked_of command (submitted_answers submission) in
+      subst (λ (style : Style). HasOwnMarkup (told_from style properties noted.beside 0 shown ++ shown_text style (length shown) (length asked))) (sym is)
+      (markup_append (told_from Page properties noted.beside 0 shown) (shown_text Page (length shown) (length asked))
+      (told_own properties noted.beside 0 shown) (count_own (length shown) (length asked)))
+  body_own command submission noted (Rejected failure) is = subst (λ (style : Style). HasOwnMarkup (unshown_text style)) (sym is) markup_nil
 
   pub pages_own : PagesHaveOwnMarkup
   pages_own command submission noted checked is =
       let before : List ℕ = before_text command.style submission noted checked in
-      let body : List ℕ = body_text (request_with command submission noted) submission checked in
+      let body : List ℕ = body_text command submission noted checked in
       markup_append (before ++ body) (foot_text command.style)
       (markup_append before body
       (subst (λ (style : Style). HasOwnMarkup (before_text style submission noted checked)) (sym is) (all_before_own submission noted checked))
-      (body_own (request_with command submission noted) submission checked is))
+      (body_own command submission noted checked is))
       (subst (λ (style : Style). HasOwnMarkup (foot_text style)) (sym is) foot_own)

@@ -27,7 +27,7 @@ told_elements properties beside before (answered ∷ answers) =
 pub one_value : PiecesAreTheValue → JsonIsOneValue
 one_value pieces command submission noted Accepted is =
     let answers : List AnsweredForm = submitted_answers submission in
-    let shown : List AnsweredForm = shown_of command command.most answers in
+    let shown : List AnsweredForm = shown_of command answers in
     let asked : List AnsweredForm = asked_of command answers in
     let before : List ℕ = before_text Json submission noted Accepted in
     let after : List ℕ = shown_text Json (length shown) (length asked) in
@@ -50,7 +50,7 @@ told_results properties beside before (answered ∷ answers) =
 pub one_log : PiecesAreTheLog → SarifIsOneLog
 one_log pieces command submission noted Accepted is =
     let answers : List AnsweredForm = submitted_answers submission in
-    let shown : List AnsweredForm = shown_of command command.most answers in
+    let shown : List AnsweredForm = shown_of command answers in
     let asked : List AnsweredForm = asked_of command answers in
     let before : List ℕ = before_text Sarif submission noted Accepted in
     let after : List ℕ = shown_text Sarif (length shown) (length asked) in

@@ -1,12 +1,16 @@
--- Which instances of a report are shown: of SARIF those alone that are found.
-use Rattle.std.specs.Prelude.{ℕ, Bool, true, false, ◌==◌, ◌&&◌, List, filter, length, Option, Some, None, take}
+-- Which instances of a report are shown, and in which order: those that are found first; of SARIF these alone.
+use Rattle.std.specs.Prelude.{ℕ, Bool, true, false, not, ◌==◌, ◌&&◌, List, ◌++◌, filter, Option, Some, None, take}
+use Rattle.std.specs.List.{list_any}
 use Rattle.std.specs.Str.{bytes_eq}
+use Rattle.gp_report.specs.Entries.{entries_in, properties_in}
 use Rattle.gp_report.specs.declared.record.AnswerOf.TheVariants.{Found, Impossible, Undecided}
-use Rattle.gp_report.specs.Records.{Answer}
+use Rattle.gp_report.specs.Records.{Answer, Entry, PropertyRecord, WindowRecord}
 use Rattle.gp_view.specs.Answered.{AnsweredForm}
 use Rattle.gp_words.specs.Showing.{ShowForm}
 use Rattle.gp_words.specs.declared.showing.Style.{Style}
 use Rattle.gp_words.specs.declared.showing.Style.TheVariants.{Text, Page, Json, Sarif}
+use Rattle.gp_show.specs.declared.choice.Pass.{Pass}
+use Rattle.gp_show.specs.declared.choice.Pass.TheVariants as pass
 
 -- whether a number is asked for
 abbrev pub asks_number : Option ℕ → ℕ → Bool
@@ -41,10 +45,39 @@ asks command answered =
 abbrev pub asked_of : ShowForm → List AnsweredForm → List AnsweredForm
 asked_of command answers = filter (asks command) answers
 
--- so many of them at most
-abbrev pub shown_of : ShowForm → ℕ → List AnsweredForm → List AnsweredForm
-shown_of command most answers = take most (asked_of command answers)
+-- whether a pass over a report tells of instances with this answer
+abbrev pub is_told_in : Pass → Answer → Bool
+is_told_in pass.Found answer = is_found answer
+is_told_in pass.Others answer = not (is_found answer)
 
--- how many of some instances are asked for
-unfoldable pub asked_count : ShowForm → List AnsweredForm → ℕ
-asked_count command answers = length (asked_of command answers)
+-- those of some instances that a pass tells of
+abbrev pub told_in : Pass → List AnsweredForm → List AnsweredForm
+told_in pass answers = filter (λ (answered : AnsweredForm). is_told_in pass answered.entry.answer) answers
+
+-- those that are found, and then the others, each in their order
+abbrev pub found_first : List AnsweredForm → List AnsweredForm
+found_first answers = told_in pass.Found answers ++ told_in pass.Others answers
+
+-- of those that are asked for the first ones, as many as the command says at most
+abbrev pub shown_of : ShowForm → List AnsweredForm → List AnsweredForm
+shown_of command answers = take command.most (found_first (asked_of command answers))
+
+-- whether an instance is asked for, and a pass tells of it
+abbrev pub asks_in : ShowForm → Pass → AnsweredForm → Bool
+asks_in command pass answered = asks command answered && is_told_in pass answered.entry.answer
+
+-- those of some instances that are asked for and that a pass tells of
+abbrev pub asked_in : ShowForm → Pass → List AnsweredForm → List AnsweredForm
+asked_in command pass answers = filter (asks_in command pass) answers
+
+-- whether an instance with this answer may be asked for, and a pass tells of it
+abbrev pub wants : ShowForm → Pass → Answer → Bool
+wants command pass answer = asks_answer command.style answer && is_told_in pass answer
+
+-- whether a property has such an answer
+abbrev pub wants_property : ShowForm → Pass → PropertyRecord → Bool
+wants_property command pass property = list_any (λ (entry : Entry). wants command pass entry.answer) (entries_in property.body)
+
+-- whether a window has
+abbrev pub wants_window : ShowForm → Pass → WindowRecord → Bool
+wants_window command pass told = list_any (wants_property command pass) (properties_in told.body)

@@ -1,6 +1,6 @@
 -- What is shown of a report: the verdict, the table, which files beside it are left out, and where the report is accepted the instances
 -- that are asked for, with what stands beside it.
-use Rattle.std.specs.Prelude.{ℕ, ◌+◌, ◌-◌, List, [], ◌∷◌, ◌++◌, codes, decimal, flat_map, length, map}
+use Rattle.std.specs.Prelude.{ℕ, ◌+◌, ◌-◌, List, [], ◌∷◌, ◌++◌, codes, decimal, flat_map, length, map, take}
 use Rattle.gp_beside.specs.Refusal.{fault_words}
 use Rattle.gp_beside.specs.declared.beside.Noted.{Noted}
 use Rattle.gp_beside.specs.declared.fault.NoteFault.{NoteFault}
@@ -29,7 +29,7 @@ use Rattle.gp_words.specs.Showing.{ShowForm}
 use Rattle.gp_words.specs.declared.showing.Style.{Style}
 use Rattle.gp_words.specs.declared.showing.Style.TheVariants.{Text, Page, Json, Sarif}
 use Rattle.gp_show.specs.Answers.{answers_of}
-use Rattle.gp_show.specs.Choice.{asked_of, shown_of}
+use Rattle.gp_show.specs.Choice.{asked_in, asked_of, shown_of}
 use Rattle.gp_show.specs.Request.{RequestForm}
 
 -- how a page looks, by light and by dark
@@ -99,10 +99,14 @@ told_from style properties beside before [] = []
 told_from style properties beside before (answered ∷ answers) =
     separator style before ++ answered_text style properties beside answered ++ told_from style properties beside (before + 1) answers
 
--- those of further instances that are shown, where so many that are asked for were before them
+-- how many of some instances are asked for in a pass
+unfoldable pub asked_count : RequestForm → List AnsweredForm → ℕ
+asked_count request answers = length (asked_in request.command request.pass answers)
+
+-- those of further instances that are shown in a pass, where so many that are asked for were before them
 unfoldable pub text_after : RequestForm → ℕ → List AnsweredForm → List ℕ
 text_after request before answers =
-    told_from request.command.style request.properties request.beside before (shown_of request.command (request.command.most - before) answers)
+    told_from request.command.style request.properties request.beside before (take (request.command.most - before) (asked_in request.command request.pass answers))
 
 -- how many of so many instances that are asked for are shown
 abbrev pub shown_words : ℕ → ℕ → List (List ℕ)
@@ -129,29 +133,25 @@ foot_text Page = page_foot
 foot_text Json = report_ended
 foot_text Sarif = sarif.log_ended
 
--- the instances of a report that are asked for
-abbrev pub answers_text : RequestForm → List AnsweredForm → List ℕ
-answers_text request answers =
-    told_from request.command.style request.properties request.beside 0 (shown_of request.command request.command.most answers)
-    ++ shown_text request.command.style (length (shown_of request.command request.command.most answers)) (length (asked_of request.command answers))
+-- those of a report's instances that are shown, with what stands beside the report that answers these properties, and how many of how many
+abbrev pub answers_text : ShowForm → List PropertyForm → Beside → List AnsweredForm → List ℕ
+answers_text command properties beside answers =
+    told_from command.style properties beside 0 (shown_of command answers)
+    ++ shown_text command.style (length (shown_of command answers)) (length (asked_of command answers))
 
 -- all instances of what was submitted
 abbrev pub submitted_answers : Submission → List AnsweredForm
 submitted_answers submission = answers_of submission.listing.properties (all_windows submission.listing.recording) submission.report.windows
 
 -- which instances are shown: none of a report that is rejected
-abbrev pub body_text : RequestForm → Submission → Checked → List ℕ
-body_text request submission Accepted = answers_text request (submitted_answers submission)
-body_text request submission (Rejected failure) = unshown_text request.command.style
-
--- a command, where this was submitted and this stands beside the report
-abbrev pub request_with : ShowForm → Submission → Noted → RequestForm
-request_with command submission noted = record { command = command; properties = submission.listing.properties; beside = noted.beside }
+abbrev pub body_text : ShowForm → Submission → Noted → Checked → List ℕ
+body_text command submission noted Accepted = answers_text command submission.listing.properties noted.beside (submitted_answers submission)
+body_text command submission noted (Rejected failure) = unshown_text command.style
 
 -- what is shown of a report that was checked so, beside which this stands
 abbrev pub show_text : ShowForm → Submission → Noted → Checked → List ℕ
 show_text command submission noted checked =
-    before_text command.style submission noted checked ++ body_text (request_with command submission noted) submission checked ++ foot_text command.style
+    before_text command.style submission noted checked ++ body_text command submission noted checked ++ foot_text command.style
 
 -- 0 where it is accepted, and 1 where it is rejected
 abbrev pub show_status : Checked → ℕ

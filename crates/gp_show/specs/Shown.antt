@@ -16,13 +16,13 @@ use Rattle.gp_show.specs.Show.{submitted_answers}
 -- the instances that are shown: none of a report that is rejected
 abbrev pub instances_shown : ShowForm → Submission → Noted → Checked → List Json
 instances_shown command submission noted Accepted =
-    map (answered_value noted.beside) (shown_of command command.most (submitted_answers submission))
+    map (answered_value noted.beside) (shown_of command (submitted_answers submission))
 instances_shown command submission noted (Rejected failure) = []
 
 -- how many of how many they are
 abbrev pub counts_shown : ShowForm → Submission → Checked → List Named
 counts_shown command submission Accepted =
-    counted_members (length (shown_of command command.most (submitted_answers submission))) (length (asked_of command (submitted_answers submission)))
+    counted_members (length (shown_of command (submitted_answers submission))) (length (asked_of command (submitted_answers submission)))
 counts_shown command submission (Rejected failure) = uncounted_members
 
 -- what is shown of a report that was checked so, beside which this stands
@@ -34,13 +34,13 @@ shown_value command submission noted checked =
 -- the results that are shown: none of a report that is rejected
 abbrev pub results_shown : ShowForm → Submission → Noted → Checked → List Json
 results_shown command submission noted Accepted =
-    map (result_value submission.listing.properties noted.beside.places) (shown_of command command.most (submitted_answers submission))
+    map (result_value submission.listing.properties noted.beside.places) (shown_of command (submitted_answers submission))
 results_shown command submission noted (Rejected failure) = []
 
 -- how many of how many they are, where the report is accepted
 abbrev pub findings_counted : ShowForm → Submission → Checked → List Named
 findings_counted command submission Accepted =
-    sarif.counted_members (length (shown_of command command.most (submitted_answers submission))) (length (asked_of command (submitted_answers submission)))
+    sarif.counted_members (length (shown_of command (submitted_answers submission))) (length (asked_of command (submitted_answers submission)))
 findings_counted command submission (Rejected failure) = []
 
 -- the log that is shown of a report that was checked so, beside which this stands

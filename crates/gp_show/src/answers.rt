@@ -2,12 +2,11 @@ ghost use Rattle.std.specs.Prelude.{◌≡◌, ◌≤◌, ◌+◌, Err, IfOk, On
 ghost use Rattle.gp_outside.specs.Faults.{Rose};
 ghost use Rattle.gp_outside.specs.Sinks.{Appends, AppendsFront};
 ghost use Rattle.gp_show.specs.Answers.{answers_among, answers_from, answers_in, answers_of, answers_over};
-ghost use Rattle.gp_show.specs.Choice.{asked_count};
 ghost use Rattle.gp_show.specs.Request.{request_form};
-ghost use Rattle.gp_show.specs.Show.{submitted_answers, text_after};
+ghost use Rattle.gp_show.specs.Show.{asked_count, submitted_answers, text_after};
 ghost use Rattle.gp_window.specs.Windows.{all_windows};
-ghost use Rattle.gp_words.specs.Showing.{show_form};
 
+use crate::choice::wants_window;
 use crate::request::Request;
 use crate::telling::put_if_shown;
 use gp_certificate::Step;
@@ -27,18 +26,20 @@ struct Basis<'a> {
     shared: &'a [Step],
 }
 
-/// Writes the instances of a report that are shown, and gives how many are asked for. The text of one at a time is in memory. The
-/// clauses of each window are made anew.
+/// Writes the instances of a report that are shown in a pass. `asked` are those that are asked for before it, and the result is how many
+/// there are with its own. The text of one at a time is in memory. The clauses of a window are made anew where it has an answer
+/// that may be among them.
 pub fn put_submitted<S: Sink>(
     alloc: Global,
     sink: &mut S,
     request: &Request<'_>,
     submission: &Submission,
+    asked: u64,
 ) -> Result<u64, PutFault>
     ensures later { S.faults sink.old ≤ S.faults sink.new }
-    ensures count { IfOk result (λ count. count ≡ 0 + asked_count (show_form request.now.command) (submitted_answers submission.now)) }
-    ensures ok { OnOk result (Appends (S.written sink.old) (S.written sink.new) (text_after (request_form request.now) 0 (submitted_answers submission.now))) }
-    ensures err { OnErr result (AppendsFront (S.written sink.old) (S.written sink.new) (text_after (request_form request.now) 0 (submitted_answers submission.now))) }
+    ensures count { IfOk result (λ count. count ≡ asked + asked_count (request_form request.now) (submitted_answers submission.now)) }
+    ensures ok { OnOk result (Appends (S.written sink.old) (S.written sink.new) (text_after (request_form request.now) asked (submitted_answers submission.now))) }
+    ensures err { OnErr result (AppendsFront (S.written sink.old) (S.written sink.new) (text_after (request_form request.now) asked (submitted_answers submission.now))) }
     ensures failed { result ≡ Err PutFault.Failed → Rose (S.faults sink.old) (S.faults sink.new) }
 {
     let listing = &submission.listing;
@@ -49,6 +50,7 @@ pub fn put_submitted<S: Sink>(
         &listing.recording,
         listing.properties.as_slice(),
         submission.report.windows(),
+        asked,
     )
 }
 
@@ -59,17 +61,26 @@ fn put_windows<S: Sink>(
     recording: &Recording,
     properties: &[Property],
     records: &[WindowRecord],
+    asked: u64,
 ) -> Result<u64, PutFault>
     ensures later { S.faults sink.old ≤ S.faults sink.new }
-    ensures count { IfOk result (λ count. count ≡ 0 + asked_count (show_form request.now.command) (answers_of properties.now (all_windows recording.now) records.now)) }
-    ensures ok { OnOk result (Appends (S.written sink.old) (S.written sink.new) (text_after (request_form request.now) 0 (answers_of properties.now (all_windows recording.now) records.now))) }
-    ensures err { OnErr result (AppendsFront (S.written sink.old) (S.written sink.new) (text_after (request_form request.now) 0 (answers_of properties.now (all_windows recording.now) records.now))) }
+    ensures count { IfOk result (λ count. count ≡ asked + asked_count (request_form request.now) (answers_of properties.now (all_windows recording.now) records.now)) }
+    ensures ok { OnOk result (Appends (S.written sink.old) (S.written sink.new) (text_after (request_form request.now) asked (answers_of properties.now (all_windows recording.now) records.now))) }
+    ensures err { OnErr result (AppendsFront (S.written sink.old) (S.written sink.new) (text_after (request_form request.now) asked (answers_of properties.now (all_windows recording.now) records.now))) }
     ensures failed { result ≡ Err PutFault.Failed → Rose (S.faults sink.old) (S.faults sink.new) }
 {
     let mut windows = Windows::new(alloc, recording)?;
-    let asked = put_each_window(alloc, sink, request, properties, records, &mut windows);
+    let count = put_each_window(
+        alloc,
+        sink,
+        request,
+        properties,
+        records,
+        &mut windows,
+        asked,
+    );
     drop(windows);
-    asked
+    count
 }
 
 /// The same of the windows that are to come.
@@ -80,21 +91,22 @@ fn put_each_window<S: Sink>(
     properties: &[Property],
     records: &[WindowRecord],
     windows: &mut Windows,
+    asked: u64,
 ) -> Result<u64, PutFault>
     ensures later { S.faults sink.old ≤ S.faults sink.new }
-    ensures count { IfOk result (λ count. count ≡ 0 + asked_count (show_form request.now.command) (answers_of properties.now windows.old records.now)) }
-    ensures ok { OnOk result (Appends (S.written sink.old) (S.written sink.new) (text_after (request_form request.now) 0 (answers_of properties.now windows.old records.now))) }
-    ensures err { OnErr result (AppendsFront (S.written sink.old) (S.written sink.new) (text_after (request_form request.now) 0 (answers_of properties.now windows.old records.now))) }
+    ensures count { IfOk result (λ count. count ≡ asked + asked_count (request_form request.now) (answers_of properties.now windows.old records.now)) }
+    ensures ok { OnOk result (Appends (S.written sink.old) (S.written sink.new) (text_after (request_form request.now) asked (answers_of properties.now windows.old records.now))) }
+    ensures err { OnErr result (AppendsFront (S.written sink.old) (S.written sink.new) (text_after (request_form request.now) asked (answers_of properties.now windows.old records.now))) }
     ensures failed { result ≡ Err PutFault.Failed → Rose (S.faults sink.old) (S.faults sink.new) }
 {
-    let mut asked = 0u64;
+    let mut count = asked;
     for told in records {
         let Some(window) = windows.next(alloc)? else {
-            return Ok(asked);
+            return Ok(count);
         };
-        asked = put_window(alloc, sink, request, properties, window, told, asked)?;
+        count = put_window(alloc, sink, request, properties, window, told, count)?;
     }
-    Ok(asked)
+    Ok(count)
 }
 
 fn put_window<S: Sink>(
@@ -107,11 +119,15 @@ fn put_window<S: Sink>(
     asked: u64,
 ) -> Result<u64, PutFault>
     ensures later { S.faults sink.old ≤ S.faults sink.new }
-    ensures count { IfOk result (λ count. count ≡ asked + asked_count (show_form request.now.command) (answers_in properties.now window told.now)) }
+    ensures count { IfOk result (λ count. count ≡ asked + asked_count (request_form request.now) (answers_in properties.now window told.now)) }
     ensures ok { OnOk result (Appends (S.written sink.old) (S.written sink.new) (text_after (request_form request.now) asked (answers_in properties.now window told.now))) }
     ensures err { OnErr result (AppendsFront (S.written sink.old) (S.written sink.new) (text_after (request_form request.now) asked (answers_in properties.now window told.now))) }
     ensures failed { result ≡ Err PutFault.Failed → Rose (S.faults sink.old) (S.faults sink.new) }
 {
+    if !wants_window(&request.command, request.pass, told) {
+        drop(window);
+        return Ok(asked);
+    }
     match base(alloc, window) {
         Ok(encoded) => {
             let put = put_encoded(alloc, sink, request, properties, &encoded, told, asked);
@@ -133,7 +149,7 @@ fn put_encoded<S: Sink>(
     asked: u64,
 ) -> Result<u64, PutFault>
     ensures later { S.faults sink.old ≤ S.faults sink.new }
-    ensures count { IfOk result (λ count. count ≡ asked + asked_count (show_form request.now.command) (answers_over properties.now told.now (Ok encoded.now))) }
+    ensures count { IfOk result (λ count. count ≡ asked + asked_count (request_form request.now) (answers_over properties.now told.now (Ok encoded.now))) }
     ensures ok { OnOk result (Appends (S.written sink.old) (S.written sink.new) (text_after (request_form request.now) asked (answers_over properties.now told.now (Ok encoded.now)))) }
     ensures err { OnErr result (AppendsFront (S.written sink.old) (S.written sink.new) (text_after (request_form request.now) asked (answers_over properties.now told.now (Ok encoded.now)))) }
     ensures failed { result ≡ Err PutFault.Failed → Rose (S.faults sink.old) (S.faults sink.new) }
@@ -163,7 +179,7 @@ fn put_properties<S: Sink>(
     asked: u64,
 ) -> Result<u64, PutFault>
     ensures later { S.faults sink.old ≤ S.faults sink.new }
-    ensures count { IfOk result (λ count. count ≡ asked + asked_count (show_form request.now.command) (answers_among basis.now.encoded.now basis.now.shared.now properties.now records.now)) }
+    ensures count { IfOk result (λ count. count ≡ asked + asked_count (request_form request.now) (answers_among basis.now.encoded.now basis.now.shared.now properties.now records.now)) }
     ensures ok { OnOk result (Appends (S.written sink.old) (S.written sink.new) (text_after (request_form request.now) asked (answers_among basis.now.encoded.now basis.now.shared.now properties.now records.now))) }
     ensures err { OnErr result (AppendsFront (S.written sink.old) (S.written sink.new) (text_after (request_form request.now) asked (answers_among basis.now.encoded.now basis.now.shared.now properties.now records.now))) }
     ensures failed { result ≡ Err PutFault.Failed → Rose (S.faults sink.old) (S.faults sink.new) }
@@ -197,7 +213,7 @@ fn put_entries<S: Sink>(
     asked: u64,
 ) -> Result<u64, PutFault>
     ensures later { S.faults sink.old ≤ S.faults sink.new }
-    ensures count { IfOk result (λ count. count ≡ asked + asked_count (show_form request.now.command) (answers_from basis.now.encoded.now basis.now.shared.now property.now 0 entries.now)) }
+    ensures count { IfOk result (λ count. count ≡ asked + asked_count (request_form request.now) (answers_from basis.now.encoded.now basis.now.shared.now property.now 0 entries.now)) }
     ensures ok { OnOk result (Appends (S.written sink.old) (S.written sink.new) (text_after (request_form request.now) asked (answers_from basis.now.encoded.now basis.now.shared.now property.now 0 entries.now))) }
     ensures err { OnErr result (AppendsFront (S.written sink.old) (S.written sink.new) (text_after (request_form request.now) asked (answers_from basis.now.encoded.now basis.now.shared.now property.now 0 entries.now))) }
     ensures failed { result ≡ Err PutFault.Failed → Rose (S.faults sink.old) (S.faults sink.new) }

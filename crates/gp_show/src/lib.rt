@@ -1,5 +1,5 @@
 // What people see of a report: the verdict on it, how often each property is found, impossible and undecided, and instances with what
-// shows their answers, as text, as one page, as one JSON value, or as a log in SARIF.
+// shows their answers, the found ones first, as text, as one page, as one JSON value, or as a log in SARIF.
 //
 // `show` reads a recording, its properties and a report, as task check does, and what may stand beside them: where in the program the events
 // are, and which instances were seen to happen. It checks the report. What is rejected is told with the reason, and
@@ -15,6 +15,7 @@ mod head;
 mod laws;
 mod left_out;
 mod page;
+mod passes;
 mod request;
 mod shown;
 mod telling;

@@ -1,13 +1,13 @@
 ghost use Rattle.std.specs.Prelude.{◌≡◌, ◌≤◌, ◌+◌, ◌++◌, ◌∷◌, [], Err, IfOk, OnErr, OnOk, true};
 ghost use Rattle.gp_outside.specs.Faults.{Rose};
 ghost use Rattle.gp_outside.specs.Sinks.{Appends, AppendsFront};
-ghost use Rattle.gp_show.specs.Choice.{asked_count, asks};
+ghost use Rattle.gp_show.specs.Choice.{asks_in};
 ghost use Rattle.gp_show.specs.Request.{request_form};
-ghost use Rattle.gp_show.specs.Show.{answered_text, separator, text_after};
+ghost use Rattle.gp_show.specs.Show.{answered_text, asked_count, separator, text_after};
 ghost use Rattle.gp_view.specs.Answered.{form_of};
 ghost use Rattle.gp_words.specs.Showing.{show_form};
 
-use crate::choice::asks;
+use crate::choice::asks_in;
 use crate::request::Request;
 use gp_json::put_comma;
 use gp_outside::{PutFault, Sink};
@@ -17,8 +17,8 @@ use gp_view::{Answered, put_answered, put_answered_part};
 use gp_words::Style;
 use std::alloc::{AllocError, Global};
 
-/// Writes an instance that is asked for, unless as many as may be shown were before it. `asked` are those that are asked for before it,
-/// and the result is how many there are with it.
+/// Writes an instance that is asked for and that the pass tells of, unless as many as may be shown were before it. `asked` are those before
+/// it, and the result is how many there are with it.
 pub fn put_if_shown<S: Sink>(
     alloc: Global,
     sink: &mut S,
@@ -27,12 +27,12 @@ pub fn put_if_shown<S: Sink>(
     asked: u64,
 ) -> Result<u64, PutFault>
     ensures later { S.faults sink.old ≤ S.faults sink.new }
-    ensures count { IfOk result (λ count. count ≡ asked + asked_count (show_form request.now.command) (form_of answered.now ∷ [])) }
+    ensures count { IfOk result (λ count. count ≡ asked + asked_count (request_form request.now) (form_of answered.now ∷ [])) }
     ensures ok { OnOk result (Appends (S.written sink.old) (S.written sink.new) (text_after (request_form request.now) asked (form_of answered.now ∷ []))) }
     ensures err { OnErr result (AppendsFront (S.written sink.old) (S.written sink.new) (text_after (request_form request.now) asked (form_of answered.now ∷ []))) }
     ensures failed { result ≡ Err PutFault.Failed → Rose (S.faults sink.old) (S.faults sink.new) }
 {
-    if !asks(&request.command, answered) {
+    if !asks_in(&request.command, request.pass, answered) {
         return Ok(asked);
     }
     put_if_left(alloc, sink, request, answered, asked)?;
@@ -47,7 +47,7 @@ fn put_if_left<S: Sink>(
     answered: &Answered<'_>,
     asked: u64,
 ) -> Result<(), PutFault>
-    requires { asks (show_form request.now.command) (form_of answered.now) ≡ true }
+    requires { asks_in (show_form request.now.command) request.now.pass (form_of answered.now) ≡ true }
     ensures later { S.faults sink.old ≤ S.faults sink.new }
     ensures ok { OnOk result (Appends (S.written sink.old) (S.written sink.new) (text_after (request_form request.now) asked (form_of answered.now ∷ []))) }
     ensures err { OnErr result (AppendsFront (S.written sink.old) (S.written sink.new) (text_after (request_form request.now) asked (form_of answered.now ∷ []))) }

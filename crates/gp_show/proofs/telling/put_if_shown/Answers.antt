@@ -9,14 +9,14 @@ use Rattle.gp_show.proofs.Further.{asked_once, unasked_count, unasked_text}
 use Rattle.gp_show.proofs.Pieces.{anyway}
 use Rattle.gp_show.proofs.telling.put_if_shown.Goals as goal
 
-pub returns-then-not-asks-clause-count : goal.returns-then-not-asks-clause-count
-returns-then-not-asks-clause-count g c =
-    let none = unasked_count (request_form c.args.request.now) (form_of c.args.answered.now) (sym c.asks.ensures ∙ c.if-not-asks.true) in omega (arith, none)
+pub returns-then-not-asks_in-clause-count : goal.returns-then-not-asks_in-clause-count
+returns-then-not-asks_in-clause-count g c =
+    let none = unasked_count (request_form c.args.request.now) (form_of c.args.answered.now) (sym c.asks_in.ensures ∙ c.if-not-asks_in.true) in omega (arith, none)
 
-pub returns-then-not-asks-clause-ok : goal.returns-then-not-asks-clause-ok
-returns-then-not-asks-clause-ok g c =
+pub returns-then-not-asks_in-clause-ok : goal.returns-then-not-asks_in-clause-ok
+returns-then-not-asks_in-clause-ok g c =
     subst (Appends (g.S.Sink.written c.args.sink.now) (g.S.Sink.written c.args.sink.now))
-    (sym (unasked_text (request_form c.args.request.now) c.args.asked (form_of c.args.answered.now) (sym c.asks.ensures ∙ c.if-not-asks.true)))
+    (sym (unasked_text (request_form c.args.request.now) c.args.asked (form_of c.args.answered.now) (sym c.asks_in.ensures ∙ c.if-not-asks_in.true)))
     (appends_none (g.S.Sink.written c.args.sink.now))
 
 pub returns-in_err-one_more-clause-err : goal.returns-in_err-one_more-clause-err
@@ -27,4 +27,4 @@ returns-in_err-one_more-clause-err g c =
 
 pub returns-clause-count : goal.returns-clause-count
 returns-clause-count g c =
-    let once = asked_once (request_form c.args.request.now) (form_of c.args.answered.now) (sym c.asks.ensures ∙ c.if-not-asks.false) in omega (arith, c.in_ok-one_more.ensures, once)
+    let once = asked_once (request_form c.args.request.now) (form_of c.args.answered.now) (sym c.asks_in.ensures ∙ c.if-not-asks_in.false) in omega (arith, c.in_ok-one_more.ensures, once)

@@ -14,24 +14,25 @@ use Rattle.gp_view.specs.Answered.{AnsweredForm}
 use Rattle.gp_window.specs.WindowForm.{WindowForm}
 use Rattle.gp_words.specs.Showing.{ShowForm}
 use Rattle.gp_show.specs.Answers.{answers_among, answers_from, answers_in, answers_over}
-use Rattle.gp_show.specs.Choice.{asked_in, asks_answer, asks_in, asks_name, asks_number, is_told_in, wants, wants_property, wants_window}
+use Rattle.gp_show.specs.Choice.{asked_in, asks_answer, asks_in, asks_kind, asks_name, asks_number, is_told_in, wants, wants_property, wants_window}
 use Rattle.gp_show.specs.Request.{RequestForm}
 use Rattle.gp_show.specs.Show.{asked_count, text_after, told_from}
 use Rattle.gp_show.specs.declared.choice.Pass.{Pass}
 use Rattle.gp_show.proofs.Further.{take_none}
 
-all_but : (a b c d e : Bool) → (d && e) ≡ false → ((a && b && c && d) && e) ≡ false
-all_but false b c d e is = refl
-all_but true false c d e is = refl
-all_but true true false d e is = refl
-all_but true true true d e is = is
+all_but : (a b c d e f : Bool) → (d && e && f) ≡ false → ((a && b && c && d && e) && f) ≡ false
+all_but false b c d e f is = refl
+all_but true false c d e f is = refl
+all_but true true false d e f is = refl
+all_but true true true false e f is = refl
+all_but true true true true e f is = is
 
 module _ (command : ShowForm) (pass : Pass) where
   unasked : (answered : AnsweredForm) → wants command pass answered.entry.answer ≡ false → asks_in command pass answered ≡ false
   unasked answered unwanted =
       let answer : Answer = answered.entry.answer in
       all_but (asks_number command.window answered.window.number) (asks_name command.property answered.property.name) (asks_number command.instance answered.number)
-      (asks_answer command.style answer) (is_told_in pass answer) unwanted
+      (asks_kind command.answer answer) (asks_answer command.style answer) (is_told_in pass answer) unwanted
 
   none_from : (window : WindowForm) (shared : List Step) (property : PropertyForm) (number : ℕ) (entries : List Entry)
       → list_any (λ (entry : Entry). wants command pass entry.answer) entries ≡ false → asked_in command pass (answers_from window shared property number entries) ≡ []

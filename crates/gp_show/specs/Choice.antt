@@ -7,6 +7,8 @@ use Rattle.gp_report.specs.declared.record.AnswerOf.TheVariants.{Found, Impossib
 use Rattle.gp_report.specs.Records.{Answer, Entry, PropertyRecord, WindowRecord}
 use Rattle.gp_view.specs.Answered.{AnsweredForm}
 use Rattle.gp_words.specs.Showing.{ShowForm}
+use Rattle.gp_words.specs.declared.showing.AnswerKind.{AnswerKind}
+use Rattle.gp_words.specs.declared.showing.AnswerKind.TheVariants as kind
 use Rattle.gp_words.specs.declared.showing.Style.{Style}
 use Rattle.gp_words.specs.declared.showing.Style.TheVariants.{Text, Page, Json, Sarif}
 use Rattle.gp_show.specs.declared.choice.Pass.{Pass}
@@ -21,6 +23,24 @@ asks_number (Some asked) number = number == asked
 abbrev pub asks_name : Option (List ℕ) → List ℕ → Bool
 asks_name None name = true
 asks_name (Some asked) name = bytes_eq name asked
+
+-- which of the three an answer is
+abbrev pub kind_of : Answer → AnswerKind
+kind_of (Found schedule) = kind.Found
+kind_of (Impossible certificate) = kind.Impossible
+kind_of (Undecided worker from to) = kind.Undecided
+
+-- whether two of the three are the same
+abbrev pub same_kind : AnswerKind → AnswerKind → Bool
+same_kind kind.Found kind.Found = true
+same_kind kind.Impossible kind.Impossible = true
+same_kind kind.Undecided kind.Undecided = true
+same_kind one other = false
+
+-- whether an answer is asked for
+abbrev pub asks_kind : Option AnswerKind → Answer → Bool
+asks_kind None answer = true
+asks_kind (Some asked) answer = same_kind (kind_of answer) asked
 
 -- whether an answer is that an instance is found
 abbrev pub is_found : Answer → Bool
@@ -39,7 +59,8 @@ asks_answer Sarif answer = is_found answer
 abbrev pub asks : ShowForm → AnsweredForm → Bool
 asks command answered =
     asks_number command.window answered.window.number && asks_name command.property answered.property.name
-    && asks_number command.instance answered.number && asks_answer command.style answered.entry.answer
+    && asks_number command.instance answered.number && asks_kind command.answer answered.entry.answer
+    && asks_answer command.style answered.entry.answer
 
 -- those of some instances that are asked for
 abbrev pub asked_of : ShowForm → List AnsweredForm → List AnsweredForm
@@ -72,7 +93,7 @@ asked_in command pass answers = filter (asks_in command pass) answers
 
 -- whether an instance with this answer may be asked for, and a pass tells of it
 abbrev pub wants : ShowForm → Pass → Answer → Bool
-wants command pass answer = asks_answer command.style answer && is_told_in pass answer
+wants command pass answer = asks_kind command.answer answer && asks_answer command.style answer && is_told_in pass answer
 
 -- whether a property has such an answer
 abbrev pub wants_property : ShowForm → Pass → PropertyRecord → Bool

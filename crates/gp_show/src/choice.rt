@@ -1,12 +1,12 @@
 ghost use Rattle.std.specs.Prelude.{◌≡◌, option_map};
-ghost use Rattle.gp_show.specs.Choice.{asks, asks_answer, asks_in, asks_name, asks_number, is_found, is_told_in, wants, wants_property, wants_window};
+ghost use Rattle.gp_show.specs.Choice.{asks, asks_answer, asks_in, asks_kind, asks_name, asks_number, is_found, is_told_in, kind_of, wants, wants_property, wants_window};
 ghost use Rattle.gp_view.specs.Answered.{form_of};
 ghost use Rattle.gp_words.specs.Showing.{show_form};
 
 use gp_report::{Answer, PropertyRecord, WindowRecord};
 use gp_text::Name;
 use gp_view::Answered;
-use gp_words::{ShowCommand, Style};
+use gp_words::{AnswerKind, ShowCommand, Style};
 
 /// A pass over a report. The first one tells of the instances that are found, and the second one of the others.
 #[derive(Clone, Copy)]
@@ -29,6 +29,7 @@ fn asks(command: &ShowCommand<'_>, answered: &Answered<'_>) -> bool
     asks_number(command.window, answered.encoded.window().number())
         && asks_name(command.property, answered.property.name())
         && asks_number(command.instance, answered.number)
+        && asks_kind(command.answer, &answered.entry.answer)
         && asks_answer(command.style, &answered.entry.answer)
 }
 
@@ -47,6 +48,25 @@ fn asks_name(asked: Option<&str>, name: &Name) -> bool
     match asked {
         None => true,
         Some(asked) => name.as_bytes() == asked.as_bytes(),
+    }
+}
+
+fn asks_kind(asked: Option<AnswerKind>, answer: &Answer) -> bool
+    ensures { result ≡ asks_kind asked answer.now }
+{
+    match asked {
+        None => true,
+        Some(asked) => kind_of(answer) == asked,
+    }
+}
+
+fn kind_of(answer: &Answer) -> AnswerKind
+    ensures { result ≡ kind_of answer.now }
+{
+    match answer {
+        Answer::Found(_) => AnswerKind::Found,
+        Answer::Impossible(_) => AnswerKind::Impossible,
+        Answer::Undecided { .. } => AnswerKind::Undecided,
     }
 }
 
@@ -82,7 +102,9 @@ fn wants_property(command: &ShowCommand<'_>, pass: Pass, property: &PropertyReco
 fn wants(command: &ShowCommand<'_>, pass: Pass, answer: &Answer) -> bool
     ensures { result ≡ wants (show_form command.now) pass answer.now }
 {
-    asks_answer(command.style, answer) && is_told_in(pass, answer)
+    asks_kind(command.answer, answer)
+        && asks_answer(command.style, answer)
+        && is_told_in(pass, answer)
 }
 
 fn is_told_in(pass: Pass, answer: &Answer) -> bool

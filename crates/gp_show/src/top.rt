@@ -15,8 +15,8 @@ use std::thread::Threads;
 
 /// Shows the report of the folder as the words ask, and writes that to the sink.
 ///
-/// `words` are the words after the program's name: `--as=text`, `--as=html` or `--as=json`, `--window`, `--property` and `--instance` of the instances that
-/// are shown, `--most` for how many, and the folder that holds `manifest`, `t1.trace` and so on, `props` and `report`.
+/// `words` are the words after the program's name: `--as=text`, `--as=html`, `--as=json` or `--as=sarif`, `--source`, `--window`, `--property`, `--instance` and `--answer` of
+/// the instances that are shown, `--most` for how many, and the folder that holds `manifest`, `t1.trace` and so on, `props` and `report`.
 pub fn show<R: AllocGlobal + Threads + Sync, F: Folder, S: Sink>(
     rt: &R,
     words: &[String],

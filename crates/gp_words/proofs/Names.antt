@@ -9,7 +9,7 @@ use Rattle.std.proofs.lemmas.Option.{none-some}
 use Rattle.gp_words.specs.Argument.{gpredict_option, gpshards_option, gpshow_option, option_named}
 use Rattle.gp_words.specs.Reading.{is_equals, is_option_word}
 use Rattle.gp_words.specs.declared.argument.Argument.{Argument}
-use Rattle.gp_words.specs.declared.argument.Argument.TheVariants.{Task, Workers, Budget, Report, Seed, Threads, Events, As, Source, Window, Property, Instance, Most, Part, Of}
+use Rattle.gp_words.specs.declared.argument.Argument.TheVariants.{Task, Workers, Budget, Report, Seed, Threads, Events, As, Source, Window, Property, Instance, Answer, Most, Part, Of}
 use Rattle.gp_words.specs.declared.argument.Program.{Program}
 use Rattle.gp_words.specs.declared.argument.Program.TheVariants.{Gpredict, Gpshow, Gpshards}
 
@@ -51,8 +51,9 @@ gpshow_names name =
     (first_name name (codes "--window") Window _ refl
     (first_name name (codes "--property") Property _ refl
     (first_name name (codes "--instance") Instance _ refl
+    (first_name name (codes "--answer") Answer _ refl
     (first_name name (codes "--most") Most _ refl
-    (λ option is. absurd (none-some option is)))))))
+    (λ option is. absurd (none-some option is))))))))
 
 gpshards_names : AreNames gpshards_option
 gpshards_names name =

@@ -103,7 +103,7 @@ gpshow : IsAnyOrder Gpshow show_command_of
 gpshow words others given moved read other permuted =
     let same = same_given Gpshow words others given moved read other permuted in
     rw (same argument.As) (rw (same argument.Folder) (rw (same argument.Source) (rw (same argument.Window) (rw (same argument.Property)
-    (rw (same argument.Instance) (rw (same argument.Most) refl))))))
+    (rw (same argument.Instance) (rw (same argument.Answer) (rw (same argument.Most) refl)))))))
 
 -- the folders, in one order
 same_folders : (words others : List (List ℕ)) (given moved : List GivenForm)

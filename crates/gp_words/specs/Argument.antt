@@ -2,7 +2,7 @@
 use Rattle.std.specs.Prelude.{ℕ, Bool, true, false, List, Option, Some, None, if◌then◌else◌, codes}
 use Rattle.std.specs.Str.{bytes_eq}
 use Rattle.gp_words.specs.declared.argument.Argument.{Argument}
-use Rattle.gp_words.specs.declared.argument.Argument.TheVariants.{Task, Workers, Budget, Report, Seed, Threads, Events, As, Source, Window, Property, Instance, Most, Part, Of, Folder}
+use Rattle.gp_words.specs.declared.argument.Argument.TheVariants.{Task, Workers, Budget, Report, Seed, Threads, Events, As, Source, Window, Property, Instance, Answer, Most, Part, Of, Folder}
 use Rattle.gp_words.specs.declared.argument.Program.{Program}
 use Rattle.gp_words.specs.declared.argument.Program.TheVariants.{Gpredict, Gpshow, Gpshards}
 
@@ -25,7 +25,8 @@ gpshow_option name =
     else (if bytes_eq name (codes "--window") then Some Window
     else (if bytes_eq name (codes "--property") then Some Property
     else (if bytes_eq name (codes "--instance") then Some Instance
-    else (if bytes_eq name (codes "--most") then Some Most else None)))))
+    else (if bytes_eq name (codes "--answer") then Some Answer
+    else (if bytes_eq name (codes "--most") then Some Most else None))))))
 
 -- the option of gpshards that has this name
 abbrev pub gpshards_option : List ℕ → Option Argument
@@ -54,6 +55,7 @@ same_argument Source Source = true
 same_argument Window Window = true
 same_argument Property Property = true
 same_argument Instance Instance = true
+same_argument Answer Answer = true
 same_argument Most Most = true
 same_argument Part Part = true
 same_argument Of Of = true

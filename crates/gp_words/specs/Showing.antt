@@ -8,12 +8,15 @@ use Rattle.gp_words.specs.declared.argument.Argument.{Argument}
 use Rattle.gp_words.specs.declared.argument.Argument.TheVariants as argument
 use Rattle.gp_words.specs.declared.argument.Program.{Program}
 use Rattle.gp_words.specs.declared.argument.Program.TheVariants.{Gpshow}
+use Rattle.gp_words.specs.declared.showing.AnswerKind.{AnswerKind}
+use Rattle.gp_words.specs.declared.showing.AnswerKind.TheVariants.{Found, Impossible, Undecided}
 use Rattle.gp_words.specs.declared.showing.ShowCommand.{ShowCommand}
 use Rattle.gp_words.specs.declared.showing.Style.{Style}
 use Rattle.gp_words.specs.declared.showing.Style.TheVariants.{Text, Page, Json, Sarif}
 
 -- how a report is shown, the folder that it stands in, where the sources of the program lie, if that is said, which instances are asked
--- for, and how many of them are shown at most; where no window, no property or no number of an instance is given, any is asked for
+-- for, and how many of them are shown at most; where no window, no property, no number of an instance or no answer is given, any is asked
+-- for
 pub record ShowForm : Type 0 where
   pub style : Style
   pub folder : List ℕ
@@ -21,6 +24,7 @@ pub record ShowForm : Type 0 where
   pub window : Option ℕ
   pub property : Option (List ℕ)
   pub instance : Option ℕ
+  pub answer : Option AnswerKind
   pub most : ℕ
 
 -- what contracts see of a command
@@ -32,6 +36,7 @@ show_form command = record {
   window = command.window;
   property = option_map (λ name. name.now) command.property;
   instance = command.instance;
+  answer = command.answer;
   most = command.most;
 }
 
@@ -51,6 +56,17 @@ style_or_text (Some name) = style_named name
 abbrev pub style_of : List (List ℕ) → Option Style
 style_of words = if_some (value_of Gpshow argument.As words) style_or_text
 
+-- the answer of this name
+abbrev pub answer_named : List ℕ → Option AnswerKind
+answer_named name =
+    if bytes_eq name (codes "found") then Some Found else
+    (if bytes_eq name (codes "impossible") then Some Impossible else
+    (if bytes_eq name (codes "undecided") then Some Undecided else None))
+
+-- the answer, where one is given
+abbrev pub answer_of : List (List ℕ) → Option (Option AnswerKind)
+answer_of words = if_some (value_of Gpshow argument.Answer words) (if_given answer_named)
+
 -- the folder that an option names, where it is given
 abbrev pub folder_asked : Program → Argument → List (List ℕ) → Option (Option (List ℕ))
 folder_asked program option words =
@@ -65,5 +81,6 @@ show_command_of words =
     if_some (number_asked Gpshow argument.Window 1 4096 words) (λ window.
     if_some (value_of Gpshow argument.Property words) (λ property.
     if_some (number_asked Gpshow argument.Instance 0 9999 words) (λ instance.
+    if_some (answer_of words) (λ answer.
     if_some (number_given Gpshow argument.Most (number_in 1 10000) 100 words) (λ most.
-    Some (record { style = style; folder = folder; source = source; window = window; property = property; instance = instance; most = most }))))))))
+    Some (record { style = style; folder = folder; source = source; window = window; property = property; instance = instance; answer = answer; most = most })))))))))

@@ -9,8 +9,8 @@ pub enum Program {
     Gpshards,
 }
 
-/// What the words of a command line may give: the values of seven options of gpredict, of six of gpshow or of three of gpshards, and
-/// folders.
+/// What the words of a command line may give: the values of seven options of gpredict, of seven of gpshow or of three of gpshards,
+/// and folders.
 #[derive(Clone, Copy, PartialEq, Eq)]
 pub enum Argument {
     Task,
@@ -25,6 +25,7 @@ pub enum Argument {
     Window,
     Property,
     Instance,
+    Answer,
     Most,
     Part,
     Of,
@@ -67,6 +68,7 @@ fn gpshow_option(name: &str) -> Option<Argument>
         "--window" => Some(Argument::Window),
         "--property" => Some(Argument::Property),
         "--instance" => Some(Argument::Instance),
+        "--answer" => Some(Argument::Answer),
         "--most" => Some(Argument::Most),
         _ => None,
     }

@@ -5,7 +5,7 @@
 // The words give a program's options, each at most once and in any order, and plain words: of gpredict and gpshow one, the folder; of
 // gpshards the folder of the recording and then those of its parts, no two of them the same. The folder must be given, and to gpredict and
 // gpshards the task. `--name=value` and `--name value` both give an option its value, and `--` ends the options: every word after it is
-// plain. A name that is no option of the program, an abbreviation included, a value that is missing, is of no task or style or is no
+// plain. A name that is no option of the program, an abbreviation included, a value that is missing, is of no task, style or answer or is no
 // canonical decimal in its range, and whatever is given twice refuse the whole command line, also at an option that the task does not use.
 // A command borrows its text from the words, so that only a list of folders wants memory.
 #![tactic(auto)]
@@ -25,5 +25,5 @@ pub use command::{Command, command_of};
 pub use forms::words_are_read;
 pub use order::words_in_any_order;
 pub use sharding::{CutCommand, MergeCommand, ShardCommand, shard_command_of};
-pub use showing::{ShowCommand, Style, show_command_of};
+pub use showing::{AnswerKind, ShowCommand, Style, show_command_of};
 pub use task::Task;

@@ -1,5 +1,5 @@
 ghost use Rattle.std.specs.Prelude.{◌≡◌, map, option_map, string_bytes};
-ghost use Rattle.gp_words.specs.Showing.{show_command_of, show_form, style_named, style_of};
+ghost use Rattle.gp_words.specs.Showing.{answer_named, answer_of, show_command_of, show_form, style_named, style_of};
 
 use crate::argument::{Argument, Program};
 use crate::command::{folder_asked, folder_of};
@@ -26,6 +26,14 @@ pub enum Style {
     Sarif,
 }
 
+/// What a report may answer of an instance.
+#[derive(Clone, Copy, Debug, PartialEq, Eq)]
+pub enum AnswerKind {
+    Found,
+    Impossible,
+    Undecided,
+}
+
 /// What the words of a command line of gpshow ask for.
 #[derive(Clone, Copy, PartialEq, Eq)]
 pub struct ShowCommand<'a> {
@@ -40,6 +48,8 @@ pub struct ShowCommand<'a> {
     pub property: Option<&'a str>,
     /// The number of the instances that are shown, or all.
     pub instance: Option<u32>,
+    /// The answer of the instances that are shown, or any.
+    pub answer: Option<AnswerKind>,
     /// How many instances are shown at most.
     pub most: u32,
 }
@@ -55,6 +65,7 @@ pub fn show_command_of(words: &[String]) -> Option<ShowCommand<'_>>
         window: number_asked(words, Program::Gpshow, Argument::Window, 1, 4096)?,
         property: value_of(words, Program::Gpshow, Argument::Property)?,
         instance: number_asked(words, Program::Gpshow, Argument::Instance, 0, 9999)?,
+        answer: answer_of(words)?,
         most: number(words, Program::Gpshow, MOST)?,
     })
 }
@@ -76,6 +87,26 @@ fn style_named(name: &str) -> Option<Style>
         "html" => Some(Style::Page),
         "json" => Some(Style::Json),
         "sarif" => Some(Style::Sarif),
+        _ => None,
+    }
+}
+
+fn answer_of(words: &[String]) -> Option<Option<AnswerKind>>
+    ensures { result ≡ answer_of (map string_bytes words.now) }
+{
+    match value_of(words, Program::Gpshow, Argument::Answer)? {
+        None => Some(None),
+        Some(name) => answer_named(name).map(Some),
+    }
+}
+
+fn answer_named(name: &str) -> Option<AnswerKind>
+    ensures { result ≡ answer_named name.now }
+{
+    match name {
+        "found" => Some(AnswerKind::Found),
+        "impossible" => Some(AnswerKind::Impossible),
+        "undecided" => Some(AnswerKind::Undecided),
         _ => None,
     }
 }

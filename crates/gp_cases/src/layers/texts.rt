@@ -189,9 +189,12 @@ fn show_command_text(alloc: Global, command: &ShowCommand) -> Result<String, All
         window,
         property,
         instance,
+        answer,
         most,
     } = *command;
-    format!(in alloc; "{style:?} {folder} {source:?} {window:?} {property:?} {instance:?} {most}")
+    format!(in alloc;
+        "{style:?} {folder} {source:?} {window:?} {property:?} {instance:?} {answer:?} {most}"
+    )
 }
 
 fn cut_text(alloc: Global, command: &CutCommand) -> Result<String, AllocError> {

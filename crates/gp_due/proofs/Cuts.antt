@@ -42,6 +42,7 @@ PartSays (wrong.Report fault) = ReportSays fault
 PartSays wrong.OtherFormat = Unit {0}
 PartSays wrong.OtherBudget = Unit {0}
 PartSays wrong.WindowCount = Unit {0}
+PartSays (wrong.Rejected failure) = Unit {0}
 
 -- what is wrong, if something is, says something
 pub record MaySay (fault : Option PartFault) : Type 0 where
@@ -91,6 +92,7 @@ part_refused folder (wrong.Report fault) says = report_refused folder fault says
 part_refused folder wrong.OtherFormat says = refused
 part_refused folder wrong.OtherBudget says = refused
 part_refused folder wrong.WindowCount says = refused
+part_refused folder (wrong.Rejected failure) says = refused
 
 pub unless_says : {A : Type 0} (folder : List ℕ) (fault : Option PartFault) (value : A) → MaySay fault → OnlySays IsAnswer (unless_wrong folder fault value)
 unless_says folder None value says = of.value

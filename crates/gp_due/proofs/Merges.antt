@@ -1,4 +1,4 @@
--- The reports of all parts are told, or are refused by a text.
+-- All parts are read, or are refused by a text.
 use Rattle.std.proofs.Common.{ℕ, zero, suc, ◌+◌, ◌++◌, ◌==◌, List, [], ◌∷◌, find, length}
 use Rattle.std.specs.List.{list_any}
 use Rattle.gp_merge.specs.declared.merging.PartReport.{PartReport}
@@ -8,15 +8,13 @@ use Rattle.gp_shard.specs.declared.shard.Shard.{Shard}
 use Rattle.gp_window.specs.declared.file_name.FileName.{FileName}
 use Rattle.gp_window.specs.declared.file_name.FileName.TheVariants as file
 use Rattle.gp_window.specs.RecordingForm.{RecordingForm}
-use Rattle.gp_words.specs.Sharding.{MergeForm}
 use Rattle.gp_shards.specs.Cutting.{shard_of}
-use Rattle.gp_shards.specs.Merging.{are_other_parts, are_same_windows, content_in, folder_at, folder_behind, folder_fault, folders_from, in_order, is_of_part, is_other_budget, is_other_format, part_at, part_behind, parts_at, parts_from, parts_in, parts_of, report_fault, report_in, shard_in}
+use Rattle.gp_shards.specs.Merging.{are_other_parts, are_same_windows, content_in, folder_at, folder_behind, folder_fault, folders_from, in_order, is_of_part, is_other_budget, is_other_format, part_at, part_behind, parts_from, parts_in, parts_of, report_fault, report_in, shard_in}
 use Rattle.gp_shards.specs.PartFolders.{PartFolderForm}
 use Rattle.gp_shards.specs.Refusing.{content_refusal, missing, report_refusal, shard_refusal}
 use Rattle.gp_due.specs.Saying.{OnlySays}
 use Rattle.gp_due.proofs.Contents.{contents_say}
 use Rattle.gp_due.proofs.Cuts.{MaySay, content_refused, either_wrong, is_wrong, report_refused, right, shard_refused, unless_says}
-use Rattle.gp_due.proofs.Folder.{recording_answers}
 use Rattle.gp_due.proofs.Parts.{parts_say}
 use Rattle.gp_due.proofs.Refusals.{IsAnswer, refused}
 use Rattle.gp_due.proofs.Reports.{reports_say}
@@ -68,10 +66,8 @@ parts_answer_from : (files : List File) (before : List PartReport) (folders : Li
 parts_answer_from files before [] = of.value
 parts_answer_from files before (folder ∷ folders) = of.in_turn (part_answers files before folder) (λ part. parts_answer_from files (before ++ part ∷ []) folders)
 
-parts_in_answer : (files : List File) (r : RecordingForm) (outs : List (List ℕ)) → OnlySays IsAnswer (parts_in files r outs)
+pub parts_in_answer : (files : List File) (r : RecordingForm) (outs : List (List ℕ)) → OnlySays IsAnswer (parts_in files r outs)
 parts_in_answer files r outs =
     of.in_turn (folders_answer files r [] outs) (λ folders.
-    of.in_turn (order_answers folders 1 (parts_of folders)) (λ ordered. parts_answer_from files [] ordered))
-
-pub parts_answer : (files : List File) (merge : MergeForm) → OnlySays IsAnswer (parts_at files merge)
-parts_answer files merge = of.in_turn (recording_answers files merge.folder) (λ recording. parts_in_answer files recording merge.outs)
+    of.in_turn (order_answers folders 1 (parts_of folders)) (λ ordered.
+    of.in_turn (parts_answer_from files [] ordered) (λ parts. of.value)))

@@ -63,13 +63,13 @@ pub fn texts_are_done()
     ensures { TextsAreDone }
 {}
 
-/// A law: whatever the words and whichever files are told, the answer without a text is not due to the program that cuts recordings
-/// and merges reports.
+/// A law: whatever the words and whichever files are told, where something is due to the program that cuts recordings and merges
+/// reports, the answer without a text may not be told.
 pub fn shards_never_due()
     ensures { ShardsNeverDue }
 {}
 
-/// A law: what is due to that program has a status of 0 to 3, or 7.
+/// A law: what may be told where something is due to that program has a status of 0 to 3, or 7.
 pub fn shards_are_done()
     ensures { ShardsAreDone }
 {}

@@ -3,6 +3,8 @@ use Rattle.std.proofs.Common.{◌≡◌, refl, ap, ◌∙◌, ℕ, zero, suc, �
 use Rattle.std.specs.Prelude.{codes, decimal, string_bytes}
 use Rattle.std.specs.Fmt.{digit_glyph, digits, digits_onto}
 use Rattle.std.proofs.lemmas.List.{reverse-append}
+use Rattle.gp_checker.specs.declared.failure.Failure.{Failure}
+use Rattle.gp_checker.specs.Reasons.{number_of}
 use Rattle.gp_property.specs.declared.fault.PropertyFault.TheVariants as property
 use Rattle.gp_replay.specs.declared.schedule.ScheduleFault.TheVariants as schedule
 use Rattle.gp_report.specs.declared.fault.ReportFault.TheVariants as report
@@ -24,6 +26,7 @@ use Rattle.gp_predict.specs.declared.reply.Reply.{Reply}
 use Rattle.gp_predict.specs.Refusal.{one_line, refused_as, refused_at, rule_word, text_refusal, trace_refusal}
 use Rattle.gp_predict.specs.Refused.{is_absent, reply_of}
 use Rattle.gp_predict.specs.Telling.{text_of}
+use Rattle.gp_predict.specs.Verdict.{then_number}
 use Rattle.gp_shards.specs.declared.refusal.PartFault.{PartFault}
 use Rattle.gp_shards.specs.declared.refusal.PartFault.TheVariants as wrong
 use Rattle.gp_shards.specs.declared.refusal.ShardRefusal.{ShardRefusal}
@@ -178,6 +181,21 @@ module _ (folder : List ℕ) where
   rule_in_ends name line rule.End = in_at_ends name line (codes "end")
   rule_in_ends name line rule.After = in_at_ends name line (codes "after")
 
+  number_in_ends : (name : FileName) (front : List ℕ) (n : ℕ) → ends_so (text_of (refused_in folder name (front ++ decimal n))) ≡ false
+  number_in_ends name front n =
+      let last = decimal_last n in
+      let turned : reverse (decimal n) ≡ digit_glyph false (n % 10) ∷ reverse last.0 = ap reverse last.1 ∙ reverse-append last.0 (digit_glyph false (n % 10) ∷ []) in
+      let before = reverse (codes "refused " ++ path_of folder name ++ codes " ") in
+      in_ends name (front ++ decimal n)
+      ∙ ap (λ (bytes : List ℕ). begins (codes "tnes") (bytes ++ before)) (reverse-append front (decimal n))
+      ∙ ap (λ (bytes : List ℕ). begins (codes "tnes") ((bytes ++ reverse front) ++ before)) turned
+      ∙ digit_no_t (n % 10) ((reverse last.0 ++ reverse front) ++ before) (omega arith)
+
+  -- the words of a failure before its place
+  abbrev before_place : Failure → List ℕ
+  before_place failure =
+      then_number (then_number (then_number (then_number (codes "rejected") failure.window) failure.property) failure.instance) (number_of failure.reason) ++ codes " "
+
   part_ends : (fault : PartFault) → is_absent_in fault ≡ false → EndsElse (part_refusal folder fault)
   part_ends wrong.HoldsRecording other three = in_ends file.Manifest (codes "exists")
   part_ends wrong.ManyWindows other three = in_ends file.Manifest (codes "epochs")
@@ -197,6 +215,7 @@ module _ (folder : List ℕ) where
   part_ends wrong.OtherFormat other three = in_at_ends file.Report 1 (codes "format")
   part_ends wrong.OtherBudget other three = in_at_ends file.Report 2 (codes "budget")
   part_ends wrong.WindowCount other three = in_ends file.Report (codes "windows")
+  part_ends (wrong.Rejected failure) other three = number_in_ends file.Report (before_place failure) failure.place
 
 shard_ends : (why : ShardRefusal) → is_absence why ≡ false → EndsElse (shard_reply why)
 shard_ends (refusal.Usual why) other three = usual_ends why other three

@@ -37,12 +37,7 @@ use Rattle.gp_shards.specs.Headline.{IsCutOut}
 use Rattle.gp_shards.specs.Refusing as refusing
 use Rattle.gp_shards.specs.Refusing.{part_refusal, shard_refusal, unless_wrong}
 use Rattle.gp_shards.specs.Sparing.{unless_recording}
-use Rattle.gp_shards.proofs.Merged.{was_read}
-
--- what came of two steps came of the first and then of the second
-then_came : {A B E : Type 0} (first : Result A E) (next : A → Result B E) (value : B) → and_then first next ≡ Ok value → (given : A) × (first ≡ Ok given) × (next given ≡ Ok value)
-then_came (Ok given) next value is = (given, refl, is)
-then_came (Err refusal) next value is = absurd (cc)
+use Rattle.gp_shards.proofs.Merged.{then_came, was_read}
 
 -- of a part of a recording: its files are within their limits
 pub record IsCutting (r : RecordingForm) (properties : List ℕ) (shard : Shard) (cutting : Cutting) : Type 0 where

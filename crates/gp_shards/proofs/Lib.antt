@@ -1,5 +1,6 @@
 pub mod AbsentText
 pub mod Asked
+pub mod Came
 pub mod CutOut
 pub mod Fitting
 pub mod Leaving

@@ -7,6 +7,7 @@ use Rattle.gp_outside.specs.Folders.{File}
 use Rattle.gp_predict.specs.Analysing.{of_report}
 use Rattle.gp_predict.specs.declared.outcome.Outcome.{Outcome}
 use Rattle.gp_predict.specs.declared.reply.Reply.{Reply}
+use Rattle.gp_predict.specs.Due.{words_refused}
 use Rattle.gp_predict.specs.Finished.{IsPut}
 use Rattle.gp_predict.specs.Run.{IsNothing, WhereDue}
 use Rattle.gp_predict.specs.RunLaws.{where_due, where_none}
@@ -16,7 +17,8 @@ use Rattle.gp_report.specs.ReportForm.{ReportForm}
 use Rattle.gp_window.specs.Gives.{Gives}
 use Rattle.gp_shards.specs.declared.stop.ShardStop.{ShardStop}
 use Rattle.gp_shards.specs.declared.stop.ShardStop.TheVariants.{Refused, FolderFailed, Memory}
-use Rattle.gp_shards.specs.Due.{Means, told_or_refused, where_told}
+use Rattle.gp_shards.specs.Came.{CameTo}
+use Rattle.gp_shards.specs.Due.{Expected, Means, Text, expected_or_refused, where_told}
 use Rattle.gp_shards.specs.Finishing.{IsStopped}
 use Rattle.gp_shards.specs.Refusing.{shard_reply}
 use Rattle.gp_shards.specs.Run.{IsShardRefused, IsShardRun}
@@ -49,7 +51,7 @@ module _ (status before after : ℕ) where
   completes sink fault (inr (inl five)) = absurd (sink (fault five))
   completes sink fault (inr (inr six)) = inr six
 
-module _ (due : Option Told) (files : Option (List File)) (outcome : Outcome) (old new : Option (List ℕ)) (before after folder_before folder_after : ℕ) where
+module _ (due : Option Expected) (files : Option (List File)) (outcome : Outcome) (old new : Option (List ℕ)) (before after folder_before folder_after : ℕ) where
   -- what was put is what is due
   pub ran_put : (told : Told) → outcome.status ≤ 6 → WhereDue due (λ expected. Means expected told) → (outcome.status ≡ 3 → IsShardRefused files (Rose folder_before folder_after) old new)
       → IsPut told outcome old new before after → IsShardRun due files outcome old new before after folder_before folder_after
@@ -87,18 +89,59 @@ module _ (due : Option Told) (files : Option (List File)) (outcome : Outcome) (o
     range = omega (arith, six);
   }
 
--- where the files are told, what is due is what a stage came to
-pub due_told : {A : Type 0} (due : List File → Result A Reply) (tell : A → Told) (files : Option (List File)) (came : Result A Reply)
-    → ((told : List File) → files ≡ Some told → due told ≡ came)
-    → WhereDue (where_told (λ told. told_or_refused (and_then (due told) (λ value. Ok (tell value)))) files) (λ expected. Means expected (told_or_refused (and_then came (λ value. Ok (tell value)))))
-due_told due tell None came is = where_none _
-due_told due tell (Some told) came is =
-    where_due (told_or_refused (and_then (due told) (λ value. Ok (tell value)))) (λ expected. Means expected (told_or_refused (and_then came (λ value. Ok (tell value)))))
-    (ap (λ result. told_or_refused (and_then result (λ value. Ok (tell value)))) (sym (is told refl)))
+-- words that are none of a command were refused
+pub ran_words : (reply : Reply) (outcome : Outcome) (old new : Option (List ℕ)) (before after : ℕ) → reply ≡ words_refused → IsPut (of_reply reply) outcome old new before after
+    → (outcome.status ≡ reply.status) ⊎ (outcome.status ≡ 5) ⊎ (outcome.status ≡ 6) → IsShardRun (Some (Text words_refused)) None outcome old new before after 0 0
+ran_words reply outcome old new before after is put status =
+    ran_put (Some (Text words_refused)) None outcome old new before after 0 0
+    (of_reply words_refused) (few status) (where_due (Text words_refused) (λ expected. Means expected (of_reply words_refused)) refl)
+    (λ three. absurd (other status three))
+    (subst (λ (own : Reply). IsPut (of_reply own) outcome old new before after) is put)
+  where
+    two : reply.status ≡ 2
+    two = ap (λ (own : Reply). own.status) is
 
-module _ {A : Type 0} (due : List File → Result A Reply) (tell : A → Told) (files left : Option (List File)) (outcome : Outcome) (old new : Option (List ℕ)) (before after folder_before folder_after : ℕ) where
+    few : (outcome.status ≡ reply.status) ⊎ (outcome.status ≡ 5) ⊎ (outcome.status ≡ 6) → outcome.status ≤ 6
+    few (inl same) = omega (arith, same, two)
+    few (inr (inl five)) = omega (arith, five)
+    few (inr (inr six)) = omega (arith, six)
+
+    other : (outcome.status ≡ reply.status) ⊎ (outcome.status ≡ 5) ⊎ (outcome.status ≡ 6) → outcome.status ≡ 3 → ⊥
+    other (inl same) three = omega (arith, same, two, three)
+    other (inr (inl five)) three = omega (arith, five, three)
+    other (inr (inr six)) three = omega (arith, six, three)
+
+-- what a stage gave that is told by a text may be told
+came_given : {A : Type 0} (reply : A → Reply) (result : Result A ShardStop) (due : Result A Reply) → Gives refusal_of result due
+    → CameTo (λ value. of_reply (reply value)) result (expected_or_refused (and_then due (λ value. Ok (Text (reply value)))))
+came_given {A} reply (Ok value) due gives =
+    subst (λ (own : Result A Reply). Means (expected_or_refused (and_then own (λ value. Ok (Text (reply value))))) (of_reply (reply value))) (sym gives) refl
+came_given {A} reply (Err (Refused why)) due gives =
+    subst (λ (own : Result A Reply). Means (expected_or_refused (and_then own (λ value. Ok (Text (reply value))))) (of_reply (shard_reply why))) (sym gives) refl
+came_given reply (Err FolderFailed) due gives = tt
+came_given reply (Err Memory) due gives = tt
+
+pub stage_came : {A : Type 0} (reply : A → Reply) (result : Result A ShardStop) (due : List File → Result A Reply) (files left : Option (List File)) (before after : ℕ)
+    → IsShardStage result (λ told. Gives refusal_of result (due told)) files left before after
+    → IsShardStage result (λ told. CameTo (λ value. of_reply (reply value)) result (expected_or_refused (and_then (due told) (λ value. Ok (Text (reply value)))))) files left before after
+stage_came reply result due files left before after stage = record {
+  later = stage.later;
+  kept = stage.kept;
+  told = λ told is. came_given reply result (due told) (stage.told told is);
+  fault = stage.fault;
+  absent = stage.absent;
+  limit = stage.limit;
+}
+
+-- where the files are told, something due may be told so
+due_told : (due : List File → Expected) (files : Option (List File)) (own : Told) → ((told : List File) → files ≡ Some told → Means (due told) own)
+    → WhereDue (where_told due files) (λ expected. Means expected own)
+due_told due None own means = where_none _
+due_told due (Some told) own means = where_due (due told) (λ expected. Means expected own) (means told refl)
+
+module _ {A : Type 0} (tell : A → Told) (due : List File → Expected) (files left : Option (List File)) (outcome : Outcome) (old new : Option (List ℕ)) (before after folder_before folder_after : ℕ) where
   abbrev Ran : Type 0
-  Ran = IsShardRun (where_told (λ told. told_or_refused (and_then (due told) (λ value. Ok (tell value)))) files) files outcome old new before after folder_before folder_after
+  Ran = IsShardRun (where_told due files) files outcome old new before after folder_before folder_after
 
   stop_range : (outcome.status ≡ 3) ⊎ (outcome.status ≡ 5) ⊎ (outcome.status ≡ 6) → outcome.status ≤ 6
   stop_range (inl three) = omega (arith, three)
@@ -106,33 +149,52 @@ module _ {A : Type 0} (due : List File → Result A Reply) (tell : A → Told) (
   stop_range (inr (inr six)) = omega (arith, six)
 
   -- a stage that was stopped was told
-  pub ran_stopped : (stop : ShardStop) → IsShardStage {A = A} (Err stop) (λ told. Gives refusal_of (Err stop) (due told)) files left folder_before folder_after
+  pub ran_stopped : (stop : ShardStop) → IsShardStage {A = A} (Err stop) (λ told. CameTo tell (Err stop) (due told)) files left folder_before folder_after
       → IsStopped stop outcome old new before after → Ran
   ran_stopped (Refused why) stage stopped =
-      ran_put (where_told (λ told. told_or_refused (and_then (due told) (λ value. Ok (tell value)))) files) files outcome old new before after folder_before folder_after
-      (of_reply (shard_reply why)) (stop_range stopped.status) (due_told due tell files (Err (shard_reply why)) stage.told)
+      ran_put (where_told due files) files outcome old new before after folder_before folder_after
+      (of_reply (shard_reply why)) (stop_range stopped.status) (due_told due files (of_reply (shard_reply why)) stage.told)
       (λ three.
       let given = stopped.put.given (inl (omega (arith, three))) in
       let own : (shard_reply why).status ≡ 3 = sym (ap (λ (o : Outcome). o.status) given.0) ∙ three in
       record { refusal = why; written = given.1; absent = λ path same. stage.absent (told_absent why path own same) })
       stopped.put
   ran_stopped FolderFailed stage stopped =
-      ran_failed (where_told (λ told. told_or_refused (and_then (due told) (λ value. Ok (tell value)))) files) files outcome old new before after folder_before folder_after
+      ran_failed (where_told due files) files outcome old new before after folder_before folder_after
       (stage.fault refl) (ap (λ (o : Outcome). o.status) stopped.0) (nothing 4 outcome old new stopped.0 stopped.1)
   ran_stopped Memory stage stopped =
-      ran_wanting (where_told (λ told. told_or_refused (and_then (due told) (λ value. Ok (tell value)))) files) files outcome old new before after folder_before folder_after
+      ran_wanting (where_told due files) files outcome old new before after folder_before folder_after
       (ap (λ (o : Outcome). o.status) stopped.0) (nothing 6 outcome old new stopped.0 stopped.1)
 
   -- what a stage came to was told
-  pub ran_told : (value : A) → IsShardStage {A = A} (Ok value) (λ told. Gives refusal_of (Ok value) (due told)) files left folder_before folder_after
+  pub ran_told : (value : A) → IsShardStage {A = A} (Ok value) (λ told. CameTo tell (Ok value) (due told)) files left folder_before folder_after
       → (tell value).status ≤ 1 → IsPut (tell value) outcome old new before after → outcome.status ≢ 7 → Ran
   ran_told value stage few put unlimited =
-      ran_put (where_told (λ told. told_or_refused (and_then (due told) (λ value. Ok (tell value)))) files) files outcome old new before after folder_before folder_after
-      (tell value) (in_range outcome.status before after put.range unlimited) (due_told due tell files (Ok value) stage.told)
+      ran_put (where_told due files) files outcome old new before after folder_before folder_after
+      (tell value) (in_range outcome.status before after put.range unlimited) (due_told due files (tell value) stage.told)
       (λ three.
       let own : outcome.status ≡ (tell value).status = ap (λ (o : Outcome). o.status) (put.given (inl (omega (arith, three)))).0 in
       absurd (omega (arith, three, own, few)))
       put
+
+  -- what a stage came to was told behind what was written, or the folder failed there
+  pub ran_part : (value : A) (between : ℕ) → IsShardStage {A = A} (Ok value) (λ told. CameTo tell (Ok value) (due told)) files left folder_before between
+      → (outcome.status ≢ 4 → IsPut (tell value) outcome old new before after) → (outcome.status ≡ 4 → Rose between folder_after × IsNothing outcome old new)
+      → (outcome.status ≡ 0) ⊎ (outcome.status ≡ 4) ⊎ (outcome.status ≡ 5) ⊎ (outcome.status ≡ 6) → Ran
+  ran_part value between stage put failed status = by_status status
+    where
+      was_told : outcome.status ≤ 6 → outcome.status ≢ 3 → outcome.status ≢ 4 → Ran
+      was_told range other whole =
+          ran_put (where_told due files) files outcome old new before after folder_before folder_after
+          (tell value) range (due_told due files (tell value) stage.told) (λ three. absurd (other three)) (put whole)
+
+      by_status : (outcome.status ≡ 0) ⊎ (outcome.status ≡ 4) ⊎ (outcome.status ≡ 5) ⊎ (outcome.status ≡ 6) → Ran
+      by_status (inl zero) = was_told (omega (arith, zero)) (λ three. omega (arith, zero, three)) (λ four. omega (arith, zero, four))
+      by_status (inr (inl four)) =
+          let rose = (failed four).0 in
+          ran_failed (where_told due files) files outcome old new before after folder_before folder_after (omega (arith, stage.later, rose)) four (failed four).1
+      by_status (inr (inr (inl five))) = was_told (omega (arith, five)) (λ three. omega (arith, five, three)) (λ four. omega (arith, five, four))
+      by_status (inr (inr (inr six))) = was_told (omega (arith, six)) (λ three. omega (arith, six, three)) (λ four. omega (arith, six, four))
 
   -- a stop that was told has a status of its own
   pub stopped_status : (stop : ShardStop) → IsStopped stop outcome old new before after → (3 ≤ outcome.status) × (outcome.status ≤ 6)

@@ -7,6 +7,7 @@ use Rattle.gp_window.specs.RecordingForm.{RecordingForm}
 use Rattle.gp_shards.specs.Cutting.{shard_of}
 use Rattle.gp_shards.specs.Merging.{parts_of, windows_in}
 use Rattle.gp_shards.specs.PartFolders.{PartFolderForm}
+use Rattle.gp_shards.specs.declared.merging.AllParts.{AllParts}
 
 -- a folder has one of so many parts of a recording, with its windows
 pub record IsOfParts (r : RecordingForm) (parts : ℕ) (folder : PartFolderForm) : Type 0 where
@@ -36,8 +37,9 @@ pub record AreReportsOf (folders : List PartFolderForm) (told : List PartReport)
   pub parts : map (λ (one : PartReport). one.part) told ≡ map (λ (folder : PartFolderForm). windows_in folder.shard) folders
   pub agree : Agree told
 
--- these are all parts of a recording, which follow one another from its first window to its last, with reports that agree
-pub record AreAllParts (r : RecordingForm) (parts : List PartReport) : Type 0 where
-  pub row : AreInRow 0 parts r.manifest.epochs
-  pub some : 1 ≤ length parts
-  pub agree : Agree parts
+-- these are all parts of a recording, which follow one another from its first window to its last, with the reports in their folders, which
+-- agree
+pub record AreAllParts (r : RecordingForm) (all : AllParts) : Type 0 where
+  pub row : AreInRow 0 all.parts r.manifest.epochs
+  pub some : 1 ≤ length all.parts
+  pub reports : AreReportsOf all.folders all.parts

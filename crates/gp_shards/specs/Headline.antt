@@ -1,14 +1,14 @@
--- What a cut and a merge are for: the folder of a part holds a recording whose windows are windows of the whole, and what is accepted of all
--- parts is accepted of the whole.
-use Rattle.std.specs.Prelude.{ℕ, ◌≡◌, ◌+◌, ◌≤◌, List, Option, None, Some, Ok, All}
+-- What a cut and a merge are for: the folder of a part holds a recording whose windows are windows of the whole, and a report that is merged
+-- is accepted for the whole.
+use Rattle.std.specs.Prelude.{ℕ, ◌≡◌, ◌+◌, ◌≤◌, List, Option, None, Some, Ok}
 use Rattle.gp_checker.specs.Accepted.{IsAccepted}
+use Rattle.gp_checker.specs.Sound.{AnswersAreTrue}
 use Rattle.gp_cut.specs.Cut.{cut_of}
 use Rattle.gp_files.specs.Writing.{WhereTold}
-use Rattle.gp_merge.specs.declared.merging.PartReport.{PartReport}
-use Rattle.gp_merge.specs.Laws.{IsAcceptedPart}
 use Rattle.gp_merge.specs.Merge.{AreInRow}
 use Rattle.gp_outside.specs.Folders.{File}
 use Rattle.gp_property.specs.PropertyForm.{PropertyForm}
+use Rattle.gp_property.specs.Reading.{properties_of}
 use Rattle.gp_report.specs.ReportForm.{ReportForm}
 use Rattle.gp_shard.specs.declared.shard.Shard.{Shard}
 use Rattle.gp_window.specs.Contents.{content_of}
@@ -18,7 +18,8 @@ use Rattle.gp_window.specs.RecordingForm.{RecordingForm}
 use Rattle.gp_window.specs.WindowForm.{window_of}
 use Rattle.gp_words.specs.Sharding.{Cut, CutForm, Merge, MergeForm, ShardForm}
 use Rattle.gp_shards.specs.Cutting.{shard_of}
-use Rattle.gp_shards.specs.Merging.{parts_at, shard_in, whole_of}
+use Rattle.gp_shards.specs.Merging.{parts_in, shard_in, whole_of}
+use Rattle.gp_shards.specs.declared.merging.AllParts.{AllParts}
 
 -- each window behind the stage is the window of the recording that it stands for, in everything but its number
 abbrev pub WindowsAreTheSame : RecordingForm → Shard → Type 0
@@ -35,16 +36,21 @@ pub record IsCutOut (cut : CutForm) (before after : List File) : Type 0 where
   pub properties : content_of after cut.out Properties ≡ content_of before cut.folder Properties
   pub shard : shard_in after cut.out ≡ Ok (shard_of recording cut.part cut.parts)
 
--- a report is the one of all parts of the recording in a folder, which follow one another from its first window to its last: so where
--- the report of each part is accepted for the part's windows, it is accepted for the recording
+-- a report is the one of all parts of the recording in a folder, which follow one another from its first window to its last; it is accepted
+-- for that recording with the properties beside it, whatever the folders of the parts hold, so that each of its answers is true there
 pub record IsOfAllParts (merge : MergeForm) (files : List File) (report : ReportForm) : Type 0 where
   pub recording : RecordingForm
   pub whole : recording_of files merge.folder ≡ Ok recording
-  pub parts : List PartReport
-  pub reports : parts_at files merge ≡ Ok parts
-  pub row : AreInRow 0 parts recording.manifest.epochs
-  pub merged : report ≡ whole_of parts
-  pub accepted : (properties : List PropertyForm) → All (IsAcceptedPart recording properties report.budget) parts → IsAccepted recording properties report
+  pub text : List ℕ
+  pub props : content_of files merge.folder Properties ≡ Ok text
+  pub properties : List PropertyForm
+  pub spelled : properties_of text ≡ Ok properties
+  pub all : AllParts
+  pub reports : parts_in files recording merge.outs ≡ Ok all
+  pub row : AreInRow 0 all.parts recording.manifest.epochs
+  pub merged : report ≡ whole_of all.parts
+  pub accepted : IsAccepted recording properties report
+  pub sound : AnswersAreTrue recording properties report
 
 -- what a command wrote, where the files are told
 abbrev pub WhereCut : Option ShardForm → Option (List File) → Option (List File) → Type 0

@@ -1,3 +1,4 @@
+pub mod Came
 pub mod Cutting
 pub mod Due
 pub mod Finishing

@@ -1,4 +1,4 @@
--- The reports of all parts of a recording, or why there are none, as a function of the files.
+-- All parts of a recording with their reports, or why there are none, as a function of the files.
 use Rattle.std.specs.Prelude.{ℕ, zero, suc, ◌+◌, ◌++◌, ◌==◌, ◌&&◌, Bool, false, not, List, [], ◌∷◌, length, find, Option, None, Some, Result, Ok, if◌then◌else◌}
 use Rattle.std.specs.List.{list_any}
 use Rattle.gp_base.specs.Results.{and_then, or_refusal, or_refused, then_rest}
@@ -6,7 +6,6 @@ use Rattle.gp_cut.specs.declared.parting.Part.{Part}
 use Rattle.gp_merge.specs.declared.merging.PartReport.{PartReport}
 use Rattle.gp_merge.specs.Merge.{merged}
 use Rattle.gp_outside.specs.Folders.{File}
-use Rattle.gp_predict.specs.Content.{recording_at}
 use Rattle.gp_predict.specs.declared.reply.Reply.{Reply}
 use Rattle.gp_report.specs.Reading.{report_of}
 use Rattle.gp_report.specs.ReportForm.{ReportForm}
@@ -16,9 +15,9 @@ use Rattle.gp_window.specs.Contents.{content_of}
 use Rattle.gp_window.specs.declared.file_name.FileName.{FileName}
 use Rattle.gp_window.specs.declared.file_name.FileName.TheVariants as file
 use Rattle.gp_window.specs.RecordingForm.{RecordingForm}
-use Rattle.gp_words.specs.Sharding.{MergeForm}
 use Rattle.gp_shards.specs.Cutting.{shard_of}
 use Rattle.gp_shards.specs.PartFolders.{PartFolderForm}
+use Rattle.gp_shards.specs.declared.merging.AllParts.{AllParts}
 use Rattle.gp_shards.specs.declared.refusal.PartFault.{PartFault}
 use Rattle.gp_shards.specs.declared.refusal.PartFault.TheVariants as wrong
 use Rattle.gp_shards.specs.Refusing.{content_refusal, missing, report_refusal, shard_refusal, unless_wrong}
@@ -122,16 +121,13 @@ parts_from files before [] = Ok before
 parts_from files before (folder ∷ folders) =
     and_then (part_at files before folder) (λ part. parts_from files (before ++ part ∷ []) folders)
 
--- all parts of a recording with their reports
-abbrev pub parts_in : List File → RecordingForm → List (List ℕ) → Result (List PartReport) Reply
+-- all parts of a recording, out of these folders
+abbrev pub parts_in : List File → RecordingForm → List (List ℕ) → Result AllParts Reply
 parts_in files r outs =
     and_then (folders_from files r [] outs) (λ folders.
     and_then (all_in_order folders) (λ ordered.
-    parts_from files [] ordered))
-
--- all parts of the recording in a folder, with their reports
-abbrev pub parts_at : List File → MergeForm → Result (List PartReport) Reply
-parts_at files merge = and_then (recording_at files merge.folder) (λ recording. parts_in files recording merge.outs)
+    and_then (parts_from files [] ordered) (λ parts.
+    Ok (record { folders = ordered; parts = parts }))))
 
 -- the report of the whole, in the format and with the budget of the first part's
 abbrev pub whole_of : List PartReport → ReportForm

@@ -1,9 +1,12 @@
 -- Why nothing is cut or merged, and how that is told: what gpredict refuses too by its text, and a file in the folder of a part by its
 -- path, the line and the rule.
 use Rattle.std.specs.Prelude.{ℕ, ◌++◌, List, Option, None, Some, Result, Ok, Err, codes, decimal, string_bytes}
+use Rattle.gp_checker.specs.declared.failure.Failure.{Failure}
+use Rattle.gp_checker.specs.Reasons.{number_of}
 use Rattle.gp_predict.specs.declared.reply.Reply.{Reply}
 use Rattle.gp_predict.specs.Refusal.{never_due, one_line, rule_word}
 use Rattle.gp_predict.specs.Refused.{reply_of}
+use Rattle.gp_predict.specs.Verdict.{then_number}
 use Rattle.gp_report.specs.declared.fault.ReportFault.{ReportFault}
 use Rattle.gp_report.specs.declared.fault.ReportFault.TheVariants as report
 use Rattle.gp_shard.specs.declared.reading.ShardFault.{ShardFault}
@@ -59,6 +62,12 @@ report_refusal folder (report.Text fault) = text_in folder file.Report fault
 report_refusal folder (report.Rule line rule) = refused_in_at folder file.Report line (rule_word rule)
 report_refusal folder report.Memory = never_due
 
+-- the words by which task check tells a failure: its window, property and instance, the number of the reason, and the place
+abbrev pub failure_words : Failure → List ℕ
+failure_words failure =
+    let instance = then_number (then_number (then_number (codes "rejected") failure.window) failure.property) failure.instance in
+    then_number (then_number instance (number_of failure.reason)) failure.place
+
 -- what is wrong in the folder of a part
 abbrev pub part_refusal : List ℕ → PartFault → Reply
 part_refusal folder wrong.HoldsRecording = refused_in folder file.Manifest (codes "exists")
@@ -72,6 +81,7 @@ part_refusal folder (wrong.Report fault) = report_refusal folder fault
 part_refusal folder wrong.OtherFormat = refused_in_at folder file.Report 1 (codes "format")
 part_refusal folder wrong.OtherBudget = refused_in_at folder file.Report 2 (codes "budget")
 part_refusal folder wrong.WindowCount = refused_in folder file.Report (codes "windows")
+part_refusal folder (wrong.Rejected failure) = refused_in folder file.Report (failure_words failure)
 
 -- a value, or the refusal of what is wrong in the folder of a part
 abbrev pub unless_wrong : {A : Type 0} → List ℕ → Option PartFault → A → Result A Reply

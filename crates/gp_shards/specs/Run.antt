@@ -8,9 +8,9 @@ use Rattle.gp_predict.specs.declared.reply.Reply.{Reply}
 use Rattle.gp_predict.specs.Refusal.{one_line}
 use Rattle.gp_predict.specs.Run.{IsBegunBy, IsGivenBy, IsNothing, WhereDue}
 use Rattle.gp_predict.specs.Telling.{text_of}
-use Rattle.gp_predict.specs.Told.{IsDone, Told}
+use Rattle.gp_predict.specs.Told.{IsDone}
 use Rattle.gp_shards.specs.declared.refusal.ShardRefusal.{ShardRefusal}
-use Rattle.gp_shards.specs.Due.{Means}
+use Rattle.gp_shards.specs.Due.{Expected, Means}
 use Rattle.gp_shards.specs.Refusing.{shard_reply}
 
 -- the file of this path is absent
@@ -24,7 +24,7 @@ pub record IsShardRefused (files : Option (List File)) (Cause : Type 0) (old new
   pub absent : (path : List ℕ) → text_of (shard_reply refusal) ≡ text_of (absent_at path) → files ≡ None → Cause
 
 -- what a run did with its folder and its sink, against what is due
-pub record IsShardRun (due : Option Told) (files : Option (List File)) (outcome : Outcome) (old new : Option (List ℕ)) (before after folder_before folder_after : ℕ) : Type 0 where
+pub record IsShardRun (due : Option Expected) (files : Option (List File)) (outcome : Outcome) (old new : Option (List ℕ)) (before after folder_before folder_after : ℕ) : Type 0 where
   pub given : IsDone outcome.status → WhereDue due (IsGivenBy Means outcome old new)
   pub complete : ¬ (Rose folder_before folder_after) → ¬ (Rose before after) → IsDone outcome.status ⊎ (outcome.status ≡ 6)
   pub read_fault : outcome.status ≡ 4 → Rose folder_before folder_after × IsNothing outcome old new

@@ -1,7 +1,9 @@
-ghost use Rattle.std.specs.Prelude.{◌≡◌, ◌⊎◌, IfOk, true};
-ghost use Rattle.gp_shards.specs.Refusing.{content_refusal, missing, part_refusal, refused_in, refused_in_at, report_refusal, shard_refusal, shard_reply, text_in};
+ghost use Rattle.std.specs.Prelude.{◌≡◌, ◌⊎◌, IfOk, string_bytes, true};
+ghost use Rattle.gp_predict.specs.Verdict.{then_number};
+ghost use Rattle.gp_shards.specs.Refusing.{content_refusal, failure_words, missing, part_refusal, refused_in, refused_in_at, report_refusal, shard_refusal, shard_reply, text_in};
 ghost use Rattle.gp_shards.specs.Stage.{is_work};
 
+use gp_checker::Failure;
 use gp_predict::{Refusal, Reply, one_line, reply_of, rule_word};
 use gp_report::ReportFault;
 use gp_shard::ShardFault;
@@ -36,6 +38,8 @@ pub enum PartFault {
     OtherBudget,
     /// The report does not have a window for each of the part and one for the stage.
     WindowCount,
+    /// The report fails for the windows that it stands for, first so.
+    Rejected(Failure),
 }
 
 /// Why nothing is cut or merged by the files.
@@ -83,6 +87,7 @@ fn part_refusal(alloc: Global, folder: &str, fault: PartFault) -> Result<Reply, 
         PartFault::OtherFormat => refused_in_at(alloc, folder, FileName::Report, 1, "format"),
         PartFault::OtherBudget => refused_in_at(alloc, folder, FileName::Report, 2, "budget"),
         PartFault::WindowCount => refused_in(alloc, folder, FileName::Report, "windows"),
+        PartFault::Rejected(failure) => rejected_in(alloc, folder, failure),
     }
 }
 
@@ -122,6 +127,36 @@ fn report_refusal(alloc: Global, folder: &str, fault: ReportFault) -> Result<Rep
         }
         ReportFault::Memory => Err(AllocError),
     }
+}
+
+/// The refusal of a report that fails for the recording, in the words of task check.
+fn rejected_in(alloc: Global, folder: &str, failure: Failure) -> Result<Reply, AllocError>
+    ensures text { IfOk result (λ answer. answer ≡ refused_in folder.now FileName.Report (failure_words failure)) }
+    ensures status { IfOk result (λ answer. answer.status ≡ 3) }
+{
+    let words = failure_words(alloc, failure)?;
+    refused_in(alloc, folder, FileName::Report, words.as_str())
+}
+
+/// The words by which task check tells a failure.
+fn failure_words(alloc: Global, failure: Failure) -> Result<String, AllocError>
+    ensures { IfOk result (λ words. string_bytes words ≡ failure_words failure) }
+{
+    let words = String::from_str(alloc, "rejected")?;
+    let words = then_number(alloc, words, u64::from(failure.window))?;
+    let words = then_number(alloc, words, u64::from(failure.property))?;
+    let words = then_number(alloc, words, u64::from(failure.instance))?;
+    let words = then_number(alloc, words, u64::from(failure.reason.number()))?;
+    then_number(alloc, words, failure.place)
+}
+
+/// A text, and after a space a number.
+fn then_number(alloc: Global, text: String, number: u64) -> Result<String, AllocError>
+    ensures { IfOk result (λ more. string_bytes more ≡ then_number (string_bytes text) number) }
+{
+    let text = text.as_str();
+    let more = format!(in alloc; "{text} {number}")?;
+    Ok(more)
 }
 
 /// The refusal of a text that has no lines. Want of memory has none.

@@ -2,9 +2,8 @@ ghost use Rattle.std.specs.Prelude.{◌≡◌, ◌≢◌, ◌≤◌, ◌⊎◌, 
 ghost use Rattle.gp_outside.specs.Faults.{Rose};
 ghost use Rattle.gp_predict.specs.Due.{words_refused};
 ghost use Rattle.gp_predict.specs.Run.{IsBegunBy, IsGivenBy, IsNothing, WhereDue};
-ghost use Rattle.gp_predict.specs.Telling.{of_reply};
 ghost use Rattle.gp_predict.specs.Told.{IsDone};
-ghost use Rattle.gp_shards.specs.Due.{Means, due_answer, due_to, where_told};
+ghost use Rattle.gp_shards.specs.Due.{Means, Text, due_answer, due_to, where_told};
 ghost use Rattle.gp_shards.specs.Headline.{WhereCut, WhereMerged};
 ghost use Rattle.gp_shards.specs.Leaving.{LeavesBy, LeavesFiles};
 ghost use Rattle.gp_shards.specs.Run.{IsShardRefused, IsShardRun};
@@ -55,7 +54,7 @@ pub fn shards<R: AllocGlobal + Threads + Sync, F: Folder, S: Sink>(
     // What a cut writes is read as the part of the recording.
     ensures cut { result.status ≡ 0 → WhereCut (shard_command_of (map string_bytes words.now))
         (F.files folder.old) (F.files folder.new) }
-    // What is accepted of all parts is accepted of the recording.
+    // A report that is kept is the one of all parts, and is accepted for the recording.
     ensures merge { IfSome result.report (WhereMerged (shard_command_of (map string_bytes words.now)) (F.files folder.old)) }
     ensures range { result.status ≤ 6 }
 {
@@ -68,7 +67,7 @@ pub fn shards<R: AllocGlobal + Threads + Sync, F: Folder, S: Sink>(
 
 /// Refuses the words, whatever the folder.
 fn refuse_words<S: Sink>(alloc: Global, sink: &mut S) -> Outcome
-    ensures run { IsShardRun (Some (of_reply words_refused)) None result (S.written sink.old) (S.written sink.new) (S.faults sink.old) (S.faults sink.new) 0 0 }
+    ensures run { IsShardRun (Some (Text words_refused)) None result (S.written sink.old) (S.written sink.new) (S.faults sink.old) (S.faults sink.new) 0 0 }
     ensures words { result.status ≢ 3 }
     ensures nothing { result.report ≡ None }
     ensures told { result.status ≢ 0 }

@@ -1,20 +1,19 @@
-use Rattle.std.proofs.Common.{◌∙◌, ap, true, List, [], ◌∷◌, ◌++◌, length, arith}
-use Rattle.std.proofs.lemmas.List.{length-append}
+use Rattle.std.proofs.Common.{◌∙◌, ap, true, List, [], ◌∷◌, ◌++◌, arith}
 use Rattle.gp_clause.specs.declared.lit.Lit.{Lit}
-use Rattle.gp_sat.specs.declared.store.Range.{Range}
+use Rattle.gp_sat.specs.declared.store.Begin.{Begin}
 use Rattle.gp_sat.specs.Stored.{Stored}
 use Rattle.gp_sat.proofs.Ranging.{pushed}
 use Rattle.gp_sat.proofs.store.Store.push.Goals as goal
 
 pub invariant_of-self-2 : goal.invariant_of-self-2
-invariant_of-self-2 c = (pushed c.self.inside.literals.items c.args.clause.now c.extend_from_slice.new.self.items c.self.inside.ranges.items c.push_reserved.new.self.items c.in_ok-start.start c.in_ok-end.end
+invariant_of-self-2 c = (pushed c.self.inside.literals.items c.args.clause.now c.extend_from_slice.new.self.items c.self.inside.begins.items c.push_reserved.new.self.items c.in_ok-begin.begin
     (c.in_ok-extend_from_slice.ensures.items ∙ ap (λ (xs : List Lit). c.self.inside.literals.items ++ xs) c.lits.ensures.lits)
-    (c.push_reserved.ensures.items ∙ ap (λ (xs : List Range). xs ++ record { start = c.in_ok-start.start; end = c.in_ok-end.end; attached = true } ∷ []) c.in_ok-reserve.ensures.items)
-    (omega (arith, c.in_ok-start.ensures.place, c.len.ensures)) (omega (arith, c.in_ok-end.ensures.place, c.in_ok-end.ensures.few, c.saturating_add.ensures, c.len-2.ensures, c.len-3.ensures, ap (λ (xs : List Lit). length xs) c.lits.ensures.lits, ap (λ (xs : List Lit). length xs) c.in_ok-extend_from_slice.ensures.items, length-append c.self.inside.literals.items c.lits.result.now)) c.lits.ensures.rising c.self.invariant).0
+    (c.push_reserved.ensures.items ∙ ap (λ (xs : List Begin). xs ++ c.in_ok-begin.begin ∷ []) c.in_ok-reserve.ensures.items)
+    (omega (arith, c.in_ok-begin.ensures, c.len.ensures)) c.lits.ensures.rising c.self.invariant).0
 
 pub returns-clause-ok : goal.returns-clause-ok
-returns-clause-ok c = (pushed c.self.inside.literals.items c.args.clause.now c.extend_from_slice.new.self.items c.self.inside.ranges.items c.push_reserved.new.self.items c.in_ok-start.start c.in_ok-end.end
+returns-clause-ok c = (pushed c.self.inside.literals.items c.args.clause.now c.extend_from_slice.new.self.items c.self.inside.begins.items c.push_reserved.new.self.items c.in_ok-begin.begin
     (c.in_ok-extend_from_slice.ensures.items ∙ ap (λ (xs : List Lit). c.self.inside.literals.items ++ xs) c.lits.ensures.lits)
-    (c.push_reserved.ensures.items ∙ ap (λ (xs : List Range). xs ++ record { start = c.in_ok-start.start; end = c.in_ok-end.end; attached = true } ∷ []) c.in_ok-reserve.ensures.items)
-    (omega (arith, c.in_ok-start.ensures.place, c.len.ensures)) (omega (arith, c.in_ok-end.ensures.place, c.in_ok-end.ensures.few, c.saturating_add.ensures, c.len-2.ensures, c.len-3.ensures, ap (λ (xs : List Lit). length xs) c.lits.ensures.lits, ap (λ (xs : List Lit). length xs) c.in_ok-extend_from_slice.ensures.items, length-append c.self.inside.literals.items c.lits.result.now)) c.lits.ensures.rising c.self.invariant).1
+    (c.push_reserved.ensures.items ∙ ap (λ (xs : List Begin). xs ++ c.in_ok-begin.begin ∷ []) c.in_ok-reserve.ensures.items)
+    (omega (arith, c.in_ok-begin.ensures, c.len.ensures)) c.lits.ensures.rising c.self.invariant).1
     ∙ ap (λ (xs : List Stored). xs ++ record { clause = c.args.clause.now; attached = true } ∷ []) c.self.view_is

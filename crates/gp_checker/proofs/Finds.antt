@@ -10,12 +10,19 @@ use Rattle.gp_property.specs.PropertyForm.{PropertyForm}
 use Rattle.gp_report.specs.Records.{Entry, PropertyBody, PropertyRecord}
 use Rattle.gp_report.specs.declared.record.PropertyBodyOf.TheVariants as body
 use Rattle.gp_report.specs.declared.record.WindowBodyOf.TheVariants as told
+use Rattle.gp_report.specs.ReportForm.{ReportForm}
+use Rattle.gp_window.specs.RecordingForm.{RecordingForm}
+use Rattle.gp_checker.specs.declared.failure.Checked.{Checked}
+use Rattle.gp_checker.specs.declared.failure.Checked.TheVariants.{Accepted, Rejected}
 use Rattle.gp_checker.specs.declared.failure.Failure.{Failure}
-use Rattle.gp_checker.specs.declared.failure.Reason.{Reason}
 use Rattle.gp_checker.specs.declared.failure.Reason.TheVariants.{WrongProperty}
+use Rattle.gp_checker.specs.Accepted.{AcceptsWindow}
 use Rattle.gp_checker.specs.Basis.{Basis}
+use Rattle.gp_checker.specs.Checked.{IsChecked}
 use Rattle.gp_checker.specs.Finds.{FindsBody, FindsEntries, FindsListed, FindsProperties, FindsProperty}
-use Rattle.gp_checker.specs.Reasons.{IsOfProperty, IsOfWindow}
+use Rattle.gp_checker.specs.Reasons.{IsOfProperty}
+use Rattle.gp_checker.specs.Rejected.{FailsWindow}
+use Rattle.gp_checker.specs.Windows.{IsCheckedBy}
 
 -- where there are too many instances
 pub too_many_told : (basis : Basis) (property : PropertyForm) (told_body : PropertyBody) (found : Option Failure)
@@ -51,13 +58,8 @@ pub body_found : (basis : Basis) (properties : List PropertyForm) (records : Lis
 body_found basis properties records shares None finds = (shares, finds)
 body_found basis properties records shares (Some failure) finds = inr (shares, finds)
 
--- a failure of a window as a whole
-pub of_window_is : (reason : Reason) (failure : Failure) (number : ℕ) → failure ≡ record { window = number; property = 0; instance = 0; reason = reason; place = 0 } → IsOfWindow reason failure
-of_window_is reason failure number is = record {
-  whole = record {
-    reason_is = ap (λ (f : Failure). f.reason) is;
-    no_instance = ap (λ (f : Failure). f.instance) is;
-    no_place = ap (λ (f : Failure). f.place) is;
-  };
-  no_property = ap (λ (f : Failure). f.property) is;
-}
+-- what is said of all windows is said of the report
+pub whole_checked : (recording : RecordingForm) (properties : List PropertyForm) (report : ReportForm) (checked : Checked)
+    → IsCheckedBy (AcceptsWindow properties report.budget) (FailsWindow properties report.budget) recording report.windows checked → IsChecked recording properties report checked
+whole_checked recording properties report Accepted is = is
+whole_checked recording properties report (Rejected failure) is = is

@@ -1,5 +1,3 @@
-pub mod Firsts
-pub mod Places
 pub mod Truth
 pub mod Unique
 pub mod Exact
@@ -8,4 +6,3 @@ pub mod Lasts
 pub mod Finds
 pub mod Moved
 pub mod Passing
-pub mod Walking

@@ -13,9 +13,9 @@ use Rattle.gp_checker.specs.First.{FailsFirst}
 use Rattle.gp_checker.specs.Reasons.{IsOfProperty}
 use Rattle.gp_checker.specs.Rejected.{FailsProperty}
 use Rattle.gp_checker.proofs.Finds.{of_property_is}
-use Rattle.gp_checker.proofs.Firsts.{accepted_all, accepted_more, fails_pair, lacks_first, lacks_second}
+use Rattle.gp_checker.specs.FirstLaws.{accepted_all, accepted_more, fails_pair, lacks_first, lacks_second}
 use Rattle.gp_checker.proofs.Moved.{property_moved}
-use Rattle.gp_checker.proofs.Places.{numbered_first, numbered_past, one_at}
+use Rattle.gp_checker.specs.PlaceLaws.{numbered_first, numbered_past, one_at}
 
 module _ (window : WindowForm) (budget : ℕ) (shared : List Step) (properties : List PropertyForm) (records : List PropertyRecord) (place : ℕ) where
   -- a property is the first that fails

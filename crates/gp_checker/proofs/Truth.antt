@@ -29,7 +29,7 @@ use Rattle.gp_checker.specs.Laws.{Laws}
 use Rattle.gp_checker.specs.Sound.{AcceptedIsTrue, IsTrueAnswer}
 use Rattle.gp_constraint.specs.EncodedLaws.{is_encoded, is_valid}
 use Rattle.gp_instance.specs.ListedLaws.{AreListed, IsListed, are_listed}
-use Rattle.gp_checker.proofs.Places.{all_at, counted_at, numbered_at, zip_at}
+use Rattle.gp_checker.specs.PlaceLaws.{all_at, counted_at, numbered_at, zip_at}
 
 -- an answer to a listed instance that is accepted over shared steps that pass
 answer_true : Laws → (window : WindowForm) (budget : ℕ) (shared : List Step) (property : PropertyForm) (ids : List EventId) → IsWindow window → IsEncodable window

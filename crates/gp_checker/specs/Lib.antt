@@ -1,6 +1,7 @@
 pub mod First
 pub mod Reasons
 pub mod Accepted
+pub mod Windows
 pub mod Rejected
 pub mod Checked
 pub mod Basis
@@ -8,3 +9,6 @@ pub mod Finds
 pub mod Sound
 pub mod Laws
 pub mod FrontLaws
+pub mod FirstLaws
+pub mod PlaceLaws
+pub mod WalkLaws

@@ -28,13 +28,13 @@ use Rattle.gp_report.specs.ReportForm.{ReportForm}
 use Rattle.gp_window.specs.declared.schedule.EventId.{EventId}
 use Rattle.gp_window.specs.RecordingForm.{RecordingForm}
 use Rattle.gp_window.specs.WindowForm.{WindowForm}
-use Rattle.gp_window.specs.Windows.{all_windows}
 use Rattle.gp_checker.specs.declared.failure.Failure.{Failure}
 use Rattle.gp_checker.specs.declared.failure.Reason.{Reason}
-use Rattle.gp_checker.specs.declared.failure.Reason.TheVariants.{WindowCount, WrongSize, WrongProperty, WrongEvents, Stuck, Unmatched, BadStep, Unrefuted, WrongBudget, BadSharedStep}
+use Rattle.gp_checker.specs.declared.failure.Reason.TheVariants.{WrongSize, WrongProperty, WrongEvents, Stuck, Unmatched, BadStep, Unrefuted, WrongBudget, BadSharedStep}
 use Rattle.gp_checker.specs.Accepted.{AcceptsEntry, AcceptsProperty, AcceptsWindow, RefutesAtLast, HasSize}
 use Rattle.gp_checker.specs.First.{FailsFirst}
 use Rattle.gp_checker.specs.Reasons.{IsOfProperty, IsOfWindow}
+use Rattle.gp_checker.specs.Windows.{IsRejectedBy}
 
 -- a schedule is stuck at this place, or it is feasible and does not match
 abbrev pub FailsSchedule : WindowForm → PropertyForm → List EventId → List EventId → Reason → ℕ → Type 0
@@ -108,9 +108,7 @@ abbrev pub FailsWindow : List PropertyForm → ℕ → Failure → WindowForm �
 FailsWindow properties budget failure window told =
     FailsBody window budget properties told.shared failure (base_due window) told.body
 
--- a window is the first that fails, is missing or is surplus; windows are numbered from 1
+-- a window is the first that fails, is missing or is surplus
 abbrev pub IsRejected : RecordingForm → List PropertyForm → ReportForm → Failure → Type 0
-IsRejected recording properties report failure =
-    (place : ℕ) × (failure.window ≡ place + 1)
-    × FailsFirst (AcceptsWindow properties report.budget) (FailsWindow properties report.budget failure) (IsOfWindow WindowCount failure)
-    (all_windows recording) report.windows place
+IsRejected recording properties report =
+    IsRejectedBy (AcceptsWindow properties report.budget) (FailsWindow properties report.budget) recording report.windows

@@ -35,8 +35,8 @@ impl<'a> Checker<'a> {
     }
 }
 
-// How the entries of a log from one number to another fail: they are not as many as the budget.
-fn check_budget(budget: u64, from: u32, to: u32) -> Option<Failure>
+/// How the entries of a log from one number to another fail: they are not as many as the budget.
+pub fn check_budget(budget: u64, from: u32, to: u32) -> Option<Failure>
     ensures { MatchOption result (to ≡ from + budget) (λ failure. (failure.reason ≡ Reason.WrongBudget) × (to ≢ from + budget) × (failure.place ≡ 0)) }
 {
     if from <= to && u64::from(to - from) == budget {

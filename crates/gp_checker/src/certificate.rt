@@ -32,8 +32,8 @@ impl<'a> Checker<'a> {
         self.check_steps(&query, certificate)
     }
 
-    // How a certificate fails for a query: a step does, or the last one does not refute it.
-    fn check_steps(
+    /// How a certificate fails for a query: a step does, or the last one does not refute it.
+    pub fn check_steps(
         &mut self,
         query: &Query,
         certificate: &Certificate,

@@ -16,10 +16,10 @@ use gp_window::Window;
 use std::alloc::{AllocError, Global};
 use std::marker::Model;
 
-// By what the answers of a window are checked: its constraints, the budget of each query, the steps that its certificates
-// share, which pass, and the judge of its problem.
+/// By what the answers of a window are checked: its constraints, the budget of each query, the steps that its certificates
+/// share, which pass, and the judge of its problem.
 #[derive(Drop)]
-pub(crate) struct Checker<'a> {
+pub struct Checker<'a> {
     encoded: &'a Encoded,
     budget: u64,
     shared: &'a [Step],
@@ -37,12 +37,7 @@ impl<'a> Model for Checker<'a> {
 }
 
 impl<'a> Checker<'a> {
-    pub(crate) fn new(
-        encoded: &'a Encoded,
-        budget: u64,
-        shared: &'a [Step],
-        judge: Judge,
-    ) -> Checker<'a>
+    pub fn new(encoded: &'a Encoded, budget: u64, shared: &'a [Step], judge: Judge) -> Checker<'a>
         requires { IsReady judge encoded.now shared.now }
         ensures { result ≡ record { window = encoded.now; budget = budget; shared = shared.now } }
     {
@@ -54,13 +49,20 @@ impl<'a> Checker<'a> {
         }
     }
 
-    pub(crate) fn window(&self) -> &Window
+    /// The window with its constraints.
+    pub fn encoded(&self) -> &Encoded
+        ensures { result.now ≡ self.now.window }
+    {
+        self.encoded
+    }
+
+    pub fn window(&self) -> &Window
         ensures { result.now ≡ self.now.window }
     {
         self.encoded.window()
     }
 
-    pub(crate) fn budget(&self) -> u64
+    pub fn budget(&self) -> u64
         ensures { result ≡ self.now.budget }
     {
         self.budget

@@ -71,7 +71,8 @@ fn check_at(
     Ok(None)
 }
 
-fn wrong_count(number: u32) -> Failure
+/// The failure of a window that is missing or surplus.
+pub fn wrong_count(number: u32) -> Failure
     ensures { result ≡ wrong_count number }
 {
     Failure {
@@ -80,8 +81,8 @@ fn wrong_count(number: u32) -> Failure
     }
 }
 
-// All windows are accepted, the last of which has this number: the report has no more.
-fn at_end(number: u32, count: usize) -> Checked
+/// What a check says where all windows are accepted, the last of which has this number: the report has no more.
+pub fn at_end(number: u32, count: usize) -> Checked
     requires { number ≤ 4096 }
     ensures last { count ≤ number → result ≡ Checked.Accepted }
     ensures more { number < count → result ≡ Checked.Rejected (wrong_count (number + 1)) }

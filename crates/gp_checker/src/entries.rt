@@ -56,7 +56,8 @@ impl<'a> Checker<'a> {
     }
 }
 
-fn are_same(events: &[EventId], others: &[EventId]) -> bool
+/// Whether an entry has the events of its instance.
+pub fn are_same(events: &[EventId], others: &[EventId]) -> bool
     ensures { IsTrue result ↔ (events.now ≡ others.now) }
 {
     events == others

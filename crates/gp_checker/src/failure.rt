@@ -58,8 +58,8 @@ pub struct Failure {
 }
 
 impl Failure {
-    // A failure with this reason and place, of no window, property or instance as yet.
-    pub(crate) fn of(reason: Reason, place: u64) -> Failure
+    /// A failure with this reason and place, of no window, property or instance as yet.
+    pub fn of(reason: Reason, place: u64) -> Failure
         ensures { result ≡ record { window = 0; property = 0; instance = 0; reason = reason; place = place } }
     {
         Failure {

@@ -136,8 +136,8 @@ fn is_same_name(name: &Name, other: &Name) -> bool
     *name == *other
 }
 
-// How what is told fails where there are too many instances.
-fn check_too_many(body: &PropertyBody) -> Option<Failure>
+/// How what is told of a property fails that has too many instances.
+pub fn check_too_many(body: &PropertyBody) -> Option<Failure>
     ensures { MatchOption result (body.now ≡ TooMany) (λ failure. IsOfProperty Reason.WrongProperty failure × (body.now ≢ TooMany)) }
 {
     match body {

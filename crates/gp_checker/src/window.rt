@@ -37,8 +37,8 @@ pub(crate) fn check_window(
     }
 }
 
-// How what is told of a window fails that is too large, with these numbers.
-fn check_size(body: &WindowBody, events: u64, clauses: u64) -> Option<Failure>
+/// How what is told of a window fails that is too large, with these numbers.
+pub fn check_size(body: &WindowBody, events: u64, clauses: u64) -> Option<Failure>
     ensures { MatchOption result (HasSize events clauses body.now) (λ failure. IsOfWindow Reason.WrongSize failure × (HasSize events clauses body.now → ⊥)) }
 {
     if has_size(body, events, clauses) {

@@ -10,8 +10,8 @@ use Rattle.gp_checker.specs.First.{FailsHere}
 use Rattle.gp_checker.specs.Reasons.{IsOfWindow}
 use Rattle.gp_checker.specs.Rejected.{FailsWindow}
 use Rattle.gp_checker.proofs.Moved.{window_moved}
-use Rattle.gp_checker.proofs.Places.{lent_at}
-use Rattle.gp_checker.proofs.Walking.{record_there}
+use Rattle.gp_checker.specs.PlaceLaws.{lent_at}
+use Rattle.gp_checker.specs.WalkLaws.{record_there}
 use Rattle.gp_checker.proofs.checking.check_at.Goals as goal
 
 pub returns-in-Some-2 : goal.returns-in-Some-2
@@ -23,7 +23,7 @@ returns-in-Some-2 c =
     let number = c.number-number.result in
     let failure = c.in-Some-2.failure in
     let here : Failure = record failure { window = number } in
-    let there = record_there report c.windows.result.now told number window.number c.windows.ensures.value c.number-number.ensures.value
+    let there = record_there report.windows c.windows.result.now told number window.number c.windows.ensures.value c.number-number.ensures.value
     (lent_at c.windows.result.now (number - 1) (Some c.in-Some.told) c.in-Some.ensures.lookup) in
     let fails : FailsWindow properties c.budget.result failure window told =
     MatchOption-at_some (AcceptsWindow properties c.budget.result window told) (λ (one : Failure). FailsWindow properties c.budget.result one window told) failure c.in-Some-2.is c.in_ok-failure.ensures in (
@@ -39,7 +39,7 @@ returns c =
     let window = c.args.window in
     let told = c.in-Some.told.now in
     let number = c.number-number.result in
-    let there = record_there report c.windows.result.now told number window.number c.windows.ensures.value c.number-number.ensures.value
+    let there = record_there report.windows c.windows.result.now told number window.number c.windows.ensures.value c.number-number.ensures.value
     (lent_at c.windows.result.now (number - 1) (Some c.in-Some.told) c.in-Some.ensures.lookup) in
     let accepts : AcceptsWindow properties c.budget.result window told =
     MatchOption-at_none (AcceptsWindow properties c.budget.result window told) (λ (one : Failure). FailsWindow properties c.budget.result one window told) c.in_default-2.is c.in_ok-failure.ensures in

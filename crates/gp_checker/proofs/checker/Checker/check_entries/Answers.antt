@@ -7,7 +7,7 @@ use Rattle.gp_checker.specs.Accepted.{AcceptsEntry}
 use Rattle.gp_checker.specs.Basis.{Basis}
 use Rattle.gp_checker.specs.Finds.{FindsEntry}
 use Rattle.gp_checker.specs.Rejected.{FailsEntry}
-use Rattle.gp_checker.proofs.Firsts.{accepted_all, accepted_more, fails_pair}
+use Rattle.gp_checker.specs.FirstLaws.{accepted_all, accepted_more, fails_pair}
 use Rattle.gp_checker.proofs.checker.Checker.check_entries.Goals as goal
 
 pub check_entry-requires : goal.check_entry-requires

@@ -4,7 +4,7 @@ use Rattle.std.proofs.lemmas.Option.{slice_get_read}
 use Rattle.gp_checker.specs.Basis.{Basis}
 use Rattle.gp_checker.specs.Finds.{FindsProperty}
 use Rattle.gp_checker.proofs.Passing.{AreAccepted, all_properties, properties_surplus, property_accepted, property_fails, property_missing}
-use Rattle.gp_checker.proofs.Places.{lent_at}
+use Rattle.gp_checker.specs.PlaceLaws.{lent_at}
 use Rattle.gp_checker.proofs.checker.Checker.check_properties.Goals as goal
 
 pub returns-in_default-clause-found : goal.returns-in_default-clause-found

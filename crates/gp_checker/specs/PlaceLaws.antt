@@ -1,4 +1,4 @@
--- What stands at a place of lists that go together.
+-- Laws: what stands at a place of lists that go together.
 use Rattle.std.proofs.Common.{◌≡◌, refl, sym, ap, ◌∙◌, subst, ℕ, zero, suc, ◌+◌, ◌<◌, ◌≤◌, List, [], ◌∷◌, Bor, Option, None, Some, length, map, arith}
 use Rattle.std.specs.List.{AllByRecursion, AllZip, enumerate_from, slice_get}
 use Rattle.std.specs.Option.{option_map}

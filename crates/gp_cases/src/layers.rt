@@ -16,7 +16,9 @@
 //     window K                      what window K begins with, and how many events each thread has in it
 //     windows N                     the first window of a walk, and after N that are passed over the next two
 //     ends PATH                     how the replay of a schedule ends
+//     deadlocks PATH                what the check of a report of deadlocks says
 //     instances PATH                the instances of properties in the last window; with `counted`, how many they are
+mod deadlocks;
 mod files;
 mod instances;
 mod replays;
@@ -28,6 +30,7 @@ ghost use Rattle.std.specs.Prelude.{◌≤◌, length};
 
 use crate::case::Case;
 use crate::escape::unescaped;
+use deadlocks::tell_check;
 use files::{tell_manifest, tell_properties, tell_property_count, tell_schedule, tell_trace};
 use gp_outside::MemoryFolder;
 use gp_window::{Recording, RecordingFault, read_recording};
@@ -69,7 +72,7 @@ fn tell_verb<R: AllocGlobal + Threads + Sync>(
         "lines" | "walk" | "manifest" | "trace" | "properties" | "schedule" | "match" => {
             tell_file(alloc, out, case, verb, rest)?
         }
-        "recording" | "window" | "windows" | "ends" | "instances" => {
+        "recording" | "window" | "windows" | "ends" | "deadlocks" | "instances" => {
             tell_files(rt, out, case, verb, rest)?
         }
         _ => return Ok(false),
@@ -242,6 +245,7 @@ fn tell_text_in(
     }
     match verb {
         "ends" => tell_end(alloc, out, recording, text),
+        "deadlocks" => tell_check(alloc, out, recording, text),
         _ => tell_instances(alloc, out, recording, text, listing_of(rest)),
     }
 }
